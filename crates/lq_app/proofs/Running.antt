@@ -9,7 +9,7 @@ use Rattle.lq_app.specs.declared.small.item.Right.{Right}
 use Rattle.lq_app.specs.declared.small.item.Right.TheVariants as right
 use Rattle.lq_app.specs.declared.small.item.Item.{Item}
 use Rattle.lq_app.specs.Scope.{IsBound, Resolves}
-use Rattle.lq_app.specs.Meaning.{Expr, value, variable, read, plus, minus, Definition, State, Outcome, running, finished, input_ended, fault, stuck, Turn, to, ends, fails, none, within, read_turn, turn, put, put_in, after_turn, define, step, at_rest, go_on, expr_of, definition_of, outcome, IsCalm, IsSafe}
+use Rattle.lq_app.specs.Meaning.{Expr, value, variable, read, plus, minus, Definition, State, Outcome, running, finished, input_ended, fault, stuck, Turn, to, ends, fails, none, within, read_turn, turn, put, put_in, after_turn, define, step, at_rest, go_on, expr_of, definition_of, outcome, IsCalm, IsSafe, IsOver, StaysOver}
 
 -- the variables of an expression are from the first number on and below the second
 abbrev IsWithin : ℕ → ℕ → Expr → Type 0
@@ -144,3 +144,24 @@ resolved_is_safe text items scoped resolves input n =
     let here = slice_get-get_or items k filler (omega (arith, resolves.count, lt)) in
     let place : k ≡ 0 + k = omega arith in
     (resolves.binders k b is ∙ place, subst (λ (m : ℕ). IsWithin 0 m (expr_of b.right)) place (bound_within text items k (get_or items k filler).right b.right (resolves.uses k (get_or items k filler) b here is)))))
+
+finished_on : (m : ℕ) (input : List ℤ) → run_on m [] input ≡ finished
+finished_on zero input = refl
+finished_on (suc m) input = refl
+
+go_on_more : (o : Outcome) (n m : ℕ) → IsOver (go_on o n) → go_on o (n + m) ≡ go_on o n
+go_on_more (running s) zero m over = by_left s.left s.input over
+  where
+    by_left : (left : List Definition) (input : List ℤ) → IsOver (at_rest left input) → run_on (0 + m) left input ≡ at_rest left input
+    by_left [] input over = finished_on (0 + m) input
+    by_left (d ∷ left) input over = absurd over
+go_on_more (running s) (suc n) m over =
+    let more : suc n + m ≡ suc (n + m) = omega arith in
+    ap (λ (k : ℕ). go_on (running s) k) more ∙ go_on_more (step s.left s.input) n m over
+go_on_more finished n m over = refl
+go_on_more (input_ended place) n m over = refl
+go_on_more (fault kind place) n m over = refl
+go_on_more stuck n m over = refl
+
+pub stays_over : StaysOver
+stays_over items input n m over = go_on_more (running (record { left = map definition_of items; input = input })) n m over

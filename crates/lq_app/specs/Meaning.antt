@@ -1,5 +1,5 @@
 -- What a program of definitions does, step by step, and when it is safe. Numbers are unbounded.
-use Rattle.std.specs.Prelude.{ℕ, zero, suc, ◌==◌, ℤ, pos, ◌+ℤ◌, ◌-ℤ◌, neg_ℤ, List, [], ◌∷◌, map, if◌then◌else◌}
+use Rattle.std.specs.Prelude.{◌≡◌, ℕ, zero, suc, ◌+◌, ◌==◌, ℤ, pos, ◌+ℤ◌, ◌-ℤ◌, neg_ℤ, List, [], ◌∷◌, map, if◌then◌else◌}
 use Rattle.lq_tree.specs.declared.name.Binder.{Binder}
 use Rattle.lq_app.specs.declared.small.item.Right.{Right}
 use Rattle.lq_app.specs.declared.small.item.Right.TheVariants as right
@@ -138,3 +138,14 @@ IsCalm stuck = ⊥
 -- On every input, no number of steps meets a fault, and a step is always there until no item is left.
 abbrev pub IsSafe : List (Item Binder) → Type 0
 IsSafe items = (input : List ℤ) (n : ℕ) → IsCalm (outcome items input n)
+
+abbrev pub IsOver : Outcome → Type 0
+IsOver (running s) = ⊥
+IsOver finished = Unit {0}
+IsOver (input_ended place) = Unit {0}
+IsOver (fault kind place) = Unit {0}
+IsOver stuck = Unit {0}
+
+-- What a run has come to is what it has come to after more steps.
+abbrev pub StaysOver : Type 0
+StaysOver = (items : List (Item Binder)) (input : List ℤ) (n m : ℕ) → IsOver (outcome items input n) → outcome items input (n + m) ≡ outcome items input n

@@ -1,5 +1,5 @@
 -- Which texts are programs: a list of definitions, by the spelling of each.
-use Rattle.std.specs.Prelude.{ℕ, List, [], ◌∷◌, take, drop, Option, Some, None}
+use Rattle.std.specs.Prelude.{◌≡◌, ℕ, List, [], ◌∷◌, take, drop, Option, Some, None}
 use Rattle.std.specs.List.{flat_map}
 use Rattle.lq_app.specs.declared.small.token.Span.{Span}
 use Rattle.lq_app.specs.declared.small.token.Token.{Token}
@@ -37,3 +37,7 @@ used (right.Add x n) = Some x
 used (right.Sub x n) = Some x
 used (right.Whole n) = None
 used (right.Negative n) = None
+
+-- a text is at most one program
+abbrev pub IsOneProgram : Type 0
+IsOneProgram = (text : List ℕ) (items others : List (Item Span)) → IsProgram text items → IsProgram text others → items ≡ others

@@ -48,3 +48,15 @@ pub record IsFirstUnknown (text : List ℕ) (items : List (Item Span)) (x : Span
   pub uses : Uses items at x
   pub unknown : IsKnown text items at (text_of text x) → ⊥
   pub earlier : (k : ℕ) (y : Span) → k < at → Uses items k y → IsKnown text items k (text_of text y)
+
+-- The uses of a program are bound in at most one way.
+abbrev pub IsOneScope : Type 0
+IsOneScope = (text : List ℕ) (items : List (Item Span)) (a b : List (Item Binder)) → Resolves text items a → Resolves text items b → a ≡ b
+
+-- A program has at most one first unknown name.
+abbrev pub IsOneUnknown : Type 0
+IsOneUnknown = (text : List ℕ) (items : List (Item Span)) (x y : Span) → IsFirstUnknown text items x → IsFirstUnknown text items y → x ≡ y
+
+-- A program with an unknown name doesn't resolve.
+abbrev pub IsUnknownOrResolved : Type 0
+IsUnknownOrResolved = (text : List ℕ) (items : List (Item Span)) (scoped : List (Item Binder)) (x : Span) → IsFirstUnknown text items x → Resolves text items scoped → ⊥

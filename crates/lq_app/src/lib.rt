@@ -2,6 +2,7 @@
 #![tactic(auto)]
 
 mod answer;
+mod laws;
 mod report;
 mod run;
 mod send;
@@ -10,7 +11,11 @@ mod status;
 mod verdict;
 mod words;
 
-pub use run::{one_report, run_words};
+pub use laws::{one_judgement, one_program, one_report, one_scope, over_stays};
+pub use run::run_words;
 pub use status::Status;
-pub use verdict::{Judgement, Refusal, judge, one_judgement};
+pub use verdict::{Judgement, Refusal, judge};
 pub use words::Words;
+
+#[cfg(test)]
+mod tests;

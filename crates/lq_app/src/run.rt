@@ -3,7 +3,7 @@ ghost use Rattle.lq_io.specs.Causes.{Rose};
 ghost use Rattle.lq_io.specs.Folder.{Files};
 ghost use Rattle.lq_app.specs.Command.{file_named};
 ghost use Rattle.lq_app.specs.Judgement.{IsAccepted, IsRefused};
-ghost use Rattle.lq_app.specs.Report.{visit, IsDue, IsHanded, IsFileFault, IsDetermined};
+ghost use Rattle.lq_app.specs.Report.{visit, IsDue, IsHanded, IsFileFault};
 ghost use Rattle.lq_app.specs.Ends.{Ends};
 
 use crate::answer::answer_to;
@@ -68,8 +68,3 @@ fn run<F: Folder, K: Sink>(alloc: Global, words: &Words, folder: &mut F, out: &m
         Err(_) => Status::SinkFault,
     }
 }
-
-/// The status and the report are determined by the words and what the folder holds, where it tells.
-pub fn one_report()
-    ensures { IsDetermined }
-{}

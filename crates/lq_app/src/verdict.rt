@@ -2,7 +2,7 @@ ghost use Rattle.std.specs.Prelude.{◌≡◌, ◌⊎◌, ◌≤◌, ◌^◌, []
 ghost use Rattle.lq_app.specs.declared.verdict.Judgement.{Judgement};
 ghost use Rattle.lq_app.specs.declared.verdict.Refusal.{Refusal};
 ghost use Rattle.lq_app.specs.declared.verdict.Refusal.TheVariants.{Memory};
-ghost use Rattle.lq_app.specs.Judgement.{IsAccepted, IsJudgement, IsOneJudgement};
+ghost use Rattle.lq_app.specs.Judgement.{IsAccepted, IsJudgement};
 
 use crate::report::{unbuilt_report, unknown_report};
 use crate::small::{ReadError, ScopeError, read_program, resolve};
@@ -83,8 +83,3 @@ fn judge_program(alloc: Global, text: &[u8]) -> Result<Judgement, Refusal>
         Err(ScopeError::Memory) => Err(Refusal::Memory),
     }
 }
-
-/// A text has at most one judgement.
-pub fn one_judgement()
-    ensures { IsOneJudgement }
-{}
