@@ -102,22 +102,28 @@ fn texts_by_length(rt: HostRuntime) -> Result<(), Fail> {
     Ok(())
 }
 
+// The status and the output for these words.
+fn answered(alloc: Global, list: &[&str]) -> Result<(u8, Vec<u8>), AllocError> {
+    let words = words_of(alloc, list)?;
+    let mut folder = CalmFolder::new(BTreeMap::new(alloc));
+    let mut out = MemSink::new(Vec::new(alloc), 100, Vec::new(alloc));
+    let status = run_words(alloc, &words, &mut folder, &mut out);
+    Ok((status.number(), Vec::from_slice(alloc, out.bytes())?))
+}
+
 #[test]
 fn other_words(rt: HostRuntime) -> Result<(), Fail> {
     let alloc = rt.alloc();
-    for list in [
-        [].as_slice(),
-        ["lq"].as_slice(),
-        ["lq", "check"].as_slice(),
-        ["lq", "types", "p.ml"].as_slice(),
-        ["lq", "check", "p.ml", "q.ml"].as_slice(),
-    ] {
-        let words = words_of(alloc, list)?;
-        let mut folder = CalmFolder::new(BTreeMap::new(alloc));
-        let mut out = MemSink::new(Vec::new(alloc), 100, Vec::new(alloc));
-        let ended = run_words(alloc, &words, &mut folder, &mut out);
-        assert_eq!(rt; ended.number(), 4);
-        assert_eq!(rt; out.bytes(), USAGE.as_bytes());
+    let answers = [
+        answered(alloc, &[])?,
+        answered(alloc, &["lq"])?,
+        answered(alloc, &["lq", "check"])?,
+        answered(alloc, &["lq", "types", "p.ml"])?,
+        answered(alloc, &["lq", "check", "p.ml", "q.ml"])?,
+    ];
+    for (status, written) in &answers {
+        assert_eq!(rt; *status, 4);
+        assert_eq!(rt; written.as_slice(), USAGE.as_bytes());
     }
     Ok(())
 }
