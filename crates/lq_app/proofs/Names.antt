@@ -8,13 +8,13 @@ use Rattle.std.proofs.lemmas.List.Sums.{take_while-cons}
 use Rattle.std.proofs.lemmas.Str.Ascii.{IsAscii-nil, IsAscii-cons}
 use Rattle.lq_app.specs.declared.small.token.Span.{Span}
 use Rattle.lq_app.specs.declared.small.token.Token.{Token}
-use Rattle.lq_app.specs.declared.small.token.Token.TheVariants.{Let, ReadInt, Name, Number, Equal, Open, Close, Plus, Minus}
+use Rattle.lq_app.specs.declared.small.token.Token.TheVariants.{Let, ReadInt, Name, Equal, Open, Close, Plus, Minus}
 use Rattle.lq_app.specs.declared.small.item.Right.{Right}
 use Rattle.lq_app.specs.declared.small.item.Right.TheVariants as right
 use Rattle.lq_app.specs.declared.small.item.Item.{Item}
 use Rattle.lq_app.specs.Words.{is_taken}
 use Rattle.lq_app.specs.Tokens.{is_lower, is_digit, is_name_byte, word_token, number_token, as_number, number_from, symbol_token, front_token, front_len, skip, IsTokens}
-use Rattle.lq_app.specs.Program.{right_tokens, item_tokens, IsProgram, text_of, used}
+use Rattle.lq_app.specs.Program.{right_tokens, item_tokens, IsProgram, text_of}
 use Rattle.lq_app.specs.Visible.{HasAsciiUse, HasAsciiNames}
 
 name_byte_small : (b : ℕ) → is_name_byte b ≡ true → b < 128

@@ -116,5 +116,4 @@ one_program (i ∷ is) (j ∷ js) e =
     let same : (i, spelled is) ≡ (j, spelled js) = cc in
     let first : i ≡ j = ap (λ (p : Item Span × List Token). p.0) same in
     let left : spelled is ≡ spelled js = ap (λ (p : Item Span × List Token). p.1) same in
-    let rest : is ≡ js = one_program is js left in
-    cc
+    ap (λ (k : Item Span). k ∷ is) first ∙ ap (λ (l : List (Item Span)). j ∷ l) (one_program is js left)

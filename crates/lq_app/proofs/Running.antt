@@ -1,6 +1,6 @@
 -- What resolves is safe.
-use Rattle.std.specs.Prelude.{slice_get, ◌==◌, ℤ, pos}
-use Rattle.std.proofs.Common.{◌≡◌, ℕ, zero, suc, ◌+◌, ◌<◌, ◌≤◌, Bool, true, false, cond, List, [], ◌∷◌, length, map, get_or, Option, Some, None, refl, sym, ap, subst, ◌∙◌, arith}
+use Rattle.std.specs.Prelude.{slice_get, ◌==◌, ℤ}
+use Rattle.std.proofs.Common.{◌≡◌, ℕ, zero, suc, ◌+◌, ◌<◌, ◌≤◌, Bool, true, false, cond, List, [], ◌∷◌, map, get_or, Some, refl, sym, ap, subst, ◌∙◌, arith}
 use Rattle.std.proofs.lemmas.Bool.Decides.{Decides-eqb}
 use Rattle.std.proofs.lemmas.Option.{slice_get_within, slice_get-get_or}
 use Rattle.lq_tree.specs.declared.name.Binder.{Binder}
@@ -9,7 +9,7 @@ use Rattle.lq_app.specs.declared.small.item.Right.{Right}
 use Rattle.lq_app.specs.declared.small.item.Right.TheVariants as right
 use Rattle.lq_app.specs.declared.small.item.Item.{Item}
 use Rattle.lq_app.specs.Scope.{IsBound, Resolves}
-use Rattle.lq_app.specs.Meaning.{Expr, value, variable, read, plus, minus, Definition, State, Outcome, running, finished, input_ended, fault, stuck, Turn, to, ends, fails, none, within, read_turn, turn, put, put_in, after_turn, define, step, at_rest, go_on, expr_of, definition_of, outcome, IsCalm, IsSafe, IsOver, StaysOver}
+use Rattle.lq_app.specs.Meaning.{Expr, value, variable, read, plus, minus, Definition, Outcome, running, finished, input_ended, fault, stuck, Turn, to, ends, fails, none, within, read_turn, turn, put, put_in, after_turn, define, step, at_rest, go_on, expr_of, definition_of, IsCalm, IsSafe, IsOver, StaysOver}
 
 -- the variables of an expression are from the first number on and below the second
 abbrev IsWithin : ℕ → ℕ → Expr → Type 0

@@ -1,6 +1,6 @@
 -- A text is at most one program, and has at most one judgement.
 use Rattle.std.specs.Prelude.{slice_get, IsSomeAnd}
-use Rattle.std.proofs.Common.{◌≡◌, ◌⊎◌, inl, inr, ⊎_elim, ℕ, zero, suc, ◌<◌, ◌≤◌, List, [], ◌∷◌, ◌++◌, length, get_or, Option, Some, None, Result, Ok, Err, refl, sym, ap, subst, ◌∙◌, arith}
+use Rattle.std.proofs.Common.{◌≡◌, inl, inr, ⊎_elim, ℕ, suc, List, [], ◌∷◌, length, get_or, Option, Some, None, Ok, Err, refl, sym, ap, subst, ◌∙◌, arith}
 use Rattle.std.proofs.lemmas.Option.{slice_get_within, slice_get-get_or}
 use Rattle.std.proofs.lemmas.Bool.{cases_lt}
 use Rattle.lq_tree.specs.declared.name.Binder.{Binder}
@@ -8,13 +8,11 @@ use Rattle.lq_app.specs.declared.small.token.Span.{Span}
 use Rattle.lq_app.specs.declared.small.item.Right.{Right}
 use Rattle.lq_app.specs.declared.small.item.Right.TheVariants as right
 use Rattle.lq_app.specs.declared.small.item.Item.{Item}
-use Rattle.lq_app.specs.declared.verdict.Judgement.{Judgement}
 use Rattle.lq_app.specs.declared.verdict.Judgement.TheVariants.{Accepted, Rejected, Undecided}
-use Rattle.lq_app.specs.declared.verdict.Refusal.{Refusal}
 use Rattle.lq_app.specs.declared.verdict.Refusal.TheVariants.{Code, Memory}
 use Rattle.lq_app.specs.Program.{IsProgram, text_of, used}
-use Rattle.lq_app.specs.Scope.{Defines, IsNearest, IsBound, Resolves, Uses, IsKnown, IsFirstUnknown}
-use Rattle.lq_app.specs.Judgement.{IsAccepted, IsUnbuilt, HasUnknown, IsRefused, IsJudgement, IsOneJudgement, unbuilt_line, unknown_line}
+use Rattle.lq_app.specs.Scope.{IsNearest, IsBound, Resolves, Uses, IsKnown, IsFirstUnknown}
+use Rattle.lq_app.specs.Judgement.{IsAccepted, IsRefused, IsOneJudgement, unknown_line}
 use Rattle.lq_app.proofs.Lexing.{one_list}
 use Rattle.lq_app.proofs.Parsing.{spelled, one_program}
 use Rattle.lq_app.proofs.Scoping.{some_at}

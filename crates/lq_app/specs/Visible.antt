@@ -1,5 +1,5 @@
 -- The definitions that are visible, as a table of names and one of binders.
-use Rattle.std.specs.Prelude.{◌≡◌, ℕ, ◌<◌, List, [], ◌∷◌, slice_get, Option, Some, None, Result, Ok, Err, if◌then◌else◌}
+use Rattle.std.specs.Prelude.{◌≡◌, ℕ, ◌<◌, List, [], ◌∷◌, Option, Some, None, if◌then◌else◌}
 use Rattle.std.specs.Str.{bytes_eq, IsAscii}
 use Rattle.lq_tree.specs.declared.name.Binder.{Binder}
 use Rattle.lq_app.specs.declared.small.token.Span.{Span}

@@ -1,7 +1,4 @@
-use Rattle.std.proofs.Common.{subst}
-use Rattle.lq_app.specs.declared.status.Status.{Status}
-use Rattle.lq_app.specs.Report.{visit, IsDue}
-use Rattle.lq_app.specs.Ends.{Ends}
+use Rattle.lq_app.specs.Report.{visit}
 use Rattle.lq_app.proofs.Determined.{exact, usage_due, failure_due}
 use Rattle.lq_app.proofs.run.run_words.Goals as goal
 

@@ -5,7 +5,6 @@ use Rattle.std.proofs.lemmas.Result.{err_from_is_err_and}
 use Rattle.std.proofs.lemmas.Option.{slice_get-get_or}
 use Rattle.lq_app.specs.declared.small.token.Span.{Span}
 use Rattle.lq_app.specs.declared.small.item.Item.{Item}
-use Rattle.lq_app.specs.declared.small.item.Right.{Right}
 use Rattle.lq_app.specs.declared.small.item.Right.TheVariants as right
 use Rattle.lq_app.specs.declared.small.scope.ScopeError.{ScopeError}
 use Rattle.lq_app.specs.declared.small.scope.ScopeError.TheVariants.{Unknown}

@@ -1,4 +1,4 @@
-use Rattle.std.proofs.Common.{◌≡◌, ◌+◌, ◌*◌, ◌≤◌, length}
+use Rattle.std.proofs.Common.{◌+◌, ◌*◌, ◌≤◌, length}
 use Rattle.lq_app.specs.Visible.{seen}
 use Rattle.lq_app.proofs.Scoping.{IsUpTo, BoundTo}
 use Rattle.lq_app.proofs.small.scope.resolve.Given as goal

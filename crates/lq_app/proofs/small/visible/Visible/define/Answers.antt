@@ -1,4 +1,4 @@
-use Rattle.std.proofs.Common.{◌≡◌, List, ap, cond, Option, Some, None, ◌∙◌, ◌+◌, ◌-◌, length, replicate}
+use Rattle.std.proofs.Common.{◌≡◌, List, ap, cond, Option, Some, ◌∙◌, ◌+◌, ◌-◌, length}
 use Rattle.std.specs.Str.{bytes_eq}
 use Rattle.lq_tree.specs.declared.name.Binder.{Binder}
 use Rattle.lq_app.specs.Visible.{seen}
