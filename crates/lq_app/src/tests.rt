@@ -129,6 +129,15 @@ fn other_words(rt: HostRuntime) -> Result<(), Fail> {
 }
 
 #[test]
+fn words_by_index(rt: HostRuntime) -> Result<(), Fail> {
+    let words = words_of(rt.alloc(), &["lq", "check"])?;
+    assert_eq!(rt; words.len(), 2);
+    assert_eq!(rt; words.get(1), Some("check"));
+    assert_eq!(rt; words.get(2), None);
+    Ok(())
+}
+
+#[test]
 fn faults_of_the_outside(rt: HostRuntime) -> Result<(), Fail> {
     let alloc = rt.alloc();
     let words = words_of(alloc, &["lq", "check", "p.ml"])?;
