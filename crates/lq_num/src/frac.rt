@@ -233,3 +233,6 @@ impl Frac {
         Some(Frac { numer, denom })
     }
 }
+
+#[cfg(test)]
+mod tests;
