@@ -19,34 +19,35 @@ IfNone-any None P h = h
 IfNone-any (Some x) P h = tt
 
 -- ---- over the least common multiple
-pub over : (a c : ℤ) (b d g : ℕ) (n k : ℤ) (m : ℕ) → FitsSigned w128 a → FitsSigned w128 c → 0 < b → 0 < d → IsGcd b d g
-    → (b / g * d < 2 ^ 127) × (m ≡ b / g * d)
-    → FitsSigned w128 (read a *ℤ pos (d / g)) × (n ≡ read a *ℤ pos (d / g))
-    → FitsSigned w128 (read c *ℤ pos (b / g)) × (k ≡ read c *ℤ pos (b / g)) → IsOver a c b d (read n) (read k) m
-over a c b d g n k m fa fc p q gcd is_m is_n is_k =
+pub over : (a c : ℤ) (b d g x y : ℕ) (n k : ℤ) (m : ℕ) → FitsSigned w128 a → FitsSigned w128 c → 0 < b → 0 < d → IsGcd b d g
+    → x ≡ d / g → y ≡ b / g → (y * d < 2 ^ 127) × (m ≡ y * d)
+    → FitsSigned w128 (read a *ℤ pos x) × (n ≡ read a *ℤ pos x)
+    → FitsSigned w128 (read c *ℤ pos y) × (k ≡ read c *ℤ pos y) → IsOver a c b d (read n) (read k) m
+over a c b d g x y n k m fa fc p q gcd is_x is_y is_m is_n is_k =
     let l = lcm_from_gcd b d g p q gcd in
-    let first : read a *ℤ pos (d / g) ≡ a *ℤ pos (b / g * d / b) = ap₂ (λ x y. x *ℤ pos y) (to_z-of_z w128 a fa) (sym l.1) in
-    let second : read c *ℤ pos (b / g) ≡ c *ℤ pos (b / g * d / d) = ap₂ (λ x y. x *ℤ pos y) (to_z-of_z w128 c fc) (sym l.2) in
-    subst (λ x. IsOver a c b d (read n) (read k) x) (sym is_m.1) (record {
+    let first : read a *ℤ pos x ≡ a *ℤ pos (b / g * d / b) = ap₂ (λ z w. z *ℤ pos w) (to_z-of_z w128 a fa) (is_x ∙ sym l.1) in
+    let second : read c *ℤ pos y ≡ c *ℤ pos (b / g * d / d) = ap₂ (λ z w. z *ℤ pos w) (to_z-of_z w128 c fc) (is_y ∙ sym l.2) in
+    let multiple : m ≡ b / g * d = is_m.1 ∙ ap (λ w. w * d) is_y in
+    subst (λ z. IsOver a c b d (read n) (read k) z) (sym multiple) (record {
       positive = mul-pos (quotient_some b g p gcd.0) q;
       least = l.0;
-      small = is_m.0;
-      first = to_z-of_z w128 n (subst (λ x. FitsSigned w128 x) (sym is_n.1) is_n.0) ∙ is_n.1 ∙ first;
-      second = to_z-of_z w128 k (subst (λ x. FitsSigned w128 x) (sym is_k.1) is_k.0) ∙ is_k.1 ∙ second;
-      first_fits = subst (λ x. FitsSigned w128 x) first is_n.0;
-      second_fits = subst (λ x. FitsSigned w128 x) second is_k.0;
+      small = subst (λ w. w * d < 2 ^ 127) is_y is_m.0;
+      first = to_z-of_z w128 n (subst (λ z. FitsSigned w128 z) (sym is_n.1) is_n.0) ∙ is_n.1 ∙ first;
+      second = to_z-of_z w128 k (subst (λ z. FitsSigned w128 z) (sym is_k.1) is_k.0) ∙ is_k.1 ∙ second;
+      first_fits = subst (λ z. FitsSigned w128 z) first is_n.0;
+      second_fits = subst (λ z. FitsSigned w128 z) second is_k.0;
     })
 
 -- one of the three numbers doesn't fit
-pub not_over : (a c : ℤ) (b d g : ℕ) → 0 < b → 0 < d → IsGcd b d g
-    → ¬ ((b / g * d < 2 ^ 127) × FitsSigned w128 (a *ℤ pos (d / g)) × FitsSigned w128 (c *ℤ pos (b / g)))
+pub not_over : (a c : ℤ) (b d g x y : ℕ) → 0 < b → 0 < d → IsGcd b d g → x ≡ d / g → y ≡ b / g
+    → ¬ ((y * d < 2 ^ 127) × FitsSigned w128 (a *ℤ pos x) × FitsSigned w128 (c *ℤ pos y))
     → (op : ℤ → ℤ → ℤ) → HasNoFormBy op a c b d
-not_over a c b d g p q gcd past op =
+not_over a c b d g x y p q gcd is_x is_y past op =
     let l = lcm_from_gcd b d g p q gcd in
     HasNoFormBy-from op a c b d (b / g * d) l.0 (λ f. past (
-      f.multiple,
-      subst (λ x. FitsSigned w128 (a *ℤ pos x)) l.1 f.first,
-      subst (λ x. FitsSigned w128 (c *ℤ pos x)) l.2 f.second,
+      subst (λ w. w * d < 2 ^ 127) (sym is_y) f.multiple,
+      subst (λ w. FitsSigned w128 (a *ℤ pos w)) (l.1 ∙ sym is_x) f.first,
+      subst (λ w. FitsSigned w128 (c *ℤ pos w)) (l.2 ∙ sym is_y) f.second,
     ))
 
 pub fits_read : (a : ℤ) (m : ℕ) → FitsSigned w128 a → FitsSigned w128 (a *ℤ pos m) → FitsSigned w128 (read a *ℤ pos m)

@@ -81,17 +81,19 @@ lowest_product_by s a b c d g h z e n p q low low' left right is_z is_n is_e =
     subst (λ x. IsLowest (ratio (signed s (a * c)) (b * d)) (read n) x) (sym is_e)
     (subst (λ x. IsLowest (ratio (signed s (a * c)) (b * d)) x (b / h * (d / g))) (sym same) (lowest_product s a b c d g h p q low low' left right))
 
-pub past_product : (s : Bool) (a b c d g h : ℕ) → 0 < b → 0 < d → Coprime a b → Coprime c d → IsGcd a d g → IsGcd c b h
-    → ¬ (FitsSigned w128 (signed s (a / g * (c / h))) × (b / h * (d / g) < 2 ^ 127)) → HasNoForm (ratio (signed s (a * c)) (b * d))
-past_product s a b c d g h p q low low' left right = HasNoForm-from _ _ _ (lowest_product s a b c d g h p q low low' left right)
+pub past_product_by : (s : Bool) (a b c d g h z e : ℕ) → 0 < b → 0 < d → Coprime a b → Coprime c d → IsGcd a d g → IsGcd c b h
+    → z ≡ a / g * (c / h) → e ≡ b / h * (d / g) → ¬ (FitsSigned w128 (signed s z) × (e < 2 ^ 127)) → HasNoForm (ratio (signed s (a * c)) (b * d))
+past_product_by s a b c d g h z e p q low low' left right is_z is_e past =
+    HasNoForm-from _ _ _ (lowest_product s a b c d g h p q low low' left right)
+    (λ f. past (subst (λ x. FitsSigned w128 (signed s x)) (sym is_z) f.0, subst (λ x. x < 2 ^ 127) (sym is_e) f.1))
 
 -- ---- a fraction over its greatest common divisor
-pub reduced_read : (n : ℤ) (d g : ℕ) (o : ℤ) → FitsSigned w128 n → FitsSigned w128 o → 0 < d → IsGcd (unsigned_abs (read n)) d g
-    → o ≡ int_div (read n) (pos g) → IsReduced n d (read o) (d / g)
-reduced_read n d g o f k p gcd is =
+pub reduced_read : (n : ℤ) (d g : ℕ) (o : ℤ) (e : ℕ) → FitsSigned w128 n → FitsSigned w128 o → 0 < d → IsGcd (unsigned_abs (read n)) d g
+    → o ≡ int_div (read n) (pos g) → e ≡ d / g → IsReduced n d (read o) e
+reduced_read n d g o e f k p gcd is is_e =
     let r = reduced n d g p (subst (λ x. IsGcd (unsigned_abs x) d g) (to_z-of_z w128 n f) gcd) in
     let same = to_z-of_z w128 o k ∙ is ∙ ap (λ x. int_div x (pos g)) (to_z-of_z w128 n f) in
-    subst (λ x. IsReduced n d x (d / g)) (sym same) r
+    subst (λ x. IsReduced n d (read o) x) (sym is_e) (subst (λ x. IsReduced n d x (d / g)) (sym same) r)
 
 -- ---- negation
 size_of_negation : (n : ℤ) → unsigned_abs (neg_ℤ n) ≡ unsigned_abs n

@@ -2,7 +2,7 @@ ghost use Rattle.std.specs.Prelude.{◌≡◌, ℤ, ◌<◌, ◌^◌, ◌*◌, u
 ghost use Rattle.lq_math.specs.Coprime.{Coprime};
 ghost use Rattle.lq_num.specs.Sign.{signed, signs_differ};
 
-use crate::divisor::{common, gcd, over, with_sign};
+use crate::divisor::{common, gcd, over, quotient, with_sign};
 use crate::multiple::{scaled, small_product};
 use crate::order::compare;
 use crate::past::{NumOp, NumberPast};
@@ -184,8 +184,8 @@ impl Frac {
         ensures none { IfNone result ((op : ℤ → ℤ → ℤ) → HasNoFormBy op (numer_of self.now) (numer_of other.now) (denom_of self.now) (denom_of other.now)) }
     {
         let shared = gcd(self.denom, other.denom);
-        let left = other.denom / shared;
-        let right = self.denom / shared;
+        let left = quotient(other.denom, shared);
+        let right = quotient(self.denom, shared);
         let denom = small_product(right, other.denom)?;
         let first = scaled(self.numer, left)?;
         let second = scaled(other.numer, right)?;
@@ -212,7 +212,7 @@ impl Frac {
         let shared = common(numer, denom);
         Frac {
             numer: over(numer, shared),
-            denom: denom / shared,
+            denom: quotient(denom, shared),
         }
     }
 
@@ -227,9 +227,13 @@ impl Frac {
     {
         let left = gcd(a, d);
         let right = gcd(c, b);
-        let size = (a / left).checked_mul(c / right)?;
+        let first_numer = quotient(a, left);
+        let second_numer = quotient(c, right);
+        let first_denom = quotient(b, right);
+        let second_denom = quotient(d, left);
+        let size = first_numer.checked_mul(second_numer)?;
         let numer = with_sign(negative, size)?;
-        let denom = small_product(b / right, d / left)?;
+        let denom = small_product(first_denom, second_denom)?;
         Some(Frac { numer, denom })
     }
 }

@@ -7,11 +7,11 @@ use Rattle.lq_num.proofs.frac.Frac.lowest.Goals as goal
 pub invariant_of-result : goal.invariant_of-result
 invariant_of-result c =
     let fits : FitsSigned w128 c.over.result = search rules in
-    let r = reduced_read _ _ _ c.over.result c.ranges.numer fits c.requires.some c.common-shared.ensures.divisor c.over.ensures in
+    let r = reduced_read _ _ _ c.over.result c.quotient.result c.ranges.numer fits c.requires.some c.common-shared.ensures.divisor c.over.ensures c.quotient.ensures in
     let small = c.requires.small in
-    record { positive = r.positive; small = omega (arith, div-le_self c.args.denom c.common-shared.result); lowest = r.lowest }
+    record { positive = r.positive; small = omega (arith, c.quotient.ensures, div-le_self c.args.denom c.common-shared.result); lowest = r.lowest }
 
 pub returns : goal.returns
 returns c =
     let fits : FitsSigned w128 c.over.result = search rules in
-    (reduced_read _ _ _ c.over.result c.ranges.numer fits c.requires.some c.common-shared.ensures.divisor c.over.ensures).same
+    (reduced_read _ _ _ c.over.result c.quotient.result c.ranges.numer fits c.requires.some c.common-shared.ensures.divisor c.over.ensures c.quotient.ensures).same
