@@ -1,0 +1,9 @@
+pub mod Lexing
+pub mod Parsing
+pub mod Unique
+pub mod Kept
+pub mod Scoping
+pub mod Names
+pub mod Running
+pub mod Sending
+pub mod Determined

@@ -1,0 +1,13 @@
+pub mod Words
+pub mod Tokens
+pub mod Program
+pub mod Front
+pub mod Places
+pub mod Scope
+pub mod Visible
+pub mod Meaning
+pub mod Judgement
+pub mod Command
+pub mod Report
+pub mod Ends
+pub mod Numbers

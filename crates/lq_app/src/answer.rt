@@ -1,0 +1,67 @@
+ghost use Rattle.std.specs.Prelude.{◌≤◌, length, IfOk};
+ghost use Rattle.lq_app.specs.Report.{visit, IsVerdict, IsDue};
+
+use crate::report::{file_report, usage_report};
+use crate::{Judgement, Refusal, Status, Words, judge};
+use lq_io::{FetchError, Folder};
+use lq_tree::TextBuf;
+use std::alloc::{AllocError, Global};
+
+// The greatest number of bytes of a file.
+const LIMIT: usize = 1 << 20;
+
+// The pivots that a check of the tableau may take where the words don't say.
+const PIVOTS: u64 = 67_108_864;
+
+// A status, and the whole report that goes with it.
+#[derive(Drop)]
+pub(crate) struct Answer {
+    pub(crate) status: Status,
+    pub(crate) report: TextBuf,
+}
+
+// The verdict on a text.
+fn verdict_on(alloc: Global, text: &[u8]) -> Result<Answer, AllocError>
+    requires { length text.now ≤ 1048576 }
+    ensures { IfOk result (λ r. IsVerdict text.now r.status r.report) }
+{
+    let (status, report) = match judge(alloc, text, &[], &[], PIVOTS) {
+        Ok(Judgement::Accepted(_types)) => {
+            let line = Vec::from_slice(alloc, b"accepted\n")?;
+            (Status::Good, TextBuf::from_bytes(line))
+        }
+        Ok(Judgement::Rejected(failure, _explained)) => (Status::Rejected, failure),
+        Ok(Judgement::Undecided(cause)) => (Status::Undecided, cause),
+        Err(Refusal::Code(_, line)) => (Status::Refused, line),
+        Err(Refusal::Memory) => return Err(AllocError),
+    };
+    Ok(Answer { status, report })
+}
+
+// What is due for these words.
+pub(crate) fn answer_to<F: Folder>(
+    alloc: Global,
+    words: &Words,
+    folder: &mut F,
+) -> Result<Answer, AllocError>
+    ensures { IfOk result (λ r. IsDue words.now (visit F.files F.absents F.failures folder.old folder.new) r.status r.report) }
+{
+    let Some(name) = words.file() else {
+        return Ok(Answer {
+            status: Status::Usage,
+            report: usage_report(alloc)?,
+        });
+    };
+    let mut text = Vec::new(alloc);
+    let what = match folder.fetch(name, LIMIT, &mut text) {
+        Ok(()) => return verdict_on(alloc, &text),
+        Err(FetchError::Memory) => return Err(AllocError),
+        Err(FetchError::Absent) => b"absent ".as_slice(),
+        Err(FetchError::Failed) => b"failed ".as_slice(),
+        Err(FetchError::TooLong) => b"too long ".as_slice(),
+    };
+    Ok(Answer {
+        status: Status::File,
+        report: file_report(alloc, what, name)?,
+    })
+}
