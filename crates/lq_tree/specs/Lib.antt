@@ -1,1 +1,5 @@
 pub mod NameTable
+pub mod Pattern
+pub mod PatternView
+pub mod Tree
+pub mod TreeView
