@@ -1,1 +1,5 @@
+pub mod Copies
+pub mod Depths
+pub mod PatternViews
 pub mod Texts
+pub mod TreeViews

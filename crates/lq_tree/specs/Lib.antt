@@ -1,3 +1,4 @@
+pub mod Depth
 pub mod NameTable
 pub mod Pattern
 pub mod PatternView

@@ -78,7 +78,7 @@ module _ (B : Type 0) (number : B → ℕ) where
   node_step (Node-F.MapFind k m) = map_find k.value m.value
 
   abbrev pub arm_step : Arm-F B Form Case Cases Tree Trees Recursive → Case
-  arm_step a = record { pattern = pat_view B number a.pattern; body = a.body }
+  arm_step a = record { pattern = pat_view B number a.pattern; body = a.body.value }
 
   abbrev pub arms_step : Arms-F B Form Case Cases Tree Trees Recursive → Cases
   arms_step a = cases_of a.items.items

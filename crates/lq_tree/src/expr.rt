@@ -98,7 +98,7 @@ pub struct Exprs<B> {
 #[derive(Drop)]
 pub struct Arm<B> {
     pub pattern: Pat<B>,
-    pub body: Expr<B>,
+    pub body: Box<Expr<B>>,
 }
 
 /// The arms of a match, in order.

@@ -1,12 +1,15 @@
 //! Names, places and trees.
 #![tactic(auto)]
 
+mod copy;
+mod depth;
 mod expr;
 mod name;
 mod name_table;
 mod operation;
 mod pattern;
 mod place;
+mod rows;
 mod text;
 
 pub use expr::{Arguments, Arm, Arms, Expr, Exprs, Function, Node};
