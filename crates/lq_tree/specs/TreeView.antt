@@ -49,12 +49,12 @@ module _ (B : Type 0) (number : B → ℕ) where
   node_step Node-F.Unit = unit
   node_step (Node-F.Use x) = use_of (number x)
   node_step (Node-F.Qualified m x) = qualified m.0 x.0
-  node_step (Node-F.Fun p b) = fun (pat_view B number p) b.value
+  node_step (Node-F.Fun p b) = fun (pat_view B number p.value) b.value
   node_step (Node-F.Tuple es) = tuple es
   node_step (Node-F.Build c w es) = build c.0 w es
   node_step (Node-F.ListOf es) = list_of es
-  node_step (Node-F.Let p e b) = let_in (pat_view B number p) e.value b.value
-  node_step (Node-F.LetRec f r b) = let_rec (number f) r.id r.place r.parameter r.body b.value
+  node_step (Node-F.Let p e b) = let_in (pat_view B number p.value) e.value b.value
+  node_step (Node-F.LetRec f r b) = let_rec (number f) r.value.id r.value.place r.value.parameter r.value.body b.value
   node_step (Node-F.Call f a) = call f.value a.value
   node_step (Node-F.Arith o a b) = arithmetic o a.value b.value
   node_step (Node-F.Neg e) = negated e.value

@@ -22,6 +22,15 @@ impl<B: Ident> Pat<B> {
     }
 }
 
+impl<B: Ident> Pat<B> {
+    fn boxed(&self, alloc: Global) -> Result<Box<Pat<B>>, AllocError>
+        ensures { IfOk result (λ b. pat_view B B.number b.value ≡ pat_view B B.number self.now) }
+    {
+        let copied = self.copy(alloc)?;
+        Ok(Box::new(alloc, copied)?)
+    }
+}
+
 impl<B: Ident> PatNode<B> {
     #[cycle(copy_pattern)]
     fn copy(&self, alloc: Global) -> Result<PatNode<B>, AllocError>
@@ -84,12 +93,12 @@ impl<B: Ident> Node<B> {
             Node::Unit => Ok(Node::Unit),
             Node::Use(x) => Ok(Node::Use(*x)),
             Node::Qualified(m, x) => Ok(Node::Qualified(*m, *x)),
-            Node::Fun(p, b) => Ok(Node::Fun(p.copy(alloc)?, b.boxed(alloc)?)),
+            Node::Fun(p, b) => Ok(Node::Fun(p.boxed(alloc)?, b.boxed(alloc)?)),
             Node::Tuple(parts) => Ok(Node::Tuple(parts.copy(alloc)?)),
             Node::Build(c, held, parts) => Ok(Node::Build(*c, *held, parts.copy(alloc)?)),
             Node::ListOf(items) => Ok(Node::ListOf(items.copy(alloc)?)),
-            Node::Let(p, e, b) => Ok(Node::Let(p.copy(alloc)?, e.boxed(alloc)?, b.boxed(alloc)?)),
-            Node::LetRec(f, r, b) => Ok(Node::LetRec(*f, r.copy(alloc)?, b.boxed(alloc)?)),
+            Node::Let(p, e, b) => Ok(Node::Let(p.boxed(alloc)?, e.boxed(alloc)?, b.boxed(alloc)?)),
+            Node::LetRec(f, r, b) => Ok(Node::LetRec(*f, r.boxed(alloc)?, b.boxed(alloc)?)),
             Node::Call(f, a) => Ok(Node::Call(f.boxed(alloc)?, a.boxed(alloc)?)),
             Node::Arith(op, a, b) => Ok(Node::Arith(*op, a.boxed(alloc)?, b.boxed(alloc)?)),
             Node::Neg(e) => Ok(Node::Neg(e.boxed(alloc)?)),
@@ -136,6 +145,14 @@ impl<B: Ident> Function<B> {
             parameter,
             body,
         })
+    }
+
+    #[cycle(copy)]
+    fn boxed(&self, alloc: Global) -> Result<Box<Function<B>>, AllocError>
+        ensures { IfOk result (λ b. function_view B B.number b.value ≡ function_view B B.number self.now) }
+    {
+        let copied = self.copy(alloc)?;
+        Ok(Box::new(alloc, copied)?)
     }
 }
 

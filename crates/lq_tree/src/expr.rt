@@ -27,13 +27,13 @@ pub enum Node<B> {
     Use(B),
     /// An upper name, a dot and a lower name, as `Array.length`.
     Qualified(Name, Name),
-    Fun(Pat<B>, Box<Expr<B>>),
+    Fun(Box<Pat<B>>, Box<Expr<B>>),
     Tuple(Exprs<B>),
     /// A constructor with its arguments, of which a parsed tree has at most one.
     Build(Name, Arguments, Exprs<B>),
     ListOf(Exprs<B>),
-    Let(Pat<B>, Box<Expr<B>>, Box<Expr<B>>),
-    LetRec(B, Function<B>, Box<Expr<B>>),
+    Let(Box<Pat<B>>, Box<Expr<B>>, Box<Expr<B>>),
+    LetRec(B, Box<Function<B>>, Box<Expr<B>>),
     Call(Box<Expr<B>>, Box<Expr<B>>),
     Arith(ArithOp, Box<Expr<B>>, Box<Expr<B>>),
     Neg(Box<Expr<B>>),
