@@ -13,7 +13,7 @@ use Rattle.lq_math.specs.Rational.{ratio}
 use Rattle.lq_math.specs.RationalOrder.{ratio_from_cross}
 
 -- ---- an exact quotient
-neg_part : (m : ℕ) → (up (neg_ℤ (pos m)) ≡ 0) × (down (neg_ℤ (pos m)) ≡ m)
+pub neg_part : (m : ℕ) → (up (neg_ℤ (pos m)) ≡ 0) × (down (neg_ℤ (pos m)) ≡ m)
 neg_part zero = (refl, refl)
 neg_part (suc m) = (refl, refl)
 

@@ -1,3 +1,5 @@
+ghost use Rattle.std.specs.Prelude.{◌≡◌, ℕ};
+
 /// A name of a source text: the number of its text in a name table.
 #[derive(Clone, Copy, Debug, PartialEq, Eq, PartialOrd, Ord, Hash)]
 pub struct Name(pub u32);
@@ -32,3 +34,38 @@ impl Name {
 /// A place where a name is bound. Each has a number of its own.
 #[derive(Clone, Copy, Debug, PartialEq, Eq, PartialOrd, Ord, Hash)]
 pub struct Binder(pub u32);
+
+/// What the variables of a tree are: names once it is parsed, binders once it is scoped.
+pub trait Ident: Copy {
+    ghost number: { Self → ℕ };
+
+    fn number(self) -> u32
+        ensures { result ≡ number self };
+
+    fn from_number(n: u32) -> Self
+        ensures { number result ≡ n };
+}
+
+impl Ident for Name {
+    ghost number = { λ n. n.0 };
+
+    fn number(self) -> u32 {
+        self.0
+    }
+
+    fn from_number(n: u32) -> Name {
+        Name(n)
+    }
+}
+
+impl Ident for Binder {
+    ghost number = { λ n. n.0 };
+
+    fn number(self) -> u32 {
+        self.0
+    }
+
+    fn from_number(n: u32) -> Binder {
+        Binder(n)
+    }
+}

@@ -1,0 +1,52 @@
+// Measures as they are written.
+ghost use Rattle.std.specs.Prelude.{◌≡◌, ◌≤◌};
+ghost use Rattle.lq_tree.specs.MeasureTrees.{definitions_view, definitions_nesting};
+
+use crate::name::Name;
+use crate::pattern::Pat;
+use crate::place::Place;
+use crate::pred_expr::PredExpr;
+
+/// A measure, with the place of its name.
+#[derive(Drop)]
+pub struct Measure {
+    pub name: Name,
+    pub place: Place,
+    /// The datatype whose values the measure takes.
+    pub datatype: Name,
+    pub datatype_place: Place,
+    pub equations: Vec<Equation>,
+}
+
+/// What a measure is at the values of one constructor.
+#[derive(Drop)]
+pub struct Equation {
+    pub pattern: Pat<Name>,
+    pub term: PredExpr,
+}
+
+/// A parsed text of measures, in order. No term of it nests deeper than 250 steps.
+#[derive(Drop)]
+pub struct Measures {
+    measures: Vec<Measure>,
+    ghost shallow: { definitions_nesting (definitions_view measures.items) ≤ 250 },
+}
+
+impl Measures {
+    ghost use Rattle.lq_tree.specs.Texts.{measures_view};
+
+    pub fn new(measures: Vec<Measure>) -> Measures
+        requires { definitions_nesting (definitions_view measures.items) ≤ 250 }
+        ensures { measures_view result ≡ definitions_view measures.items }
+    {
+        Measures { measures }
+    }
+
+    /// The measures, in order.
+    pub fn measures(&self) -> &[Measure]
+        ensures measures { definitions_view result.now ≡ measures_view self.now }
+        ensures shallow { definitions_nesting (measures_view self.now) ≤ 250 }
+    {
+        &self.measures
+    }
+}

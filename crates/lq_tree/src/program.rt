@@ -1,0 +1,33 @@
+// Whole parsed programs.
+ghost use Rattle.std.specs.Prelude.{◌≡◌, ◌≤◌};
+ghost use Rattle.lq_tree.specs.Items.{parsed_items};
+ghost use Rattle.lq_tree.specs.Levels.{items_nesting};
+
+use crate::item::Item;
+use crate::name::Name;
+
+/// A parsed program: its items in order. No tree of it nests deeper than 250 steps.
+#[derive(Drop)]
+pub struct Program {
+    items: Vec<Item<Name>>,
+    ghost shallow: { items_nesting (parsed_items items.items) ≤ 250 },
+}
+
+impl Program {
+    ghost use Rattle.lq_tree.specs.Texts.{program_view};
+
+    pub fn new(items: Vec<Item<Name>>) -> Program
+        requires { items_nesting (parsed_items items.items) ≤ 250 }
+        ensures { program_view result ≡ parsed_items items.items }
+    {
+        Program { items }
+    }
+
+    /// The items, in order.
+    pub fn items(&self) -> &[Item<Name>]
+        ensures items { parsed_items result.now ≡ program_view self.now }
+        ensures shallow { items_nesting (program_view self.now) ≤ 250 }
+    {
+        &self.items
+    }
+}
