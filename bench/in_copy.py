@@ -1,16 +1,19 @@
 """What the scripts of this folder share: a program of one file is proved, built and run in a temporary copy of the
 repository, over what the crates here have already proved, and nothing is left behind."""
+import contextlib
 import os
 import shutil
 import subprocess
 import sys
 import tempfile
 
+sys.dont_write_bytecode = True
 TOP = os.path.dirname(os.path.dirname(os.path.abspath(__file__)))
 
 
-def run(crates, source):
-    """Runs the program with this main.rt, over these crates, and returns what it printed."""
+@contextlib.contextmanager
+def built(crates, source):
+    """Builds the program with this main.rt, over these crates, and gives its path and what it printed."""
     with tempfile.TemporaryDirectory() as folder:
         copy = os.path.join(folder, "copy")
         os.mkdir(copy)
@@ -30,4 +33,10 @@ def run(crates, source):
         done = subprocess.run(["rt", "run"], cwd=program, capture_output=True, text=True)
         if done.returncode != 0:
             sys.exit(f"the program could not be run:\n{done.stdout}{done.stderr}")
-        return done.stdout
+        yield os.path.join(program, "out", "timed"), done.stdout
+
+
+def run(crates, source):
+    """Runs the program with this main.rt, over these crates, and returns what it printed."""
+    with built(crates, source) as (_, printed):
+        return printed
