@@ -5,8 +5,8 @@ use Rattle.std.specs.Str.{bytes_eq}
 use Rattle.std.proofs.Common.{◌≡◌, ℕ, zero, suc, ◌<◌, ◌≤◌, Bool, true, false, cond, List, [], ◌∷◌, ◌++◌, length, replicate, set, Option, Some, None, refl, sym, ap, ◌∙◌, arith}
 use Rattle.std.proofs.lemmas.Slice.Eq.{bytes_eq-Decides}
 use Rattle.std.proofs.lemmas.Option.{slice_get_within}
-use Rattle.lq_tree.specs.declared.name.Binder.{Binder}
-use Rattle.lq_tree.specs.NameTable.{with_text, HasOneNumberEach}
+use Rattle.lq_name.specs.declared.name.Binder.{Binder}
+use Rattle.lq_name.specs.NameTable.{with_text, HasOneNumberEach}
 use Rattle.lq_app.specs.Visible.{seen}
 
 -- the binder at a number, where there is one

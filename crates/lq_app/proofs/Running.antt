@@ -3,7 +3,7 @@ use Rattle.std.specs.Prelude.{slice_get, ◌==◌, ℤ}
 use Rattle.std.proofs.Common.{◌≡◌, ℕ, zero, suc, ◌+◌, ◌<◌, ◌≤◌, Bool, true, false, cond, List, [], ◌∷◌, map, get_or, Some, refl, sym, ap, subst, ◌∙◌, arith}
 use Rattle.std.proofs.lemmas.Bool.Decides.{Decides-eqb}
 use Rattle.std.proofs.lemmas.Option.{slice_get_within, slice_get-get_or}
-use Rattle.lq_tree.specs.declared.name.Binder.{Binder}
+use Rattle.lq_name.specs.declared.name.Binder.{Binder}
 use Rattle.lq_app.specs.declared.small.token.Span.{Span}
 use Rattle.lq_app.specs.declared.small.item.Right.{Right}
 use Rattle.lq_app.specs.declared.small.item.Right.TheVariants as right

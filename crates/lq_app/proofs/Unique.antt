@@ -3,7 +3,7 @@ use Rattle.std.specs.Prelude.{slice_get, IsSomeAnd}
 use Rattle.std.proofs.Common.{◌≡◌, inl, inr, ⊎_elim, ℕ, suc, List, [], ◌∷◌, length, get_or, Option, Some, None, Ok, Err, refl, sym, ap, subst, ◌∙◌, arith}
 use Rattle.std.proofs.lemmas.Option.{slice_get_within, slice_get-get_or}
 use Rattle.std.proofs.lemmas.Bool.{cases_lt}
-use Rattle.lq_tree.specs.declared.name.Binder.{Binder}
+use Rattle.lq_name.specs.declared.name.Binder.{Binder}
 use Rattle.lq_app.specs.declared.small.token.Span.{Span}
 use Rattle.lq_app.specs.declared.small.item.Right.{Right}
 use Rattle.lq_app.specs.declared.small.item.Right.TheVariants as right

@@ -1,6 +1,6 @@
 -- Which definition each use of a name means, and which names have none.
 use Rattle.std.specs.Prelude.{◌≡◌, ℕ, ◌<◌, List, length, slice_get, Some, IsSomeAnd}
-use Rattle.lq_tree.specs.declared.name.Binder.{Binder}
+use Rattle.lq_name.specs.declared.name.Binder.{Binder}
 use Rattle.lq_app.specs.declared.small.token.Span.{Span}
 use Rattle.lq_app.specs.declared.small.item.Right.{Right}
 use Rattle.lq_app.specs.declared.small.item.Right.TheVariants as right

@@ -4,7 +4,7 @@ ghost use Rattle.lq_app.specs.Report.{visit, IsVerdict, IsDue};
 use crate::report::{file_report, usage_report};
 use crate::{Judgement, Refusal, Status, Words, judge};
 use lq_io::{FetchError, Folder};
-use lq_tree::TextBuf;
+use lq_name::TextBuf;
 use std::alloc::{AllocError, Global};
 
 // The greatest number of bytes of a file.

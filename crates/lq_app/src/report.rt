@@ -5,7 +5,7 @@ ghost use Rattle.lq_app.specs.Report.{file_line};
 
 use crate::small::{Span, name_bytes, place_of};
 use itoa::Buffer;
-use lq_tree::TextBuf;
+use lq_name::TextBuf;
 use std::alloc::{AllocError, Global};
 
 // A line on a file.

@@ -6,7 +6,7 @@ ghost use Rattle.lq_app.specs.Judgement.{IsAccepted, IsJudgement};
 
 use crate::report::{unbuilt_report, unknown_report};
 use crate::small::{ReadError, ScopeError, read_program, resolve};
-use lq_tree::TextBuf;
+use lq_name::TextBuf;
 use std::alloc::{AllocError, Global};
 use thiserror::Error;
 

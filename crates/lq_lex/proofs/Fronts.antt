@@ -5,7 +5,7 @@ use Rattle.std.specs.List.{prefix_len}
 use Rattle.std.proofs.lemmas.Bool.{eqb-false}
 use Rattle.std.proofs.lemmas.List.Folds.{length-prefix_len}
 use Rattle.std.specs.Str.{bytes_eq}
-use Rattle.lq_tree.specs.declared.place.TextKind.{TextKind}
+use Rattle.lq_name.specs.declared.place.TextKind.{TextKind}
 use Rattle.lq_lex.specs.declared.front.Front.{Front}
 use Rattle.lq_lex.specs.declared.front.Front.TheVariants as fronts
 use Rattle.lq_lex.specs.Bytes.{is_blank, is_digit, begins_lower, begins_upper, is_name_byte, is_number_byte}

@@ -1,8 +1,8 @@
 -- A text that is lexed from left to right.
 use Rattle.std.proofs.Common.{◌≡◌, ◌≤◌, ◌+◌, ℕ, List, [], ◌∷◌, ◌++◌, length, length-drop, drop, refl, sym, ap, ◌∙◌, subst, arith}
 use Rattle.std.proofs.lemmas.List.{drop-drop, append-nil}
-use Rattle.lq_tree.specs.declared.place.TextKind.{TextKind}
-use Rattle.lq_tree.specs.declared.place.Place.{Place}
+use Rattle.lq_name.specs.declared.place.TextKind.{TextKind}
+use Rattle.lq_name.specs.declared.place.Place.{Place}
 use Rattle.lq_lex.specs.declared.token.TokenKind.{TokenKind}
 use Rattle.lq_lex.specs.declared.token.Token.{Token}
 use Rattle.lq_lex.specs.declared.error.LexError.TheVariants as errors

@@ -1,6 +1,6 @@
 -- A text has one list of tokens, or one first fault, and never both.
 use Rattle.std.proofs.Common.{◌≡◌, ◌+◌, ℕ, List, [], ◌∷◌, drop, refl, sym, ap, ◌∙◌, subst}
-use Rattle.lq_tree.specs.declared.place.TextKind.{TextKind}
+use Rattle.lq_name.specs.declared.place.TextKind.{TextKind}
 use Rattle.lq_lex.specs.declared.token.TokenKind.{TokenKind}
 use Rattle.lq_lex.specs.declared.token.Token.{Token}
 use Rattle.lq_lex.specs.declared.error.LexError.{LexError}

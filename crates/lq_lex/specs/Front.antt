@@ -1,7 +1,7 @@
 -- What stands at the front of bytes: a blank, the beginning of a comment, the longest token, or a fault.
 use Rattle.std.specs.Prelude.{ℕ, ◌+◌, ◌-◌, ◌*◌, ◌^◌, ◌==◌, ◌<◌, ◌≤◌, Bool, false, nat_lt, List, [], ◌∷◌, length, drop, take_while, if◌then◌else◌, codes}
 use Rattle.std.specs.Str.{bytes_eq}
-use Rattle.lq_tree.specs.declared.place.TextKind.{TextKind}
+use Rattle.lq_name.specs.declared.place.TextKind.{TextKind}
 use Rattle.lq_lex.specs.declared.token.TokenKind.TheVariants as kinds
 use Rattle.lq_lex.specs.declared.front.Front.{Front}
 use Rattle.lq_lex.specs.declared.front.Front.TheVariants.{End, Blank, Comment, Token, BadByte, LiteralPast}

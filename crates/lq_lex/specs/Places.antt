@@ -1,7 +1,7 @@
 -- Places by offsets: lines and columns count from 1, columns in bytes.
 use Rattle.std.specs.Prelude.{◌≡◌, ℕ, ◌+◌, ◌≤◌, ◌==◌, Bool, not, List, length, take, reverse, take_while, count_by}
-use Rattle.lq_tree.specs.declared.place.Place.{Place}
-use Rattle.lq_tree.specs.declared.place.TextKind.{TextKind}
+use Rattle.lq_name.specs.declared.place.Place.{Place}
+use Rattle.lq_name.specs.declared.place.TextKind.{TextKind}
 use Rattle.lq_lex.specs.declared.cursor.Cursor.{Cursor}
 
 abbrev pub is_line_feed : ℕ → Bool

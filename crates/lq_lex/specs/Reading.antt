@@ -1,7 +1,7 @@
 -- The tokens of a text, and the first fault of a text that has none.
 use Rattle.std.specs.Prelude.{◌≡◌, ℕ, ◌+◌, ◌-◌, List, [], ◌∷◌, length, drop}
-use Rattle.lq_tree.specs.declared.place.Place.{Place}
-use Rattle.lq_tree.specs.declared.place.TextKind.{TextKind}
+use Rattle.lq_name.specs.declared.place.Place.{Place}
+use Rattle.lq_name.specs.declared.place.TextKind.{TextKind}
 use Rattle.lq_lex.specs.declared.token.TokenKind.{TokenKind}
 use Rattle.lq_lex.specs.declared.token.Token.{Token}
 use Rattle.lq_lex.specs.declared.token.Tokens.{Tokens}

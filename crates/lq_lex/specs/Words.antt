@@ -2,8 +2,8 @@
 use Rattle.std.specs.Prelude.{ℕ, List, [], ◌∷◌, codes, ◌==◌, Bool, ◌&&◌, ◌||◌, if◌then◌else◌}
 use Rattle.std.specs.List.{list_any}
 use Rattle.std.specs.Str.{bytes_eq}
-use Rattle.lq_tree.specs.declared.place.TextKind.{TextKind}
-use Rattle.lq_tree.specs.declared.place.TextKind.TheVariants.{Program, Measures, Quals}
+use Rattle.lq_name.specs.declared.place.TextKind.{TextKind}
+use Rattle.lq_name.specs.declared.place.TextKind.TheVariants.{Program, Measures, Quals}
 
 -- words of literals and operators
 abbrev pub operator_words : List (List ℕ)

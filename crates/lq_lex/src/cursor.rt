@@ -1,7 +1,7 @@
 // An offset of a text with its line and column.
 ghost use Rattle.std.specs.Prelude.{◌≡◌, ◌+◌, ◌<◌, ◌≤◌, ◌^◌, length};
 
-use lq_tree::{Place, TextKind};
+use lq_name::{Place, TextKind};
 
 #[derive(Clone, Copy)]
 pub(crate) struct Cursor {

@@ -1,7 +1,7 @@
 ghost use Rattle.std.specs.Prelude.{◌≡◌};
 ghost use Rattle.lq_lex.specs.declared.error.LexError.TheVariants.{Memory};
 
-use lq_tree::Place;
+use lq_name::Place;
 use std::alloc::AllocFailed;
 use thiserror::Error;
 

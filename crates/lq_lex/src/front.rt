@@ -8,7 +8,7 @@ use crate::bytes::{
 use crate::comments::rest_from;
 use crate::token::TokenKind;
 use crate::words::{is_keyword, symbol_len};
-use lq_tree::TextKind;
+use lq_name::TextKind;
 
 #[derive(Clone, Copy)]
 pub(crate) enum Front {

@@ -1,14 +1,14 @@
 ghost use Rattle.std.specs.Prelude.{◌≡◌, ◌≤◌, ◌^◌, ℕ, List, length, IfOk, IfErr, ◌⊎◌};
 ghost use Rattle.lq_lex.specs.Places.{place_at};
 ghost use Rattle.lq_lex.specs.Reading.{IsTokens, HasFault, HasOneReading, tokens_of, end_place_of};
-ghost use Rattle.lq_tree.specs.declared.place.TextKind.{TextKind};
+ghost use Rattle.lq_name.specs.declared.place.TextKind.{TextKind};
 
 use crate::comments::behind_comment;
 use crate::cursor::Cursor;
 use crate::error::LexError;
 use crate::front::{Front, front_at};
 use crate::token::{Token, Tokens};
-use lq_tree::TextKind;
+use lq_name::TextKind;
 use std::alloc::Global;
 
 /// The tokens of a text. The first fault in the order of the text is the one that is answered.

@@ -1,5 +1,5 @@
 use crate::{LexError, TokenKind, lex};
-use lq_tree::{Place, TextKind};
+use lq_name::{Place, TextKind};
 use std::alloc::{AllocError, Global};
 use std::process::Abort;
 use std::test::Fail;

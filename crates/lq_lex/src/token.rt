@@ -1,7 +1,7 @@
 ghost use Rattle.std.specs.Prelude.{◌≡◌, length, slice_get, IsTrue, ◌↔◌, []};
 ghost use Rattle.std.specs.Option.{option_copied};
 
-use lq_tree::Place;
+use lq_name::Place;
 
 /// The kind of a token. Which word or symbol it is, its bytes say.
 #[derive(Clone, Copy, Debug, PartialEq, Eq)]

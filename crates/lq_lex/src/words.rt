@@ -2,7 +2,7 @@
 ghost use Rattle.std.specs.Prelude.{◌≡◌};
 ghost use Rattle.lq_lex.specs.Words.{is_keyword, is_among, is_reserved, operator_words, binding_words, branch_words, module_words, loop_words, other_words, heading_words, is_pair, is_triple, is_single, symbol_len};
 
-use lq_tree::TextKind;
+use lq_name::TextKind;
 
 fn is_operator_word(word: &[u8]) -> bool
     ensures { result ≡ is_among operator_words word.now }

@@ -4,5 +4,4 @@ pub mod Finds
 pub mod Frees
 pub mod PatternViews
 pub mod SimpleTypeViews
-pub mod Texts
 pub mod TreeViews

@@ -6,7 +6,7 @@ use Rattle.std.specs.declared.vec.Vec.{Vec}
 use Rattle.std.proofs.lemmas.List.{take_all}
 use Rattle.lq_tree.specs.Tree.{Form, Tree, Trees, Cases, build, match_on}
 use Rattle.lq_tree.specs.TreeView.{Case, Recursive, cases_of, trees_of, form_view, case_view, cases_view, tree_view, trees_view, node_step, arm_step, arms_step, expr_step, exprs_step, function_step}
-use Rattle.lq_tree.specs.declared.name.Name.{Name}
+use Rattle.lq_name.specs.declared.name.Name.{Name}
 use Rattle.lq_tree.specs.declared.expr.Arguments.{Arguments}
 use Rattle.lq_tree.specs.declared.expr.Expr.{Expr}
 use Rattle.lq_tree.specs.declared.expr.Exprs.{Exprs, out-Exprs, roll-Exprs, fold-roll-Exprs, fold_out-Exprs}

@@ -1,5 +1,5 @@
 -- Free names as they are found, one after another: the names that are bound, those found so far, and those found then.
-use Rattle.std.specs.Prelude.{ℕ, nat_eq, List, [], ◌∷◌, if◌then◌else◌}
+use Rattle.std.specs.Prelude.{ℕ, nat_eq, List, if◌then◌else◌}
 use Rattle.std.specs.List.{list_any}
 use Rattle.indexmap.specs.IndexSet.{insert_key, insert_all}
 use Rattle.lq_tree.specs.Pattern.{bound_in}

@@ -12,8 +12,8 @@ use Rattle.lq_tree.specs.declared.item.ItemNode.{ItemNode}
 use Rattle.lq_tree.specs.declared.item.ItemNode.TheVariants as node
 use Rattle.lq_tree.specs.declared.item.TypeDefinition.{TypeDefinition}
 use Rattle.lq_tree.specs.declared.item.TypeParameter.{TypeParameter}
-use Rattle.lq_tree.specs.declared.name.Name.{Name}
-use Rattle.lq_tree.specs.declared.place.Place.{Place}
+use Rattle.lq_name.specs.declared.name.Name.{Name}
+use Rattle.lq_name.specs.declared.place.Place.{Place}
 
 -- a name where it is defined
 pub record Named : Type 0 where

@@ -5,7 +5,6 @@ pub mod Items
 pub mod Levels
 pub mod MeasureTrees
 pub mod MlType
-pub mod NameTable
 pub mod Pattern
 pub mod PatternView
 pub mod PredTree
@@ -17,3 +16,4 @@ pub mod Tree
 pub mod TreeView
 pub mod TypeTree
 pub mod TypeView
+pub use Rattle.lq_name.specs.NameTable

@@ -7,8 +7,8 @@ use Rattle.lq_tree.specs.PredTree.{PredTree}
 use Rattle.lq_tree.specs.PredView.{pred_view}
 use Rattle.lq_tree.specs.declared.measures.Equation.{Equation}
 use Rattle.lq_tree.specs.declared.measures.Measure.{Measure}
-use Rattle.lq_tree.specs.declared.name.Name.{Name}
-use Rattle.lq_tree.specs.declared.place.Place.{Place}
+use Rattle.lq_name.specs.declared.name.Name.{Name}
+use Rattle.lq_name.specs.declared.place.Place.{Place}
 
 pub record EquationTree : Type 0 where
   pub pattern : Pattern

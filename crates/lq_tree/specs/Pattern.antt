@@ -1,6 +1,6 @@
 -- What a pattern is, without the memory that holds it. A variable is its number.
 use Rattle.std.specs.Prelude.{ℕ, List, [], ◌∷◌, ◌++◌}
-use Rattle.lq_tree.specs.declared.place.Place.{Place}
+use Rattle.lq_name.specs.declared.place.Place.{Place}
 
 mutual
   pub data Pattern : Type 0 where

@@ -1,8 +1,8 @@
 -- What a written predicate or term is, without the memory that holds it. A name is its number.
 use Rattle.std.specs.Prelude.{ℕ, ℤ, Bool}
-use Rattle.lq_tree.specs.declared.operation.ArithOp.{ArithOp}
-use Rattle.lq_tree.specs.declared.operation.CompareOp.{CompareOp}
-use Rattle.lq_tree.specs.declared.place.Place.{Place}
+use Rattle.lq_name.specs.declared.operation.ArithOp.{ArithOp}
+use Rattle.lq_name.specs.declared.operation.CompareOp.{CompareOp}
+use Rattle.lq_name.specs.declared.place.Place.{Place}
 
 mutual
   pub data PredTree : Type 0 where

@@ -3,7 +3,7 @@ use Rattle.std.specs.Prelude.{ℕ, max, List, [], ◌∷◌, map}
 use Rattle.lq_tree.specs.Levels.{pred_nesting}
 use Rattle.lq_tree.specs.PredTree.{PredTree}
 use Rattle.lq_tree.specs.PredView.{pred_view}
-use Rattle.lq_tree.specs.declared.place.Place.{Place}
+use Rattle.lq_name.specs.declared.place.Place.{Place}
 use Rattle.lq_tree.specs.declared.quals.Qualifier.{Qualifier}
 
 pub record QualifierTree : Type 0 where

@@ -1,5 +1,5 @@
 -- The simple type that stands in memory.
-use Rattle.std.specs.Prelude.{ℕ, List, [], ◌∷◌}
+use Rattle.std.specs.Prelude.{List, [], ◌∷◌}
 use Rattle.lq_tree.specs.MlType.{MlType, int, bool, unit, var, arrow, tuple, array, named, map_of, MlTypes, no_types, more_types}
 use Rattle.lq_tree.specs.declared.simple_type.SimpleType.{SimpleType, fold-SimpleType}
 use Rattle.lq_tree.specs.declared.simple_type.SimpleTypes.{SimpleTypes, fold-SimpleTypes, out-SimpleTypes}

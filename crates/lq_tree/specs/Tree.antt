@@ -1,9 +1,9 @@
 -- What an expression is, without the memory that holds it. A name or a binder is its number.
-use Rattle.std.specs.Prelude.{ℕ, ◌+◌, max, ℤ, Bool}
+use Rattle.std.specs.Prelude.{ℕ, ℤ, Bool}
 use Rattle.lq_tree.specs.declared.expr.Arguments.{Arguments}
-use Rattle.lq_tree.specs.declared.operation.ArithOp.{ArithOp}
-use Rattle.lq_tree.specs.declared.operation.CompareOp.{CompareOp}
-use Rattle.lq_tree.specs.declared.place.Place.{Place}
+use Rattle.lq_name.specs.declared.operation.ArithOp.{ArithOp}
+use Rattle.lq_name.specs.declared.operation.CompareOp.{CompareOp}
+use Rattle.lq_name.specs.declared.place.Place.{Place}
 use Rattle.lq_tree.specs.Pattern.{Pattern}
 
 mutual

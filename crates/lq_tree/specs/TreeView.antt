@@ -3,9 +3,9 @@ use Rattle.std.specs.Prelude.{ℕ, List, [], ◌∷◌}
 use Rattle.lq_tree.specs.Pattern.{Pattern}
 use Rattle.lq_tree.specs.PatternView.{pat_view}
 use Rattle.lq_tree.specs.Tree.{Tree, tree, Form, whole, flag, unit, use_of, qualified, fun, tuple, build, list_of, let_in, let_rec, call, arithmetic, negated, compare, not_of, and_of, or_of, if_else, match_on, chain, assert, assert_false, make, length_of, fetch, store, print, read, map_empty, map_add, map_find, Trees, no_trees, more_trees, Cases, no_cases, more_cases}
-use Rattle.lq_tree.specs.declared.name.Name.{Name}
-use Rattle.lq_tree.specs.declared.name.Binder.{Binder}
-use Rattle.lq_tree.specs.declared.place.Place.{Place}
+use Rattle.lq_name.specs.declared.name.Name.{Name}
+use Rattle.lq_name.specs.declared.name.Binder.{Binder}
+use Rattle.lq_name.specs.declared.place.Place.{Place}
 use Rattle.lq_tree.specs.declared.expr.Expr.{Expr, fold-Expr}
 use Rattle.lq_tree.specs.declared.expr.Exprs.{Exprs, fold-Exprs, out-Exprs}
 use Rattle.lq_tree.specs.declared.expr.Function.{Function, fold-Function}

@@ -1,6 +1,6 @@
 -- What a written type is, without the memory that holds it. A name is its number.
 use Rattle.std.specs.Prelude.{ℕ}
-use Rattle.lq_tree.specs.declared.place.Place.{Place}
+use Rattle.lq_name.specs.declared.place.Place.{Place}
 
 mutual
   pub data TypeTree : Type 0 where

@@ -1,5 +1,5 @@
 -- The written type that stands in memory.
-use Rattle.std.specs.Prelude.{ℕ, List, [], ◌∷◌}
+use Rattle.std.specs.Prelude.{List, [], ◌∷◌}
 use Rattle.lq_tree.specs.TypeTree.{TypeTree, type_tree, TypeForm, variable, apply, product, arrow, TypeTrees, no_type_trees, more_type_trees}
 use Rattle.lq_tree.specs.declared.type_expr.TypeExpr.{TypeExpr, fold-TypeExpr}
 use Rattle.lq_tree.specs.declared.type_expr.TypeExprs.{TypeExprs, fold-TypeExprs, out-TypeExprs}

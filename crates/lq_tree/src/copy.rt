@@ -4,8 +4,8 @@ ghost use Rattle.lq_tree.specs.PatternView.{pat_view, pat_form_view, pats_view};
 ghost use Rattle.lq_tree.specs.TreeView.{form_view, case_view, cases_view, function_view, tree_view, trees_view};
 
 use crate::expr::{Arm, Arms, Expr, Exprs, Function, Node};
-use crate::name::Ident;
 use crate::pattern::{Pat, PatNode, Pats};
+use lq_name::Ident;
 use std::alloc::{AllocError, Global};
 
 impl<B: Ident> Pat<B> {

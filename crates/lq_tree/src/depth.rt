@@ -4,7 +4,7 @@ ghost use Rattle.lq_tree.specs.Depth.{depth_of, depth_below, greatest_depth, gre
 ghost use Rattle.lq_tree.specs.TreeView.{form_view, case_view, cases_view, function_view, tree_view, trees_view};
 
 use crate::expr::{Arm, Arms, Expr, Exprs, Function, Node};
-use crate::name::Ident;
+use lq_name::Ident;
 
 impl<B: Ident> Expr<B> {
     /// The number of nodes on the longest path.

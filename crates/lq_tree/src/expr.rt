@@ -1,8 +1,6 @@
 // Expressions.
-use crate::name::Name;
-use crate::operation::{ArithOp, CompareOp};
 use crate::pattern::Pat;
-use crate::place::Place;
+use lq_name::{ArithOp, CompareOp, Name, Place};
 
 /// An expression: a node of a tree, with its number and the place of its first token.
 /// Parentheses around a node don't belong to it.

@@ -1,9 +1,8 @@
 // The items of a program.
 use crate::expr::{Expr, Function};
-use crate::name::Name;
 use crate::pattern::Pat;
-use crate::place::Place;
 use crate::type_expr::TypeExprs;
+use lq_name::{Name, Place};
 
 /// An item of a program, with the place of its first token.
 #[derive(Drop)]

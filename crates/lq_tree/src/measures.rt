@@ -2,10 +2,9 @@
 ghost use Rattle.std.specs.Prelude.{◌≡◌, ◌≤◌};
 ghost use Rattle.lq_tree.specs.MeasureTrees.{definitions_view, definitions_nesting};
 
-use crate::name::Name;
 use crate::pattern::Pat;
-use crate::place::Place;
 use crate::pred_expr::PredExpr;
+use lq_name::{Name, Place};
 
 /// A measure, with the place of its name.
 #[derive(Drop)]

@@ -1,7 +1,6 @@
 // Patterns.
-use crate::name::Name;
-use crate::place::Place;
 
+use lq_name::{Name, Place};
 /// A pattern, with the place of its first token. Parentheses around it don't belong to it.
 #[cycle(pattern)]
 #[derive(Drop)]

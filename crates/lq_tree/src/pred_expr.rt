@@ -1,8 +1,6 @@
 // Predicates as they are written.
-use crate::name::Name;
-use crate::operation::{ArithOp, CompareOp};
-use crate::place::Place;
 
+use lq_name::{ArithOp, CompareOp, Name, Place};
 /// A predicate or a term of a qualifier or a measure as it is written, with the place of its first token. Parentheses around it
 /// don't belong to it.
 #[cycle(pred_expr)]

@@ -4,7 +4,7 @@ ghost use Rattle.lq_tree.specs.Items.{parsed_items};
 ghost use Rattle.lq_tree.specs.Levels.{items_nesting};
 
 use crate::item::Item;
-use crate::name::Name;
+use lq_name::Name;
 
 /// A parsed program: its items in order. No tree of it nests deeper than 250 steps.
 #[derive(Drop)]

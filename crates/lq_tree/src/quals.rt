@@ -2,9 +2,8 @@
 ghost use Rattle.std.specs.Prelude.{◌≡◌, ◌≤◌};
 ghost use Rattle.lq_tree.specs.Qualifiers.{qualifiers_view, qualifiers_nesting};
 
-use crate::name::Name;
-use crate::place::Place;
 use crate::pred_expr::PredExpr;
+use lq_name::{Name, Place};
 
 /// A qualifier, with the place of its first token.
 #[derive(Drop)]

@@ -2,7 +2,7 @@
 ghost use Rattle.std.specs.Prelude.{◌≡◌, [], ◌∷◌, ◌++◌, length, slice_get, option_copied, IfOk, IsOkAnd, OnOk, OnErr};
 ghost use Rattle.lq_tree.specs.SimpleTypeView.{simple_type_view, simple_types_view, simple_types_items};
 
-use crate::name::Name;
+use lq_name::Name;
 use std::alloc::{AllocError, Global};
 
 /// A type without refinements, as the rules of ML give it. Its variables are numbered.

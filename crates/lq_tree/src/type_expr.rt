@@ -2,8 +2,7 @@
 ghost use Rattle.std.specs.Prelude.{◌≡◌, [], ◌∷◌, ◌++◌, length, slice_get, option_copied, IsOkAnd, OnOk, OnErr};
 ghost use Rattle.lq_tree.specs.TypeView.{type_exprs_items};
 
-use crate::name::Name;
-use crate::place::Place;
+use lq_name::{Name, Place};
 use std::alloc::{AllocError, Global};
 
 /// A type as it is written, with the place of its first token. Parentheses around it don't belong to it.

@@ -1,7 +1,7 @@
 ghost use Rattle.std.specs.Prelude.{◌≡◌, ◌≤◌, ◌^◌, length, count_by, take_while, reverse};
 ghost use Rattle.lq_app.specs.Places.{is_line_feed, is_in_line, line_of, column_of};
 
-use lq_tree::{Place, TextKind};
+use lq_name::{Place, TextKind};
 
 fn in_line(b: u8) -> bool
     ensures { result ≡ is_in_line b }

@@ -10,7 +10,7 @@ ghost use Rattle.lq_app.specs.Visible.{seen, IsFound, HasAsciiUse, HasAsciiNames
 use crate::small::item::{Item, Right};
 use crate::small::token::Span;
 use crate::small::visible::Visible;
-use lq_tree::Binder;
+use lq_name::Binder;
 use std::alloc::{AllocError, AllocFailed, Global};
 use thiserror::Error;
 

@@ -1,9 +1,9 @@
 ghost use Rattle.std.specs.Prelude.{◌≡◌, ℕ, ◌+◌, ◌-◌, ◌<◌, ◌≤◌, ◌^◌, List, length, slice_get, ◌++◌, max, OnErr, replicate, Some, None, IfOk, OnOk, if◌then◌else◌};
 ghost use Rattle.std.specs.Str.{bytes_eq, IsAscii};
-ghost use Rattle.lq_tree.specs.NameTable.{IsNameTable};
+ghost use Rattle.lq_name.specs.NameTable.{IsNameTable};
 ghost use Rattle.lq_app.specs.Visible.{seen};
 
-use lq_tree::{Binder, NameTable};
+use lq_name::{Binder, NameTable};
 use std::alloc::{AllocError, Global};
 use std::str;
 

@@ -8,7 +8,7 @@ use Rattle.lq_app.specs.declared.small.item.Item.{Item}
 use Rattle.lq_app.specs.declared.small.item.Right.TheVariants as right
 use Rattle.lq_app.specs.declared.small.scope.ScopeError.{ScopeError}
 use Rattle.lq_app.specs.declared.small.scope.ScopeError.TheVariants.{Unknown}
-use Rattle.lq_tree.specs.declared.name.Binder.{Binder}
+use Rattle.lq_name.specs.declared.name.Binder.{Binder}
 use Rattle.lq_app.specs.Program.{text_of}
 use Rattle.lq_app.specs.Visible.{seen}
 use Rattle.lq_app.proofs.Scoping.{BoundTo, latest_more, one_more, first_unknown}

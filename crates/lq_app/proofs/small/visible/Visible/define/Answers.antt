@@ -1,6 +1,6 @@
 use Rattle.std.proofs.Common.{◌≡◌, List, ap, cond, Option, Some, ◌∙◌, ◌+◌, ◌-◌, length}
 use Rattle.std.specs.Str.{bytes_eq}
-use Rattle.lq_tree.specs.declared.name.Binder.{Binder}
+use Rattle.lq_name.specs.declared.name.Binder.{Binder}
 use Rattle.lq_app.specs.Visible.{seen}
 use Rattle.lq_app.proofs.Kept.{first_from_distinct, seen_set, seen_longer}
 use Rattle.lq_app.proofs.small.visible.Visible.define.Goals as goal

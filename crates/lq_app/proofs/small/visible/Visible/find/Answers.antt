@@ -1,7 +1,7 @@
 use Rattle.std.proofs.Common.{◌≡◌, List, Option, Some, None, sym, ap, ◌∙◌}
 use Rattle.std.specs.Prelude.{slice_get}
 use Rattle.std.proofs.lemmas.Option.{slice_get_past, slice_get-get_or}
-use Rattle.lq_tree.specs.declared.name.Binder.{Binder}
+use Rattle.lq_name.specs.declared.name.Binder.{Binder}
 use Rattle.lq_app.proofs.Kept.{kept_at, first_from_distinct, seen_at}
 use Rattle.lq_app.proofs.small.visible.Visible.find.Goals as goal
 

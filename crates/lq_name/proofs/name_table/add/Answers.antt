@@ -1,9 +1,9 @@
 use Rattle.std.proofs.Common.{sym, ap, ◌∙◌, Some}
 use Rattle.std.specs.String.{string_bytes}
 use Rattle.std.proofs.lemmas.Slice.Eq.{bytes_eq-Decides}
-use Rattle.lq_tree.specs.NameTable.{texts_of}
-use Rattle.lq_tree.proofs.Texts.{texts_of-insert_key, text-at, one_number_each}
-use Rattle.lq_tree.proofs.name_table.add.Goals as goal
+use Rattle.lq_name.specs.NameTable.{texts_of}
+use Rattle.lq_name.proofs.Texts.{texts_of-insert_key, text-at, one_number_each}
+use Rattle.lq_name.proofs.name_table.add.Goals as goal
 
 pub returns-clause-texts : goal.returns-clause-texts
 returns-clause-texts c =

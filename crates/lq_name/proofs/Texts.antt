@@ -11,7 +11,7 @@ use Rattle.std.proofs.lemmas.Bool.{cases_order}
 use Rattle.std.proofs.lemmas.List.{length-map, length-take, take-append-le}
 use Rattle.std.proofs.lemmas.Slice.Eq.{bytes_eq-Decides}
 use Rattle.indexmap.specs.IndexSet.{insert_key}
-use Rattle.lq_tree.specs.NameTable.{predeclared, with_text, texts_of, HasOneNumberEach, IsNameTable}
+use Rattle.lq_name.specs.NameTable.{predeclared, with_text, texts_of, HasOneNumberEach, IsNameTable}
 
 -- a string stands for its text
 pub any-texts : (k : String Global) (ks : List (String Global)) → list_any (string_eq k) ks ≡ list_any (bytes_eq (string_bytes k)) (texts_of ks)

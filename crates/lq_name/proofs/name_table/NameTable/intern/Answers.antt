@@ -1,8 +1,8 @@
 use Rattle.std.proofs.Common.{sym, ap, subst, ◌∙◌, ◌<◌, ◌-◌, ◌^◌, Some, arith, length, slice_get}
 use Rattle.std.proofs.lemmas.Option.{slice_get_within}
-use Rattle.lq_tree.specs.NameTable.{texts_of, with_text, IsNameTable}
-use Rattle.lq_tree.proofs.Texts.{find-text, with_text-known, text-at, IsNameTable-with_text}
-use Rattle.lq_tree.proofs.name_table.NameTable.intern.Goals as goal
+use Rattle.lq_name.specs.NameTable.{texts_of, with_text, IsNameTable}
+use Rattle.lq_name.proofs.Texts.{find-text, with_text-known, text-at, IsNameTable-with_text}
+use Rattle.lq_name.proofs.name_table.NameTable.intern.Goals as goal
 
 pub returns-in-Some-clause-texts : goal.returns-in-Some-clause-texts
 returns-in-Some-clause-texts c =

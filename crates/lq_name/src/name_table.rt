@@ -1,6 +1,6 @@
 // Texts by number.
 ghost use Rattle.std.specs.Prelude.{◌≡◌, ◌-◌, ◌<◌, ◌^◌, length, slice_get, Some, IfOk, OnOk, OnErr};
-ghost use Rattle.lq_tree.specs.NameTable.{predeclared, with_text, texts_of, HasOneNumberEach, IsNameTable};
+ghost use Rattle.lq_name.specs.NameTable.{predeclared, with_text, texts_of, HasOneNumberEach, IsNameTable};
 
 use crate::name::Name;
 use indexmap::IndexSet;
@@ -22,7 +22,7 @@ pub struct NameTable {
 
 impl Model for NameTable {
     ghost use Rattle.std.specs.Prelude.{List, ℕ};
-    ghost use Rattle.lq_tree.specs.NameTable.{texts_of, IsNameTable};
+    ghost use Rattle.lq_name.specs.NameTable.{texts_of, IsNameTable};
 
     ghost Value = { List (List ℕ) };
 

@@ -1,6 +1,6 @@
 use Rattle.std.proofs.Common.{◌≡◌, [], map, fold, take}
-use Rattle.lq_tree.specs.NameTable.{with_text, texts_of, HasOneNumberEach}
-use Rattle.lq_tree.proofs.name_table.NameTable.new.Given as goal
+use Rattle.lq_name.specs.NameTable.{with_text, texts_of, HasOneNumberEach}
+use Rattle.lq_name.proofs.name_table.NameTable.new.Given as goal
 
 abbrev pub invariant-loop-text : goal.invariant-loop-text
 invariant-loop-text l = record {
