@@ -1,2 +1,11 @@
 pub mod Sum
 pub mod TermView
+pub mod Table
+pub mod TableView
+pub mod LinearForm
+pub mod Comparison
+pub mod Formula
+pub mod PredView
+pub mod Reading
+pub mod SameLaws
+pub mod Hashed

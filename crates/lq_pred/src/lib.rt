@@ -1,8 +1,14 @@
 //! Predicates, their tightened readings, and points.
 #![tactic(auto)]
 
+mod nnf;
+mod pred;
 mod symbol;
+mod table;
 mod term;
 
-pub use symbol::Symbol;
-pub use term::Term;
+pub use nnf::{Nnf, Nnfs};
+pub use pred::{Closed, CompareOp, Pred, Preds};
+pub use symbol::{Shape, Sort, Symbol};
+pub use table::TermTable;
+pub use term::{Term, Terms};

@@ -3,6 +3,7 @@ ghost use Rattle.std.specs.Prelude.{◌≡◌, ◌↔◌, IsTrue, IfOk};
 use crate::symbol::Symbol;
 use lq_tree::Name;
 use std::alloc::{AllocError, Global};
+use std::hash::{Hash, Hasher};
 
 /// A term.
 #[derive(Debug, Drop)]
@@ -22,6 +23,8 @@ pub enum Term {
 impl Term {
     ghost use Rattle.lq_pred.specs.Sum.{same};
     ghost use Rattle.lq_pred.specs.TermView.{sum_of};
+    ghost use Rattle.std.specs.Prelude.{fold};
+    ghost use Rattle.lq_pred.specs.Hashed.{writes_of};
 
     /// An equal term.
     #[cycle(copy)]
@@ -68,12 +71,123 @@ impl Term {
             _ => false,
         }
     }
+
+    // Feeds the term to a hasher, each form under a number of its own.
+    fn feed<H: Hasher>(&self, state: &mut H)
+        ensures { state.new ≡ fold H.write state.old (writes_of (sum_of self.now)) }
+    {
+        match self {
+            Term::Whole(n) => {
+                state.write_u8(0);
+                state.write_i128(*n);
+            }
+            Term::Var(x) => {
+                state.write_u8(1);
+                feed_symbol(*x, state);
+            }
+            Term::Neg(a) => {
+                state.write_u8(2);
+                a.feed(state);
+            }
+            Term::Add(a, b) => {
+                state.write_u8(3);
+                a.feed(state);
+                b.feed(state);
+            }
+            Term::Sub(a, b) => {
+                state.write_u8(4);
+                a.feed(state);
+                b.feed(state);
+            }
+            Term::Mul(a, b) => {
+                state.write_u8(5);
+                a.feed(state);
+                b.feed(state);
+            }
+            Term::Div(a, b) => {
+                state.write_u8(6);
+                a.feed(state);
+                b.feed(state);
+            }
+            Term::Mod(a, b) => {
+                state.write_u8(7);
+                a.feed(state);
+                b.feed(state);
+            }
+            Term::Length(a) => {
+                state.write_u8(8);
+                a.feed(state);
+            }
+            Term::Measure(name, a) => {
+                state.write_u8(9);
+                state.write_u32(name.0);
+                a.feed(state);
+            }
+        }
+    }
 }
 
+impl PartialEq for Term {
+    ghost use Rattle.lq_pred.specs.Sum.{same};
+    ghost use Rattle.lq_pred.specs.TermView.{sum_of};
+    ghost use Rattle.lq_pred.specs.SameLaws.{same_partial_laws};
+
+    ghost eq = { λ a b. same (sum_of a) (sum_of b) };
+
+    ghost laws = { same_partial_laws };
+
+    fn eq(&self, other: &Term) -> bool {
+        self.is_same(other)
+    }
+}
+
+impl Eq for Term {
+    ghost use Rattle.lq_pred.specs.SameLaws.{same_laws};
+
+    ghost laws = { same_laws };
+}
+
+impl Hash for Term {
+    ghost use Rattle.lq_pred.specs.TermView.{sum_of};
+    ghost use Rattle.lq_pred.specs.Hashed.{writes_of, writes-same};
+
+    ghost hash_input = { λ t. writes_of (sum_of t) };
+
+    ghost respects_eq = { λ a b h. writes-same (sum_of a) (sum_of b) h };
+
+    fn hash<H: Hasher>(&self, state: &mut H) {
+        self.feed(state);
+    }
+}
+
+ghost use Rattle.std.specs.Prelude.{fold};
 ghost use Rattle.lq_pred.specs.Sum.{same_symbol};
+ghost use Rattle.lq_pred.specs.Hashed.{symbol_writes};
+
+fn feed_symbol<H: Hasher>(x: Symbol, state: &mut H)
+    ensures { state.new ≡ fold H.write state.old (symbol_writes x) }
+{
+    match x {
+        Symbol::Value => state.write_u8(10),
+        Symbol::Bound(name) => {
+            state.write_u8(11);
+            state.write_u32(name.0);
+        }
+        Symbol::Position(at) => {
+            state.write_u8(12);
+            state.write_u32(at);
+        }
+    }
+}
 
 fn is_same_symbol(x: Symbol, y: Symbol) -> bool
     ensures { result ≡ same_symbol x y }
 {
     x == y
+}
+
+/// Terms in a row.
+#[derive(Debug, Drop)]
+pub struct Terms {
+    items: Vec<Term>,
 }

@@ -1,7 +1,7 @@
 use Rattle.std.proofs.Common.{◌≡◌, ◌∙◌, ap, sym, false}
 use Rattle.lq_pred.specs.Sum.{same}
 use Rattle.lq_pred.specs.TermView.{sum_of}
-use Rattle.lq_pred.proofs.Terms.{not_whole, not_var, not_neg, not_add, not_sub, not_mul, not_div, not_mod, not_length, not_measure}
+use Rattle.lq_pred.proofs.TermForms.{not_whole, not_var, not_neg, not_add, not_sub, not_mul, not_div, not_mod, not_length, not_measure}
 use Rattle.lq_pred.proofs.term.Term.+is_same.Goals as goal
 
 pub returns-in_default : goal.returns-in_default
