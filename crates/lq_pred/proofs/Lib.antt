@@ -1,1 +1,3 @@
 pub mod TermForms
+pub mod Numbering
+pub mod Keys
