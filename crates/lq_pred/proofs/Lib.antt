@@ -1,3 +1,4 @@
 pub mod TermForms
 pub mod Numbering
 pub mod Keys
+pub mod Merging

@@ -9,3 +9,4 @@ pub mod PredView
 pub mod Reading
 pub mod SameLaws
 pub mod Hashed
+pub mod FormOf

@@ -1,12 +1,15 @@
 //! Predicates, their tightened readings, and points.
 #![tactic(auto)]
 
+mod error;
+mod form;
 mod nnf;
 mod pred;
 mod symbol;
 mod table;
 mod term;
 
+pub use error::GatherError;
 pub use nnf::{Nnf, Nnfs};
 pub use pred::{Closed, CompareOp, Pred, Preds};
 pub use symbol::{Shape, Sort, Symbol};
