@@ -2,3 +2,4 @@ pub mod TermForms
 pub mod Numbering
 pub mod Keys
 pub mod Merging
+pub mod Growing

@@ -1,10 +1,11 @@
 -- Terms of two forms are not one.
-use Rattle.std.proofs.Common.{◌≡◌, ℤ, refl, false}
+use Rattle.std.proofs.Common.{◌≡◌, ℤ, refl, false, Some, None}
 use Rattle.std.specs.declared.alloc.Global.{Global}
 use Rattle.std.specs.declared.boxed.Box.{Box}
 use Rattle.lq_tree.specs.declared.name.Name.{Name}
 use Rattle.lq_pred.specs.declared.symbol.Symbol.{Symbol}
 use Rattle.lq_pred.specs.Sum.{Sum, whole, var, neg, add, sub, mul, div, rem, len, measure, same}
+use Rattle.lq_pred.specs.Table.{literal_of}
 use Rattle.lq_pred.specs.TermView.{sum_of}
 use Rattle.lq_pred.specs.declared.term.Term.{Term, Whole, Var, Neg', Add', Sub', Mul', Div', Mod', Length', Measure', Neg, Add, Sub, Mul, Div, Mod, Length, Measure}
 
@@ -47,3 +48,11 @@ not_length s _ k = refl
 pub not_measure : (f : Name) (s : Sum) (t : Term) → ((g : Name) (a : Box Term Global) → t ≡ Measure g a → ⊥) → false ≡ same (measure f s) (sum_of t)
 not_measure f s (Measure' g p a) k = absurd (k _ _ refl)
 not_measure f s _ k = refl
+
+pub not_literal : (t : Term) → ((m : ℤ) → t ≡ Whole m → ⊥) → None ≡ literal_of (sum_of t)
+not_literal (Whole m) k = absurd (k _ refl)
+not_literal _ k = refl
+
+pub of_literal : (s : Sum) (n : ℤ) → literal_of s ≡ Some n → s ≡ whole n
+of_literal (whole m) n h = cc
+of_literal _ n h = cc

@@ -26,10 +26,14 @@ CanCombine subtract m n = (q : ℕ) → FitsSigned w128 (combined subtract (at m
 abbrev pub IsCombined : Bool → BTreeMap ℕ ℤ → BTreeMap ℕ ℤ → BTreeMap ℕ ℤ → Type 0
 IsCombined subtract m n r = (q : ℕ) → at r q ≡ combined subtract (at m q) (at n q)
 
--- the coefficients and the constant of a sum, its terms numbered by the list
-pub record IsFormOf (terms : List Sum) (f : Form) (s : Sum) : Type 0 where
-  pub constant : f.constant ≡ constant_of s
+-- the form has this constant and these coefficients, the terms numbered by the list
+pub record HasForm (terms : List Sum) (f : Form) (constant_is : ℤ) (coefficient_is : Sum → ℤ) : Type 0 where
+  pub constant : f.constant ≡ constant_is
   pub constant_fits : FitsSigned w128 f.constant
-  pub coefficients : (t : Sum) → at f.coefficients (index_of terms t) ≡ coefficient s t
+  pub coefficients : (t : Sum) → at f.coefficients (index_of terms t) ≡ coefficient_is t
   pub within : (q : ℕ) → length terms ≤ q → at f.coefficients q ≡ pos 0
   pub fit : AllFit f.coefficients
+
+-- it is the form of a sum
+abbrev pub IsFormOf : List Sum → Form → Sum → Type 0
+IsFormOf terms f s = HasForm terms f (constant_of s) (coefficient s)

@@ -1,5 +1,5 @@
 -- Numbered terms: a list in which a term's number is its index.
-use Rattle.std.specs.Prelude.{ℕ, suc, ℤ, Bool, true, false, ◌&&◌, not, List, [], ◌∷◌, ◌++◌, Option, Some, None, if◌then◌else◌}
+use Rattle.std.specs.Prelude.{◌≡◌, ℕ, suc, ℤ, Bool, true, false, ◌&&◌, not, List, [], ◌∷◌, ◌++◌, Option, Some, None, if◌then◌else◌}
 use Rattle.std.specs.List.{list_any}
 use Rattle.lq_pred.specs.Sum.{Sum, whole, var, neg, add, sub, mul, div, rem, len, measure, same}
 
@@ -55,3 +55,8 @@ numbered terms (div a b) = with_term (numbered (numbered terms a) b) (div a b)
 numbered terms (rem a b) = with_term (numbered (numbered terms a) b) (rem a b)
 numbered terms (len a) = with_term terms (len a)
 numbered terms (measure f a) = with_term terms (measure f a)
+
+-- the new list is the old one with possibly more terms after it
+pub record Extends (old new : List Sum) : Type 0 where
+  pub more : List Sum
+  pub is : new ≡ old ++ more

@@ -3,6 +3,7 @@
 
 mod error;
 mod form;
+mod gather;
 mod nnf;
 mod pred;
 mod symbol;

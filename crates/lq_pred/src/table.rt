@@ -15,7 +15,7 @@ pub struct TermTable {
 
 impl TermTable {
     ghost use Rattle.std.specs.Prelude.{◌≡◌, ◌<◌, IsTrue, List, [], length, slice_get, Some, IfOk, OnOk, OnErr};
-    ghost use Rattle.lq_pred.specs.Table.{all_differ, index_of, with_term};
+    ghost use Rattle.lq_pred.specs.Table.{all_differ, index_of, with_term, Extends};
     ghost use Rattle.lq_pred.specs.TermView.{sum_of};
     ghost use Rattle.lq_pred.specs.TableView.{terms_of};
 

@@ -25,6 +25,7 @@ impl Term {
     ghost use Rattle.lq_pred.specs.TermView.{sum_of};
     ghost use Rattle.std.specs.Prelude.{fold};
     ghost use Rattle.lq_pred.specs.Hashed.{writes_of};
+    ghost use Rattle.lq_pred.specs.Table.{literal_of};
 
     /// An equal term.
     #[cycle(copy)]
@@ -51,6 +52,16 @@ impl Term {
     {
         let copied = self.copy(alloc)?;
         Ok(Box::new(alloc, copied)?)
+    }
+
+    // The number that a literal is.
+    pub(crate) fn literal(&self) -> Option<i128>
+        ensures { result ≡ literal_of (sum_of self.now) }
+    {
+        match self {
+            Term::Whole(n) => Some(*n),
+            _ => None,
+        }
     }
 
     // Whether the two are one term.
