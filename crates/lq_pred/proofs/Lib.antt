@@ -3,3 +3,4 @@ pub mod Numbering
 pub mod Keys
 pub mod Merging
 pub mod Growing
+pub mod Forms

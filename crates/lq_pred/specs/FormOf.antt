@@ -26,6 +26,9 @@ CanCombine subtract m n = (q : ℕ) → FitsSigned w128 (combined subtract (at m
 abbrev pub IsCombined : Bool → BTreeMap ℕ ℤ → BTreeMap ℕ ℤ → BTreeMap ℕ ℤ → Type 0
 IsCombined subtract m n r = (q : ℕ) → at r q ≡ combined subtract (at m q) (at n q)
 
+abbrev pub FormFits : Form → Type 0
+FormFits f = FitsSigned w128 f.constant × AllFit f.coefficients
+
 -- the form has this constant and these coefficients, the terms numbered by the list
 pub record HasForm (terms : List Sum) (f : Form) (constant_is : ℤ) (coefficient_is : Sum → ℤ) : Type 0 where
   pub constant : f.constant ≡ constant_is

@@ -1,7 +1,7 @@
 ghost use Rattle.std.specs.Prelude.{◌≡◌, true, false, ◌==◌, if◌then◌else◌, ◌+ℤ◌, ◌-ℤ◌, ◌*ℤ◌, ℕ, ℤ, pos, FitsSigned, IfOk, OnOk, IsErrOf};
 ghost use Rattle.std.specs.Int.{w128};
 ghost use Rattle.std.specs.Option.{SomeIff};
-ghost use Rattle.lq_pred.specs.FormOf.{at, AllFit, combined, CanCombine, IsCombined};
+ghost use Rattle.lq_pred.specs.FormOf.{at, AllFit, combined, CanCombine, IsCombined, FormFits};
 
 use crate::error::GatherError;
 use std::alloc::{AllocError, Global};
@@ -70,6 +70,7 @@ impl Form {
     // A constant alone.
     pub(crate) fn constant(n: i128, alloc: Global) -> Form
         ensures constant { result.constant ≡ n }
+        ensures fit { FormFits result }
         ensures coefficients { (q : ℕ) → at result.coefficients q ≡ pos 0 }
     {
         Form {
@@ -81,6 +82,7 @@ impl Form {
     // One term alone, by its number.
     pub(crate) fn of_number(number: u64, alloc: Global) -> Result<Form, AllocError>
         ensures constant { IfOk result (λ f. f.constant ≡ pos 0) }
+        ensures fit { IfOk result FormFits }
         ensures coefficients { IfOk result (λ f. (q : ℕ) → at f.coefficients q ≡ (if number == q then pos 1 else pos 0)) }
     {
         let mut coefficients = BTreeMap::new(alloc);
@@ -96,7 +98,7 @@ impl Form {
         requires right { AllFit right.coefficients }
         ensures constant { IfOk result (λ f. f.constant ≡ self.constant +ℤ right.constant) }
         ensures coefficients { IfOk result (λ f. IsCombined false self.coefficients right.coefficients f.coefficients) }
-        ensures fit { IfOk result (λ f. AllFit f.coefficients) }
+        ensures fit { IfOk result FormFits }
         ensures past { IsErrOf result GatherError.Past → FitsSigned w128 (self.constant +ℤ right.constant)
             → CanCombine false self.coefficients right.coefficients → ⊥ }
     {
@@ -114,7 +116,7 @@ impl Form {
         requires { AllFit self.coefficients }
         ensures constant { IfOk result (λ f. f.constant ≡ self.constant -ℤ right.constant) }
         ensures coefficients { IfOk result (λ f. IsCombined true self.coefficients right.coefficients f.coefficients) }
-        ensures fit { IfOk result (λ f. AllFit f.coefficients) }
+        ensures fit { IfOk result FormFits }
         ensures past { IsErrOf result GatherError.Past → FitsSigned w128 (self.constant -ℤ right.constant)
             → CanCombine true self.coefficients right.coefficients → ⊥ }
     {
@@ -132,7 +134,7 @@ impl Form {
     pub(crate) fn times(self, n: i128, alloc: Global) -> Result<Form, GatherError>
         ensures constant { IfOk result (λ f. f.constant ≡ n *ℤ self.constant) }
         ensures coefficients { IfOk result (λ f. (q : ℕ) → at f.coefficients q ≡ n *ℤ at self.coefficients q) }
-        ensures fit { IfOk result (λ f. AllFit f.coefficients) }
+        ensures fit { IfOk result FormFits }
         ensures past { IsErrOf result GatherError.Past → FitsSigned w128 (n *ℤ self.constant)
             → ((q : ℕ) → FitsSigned w128 (n *ℤ at self.coefficients q)) → ⊥ }
     {

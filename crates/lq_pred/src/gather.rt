@@ -82,7 +82,6 @@ fn application(
 }
 
 // The linear form of a term.
-#[cycle(form)]
 #[tactic(auto, using(crate::proofs::Growing::growing))]
 fn form(term: &Term, alloc: Global, table: &mut TermTable) -> Result<Form, GatherError>
     ensures numbered { OnOk result (terms_of table.new ≡ numbered (terms_of table.old) (sum_of term.now)) }
@@ -93,48 +92,32 @@ fn form(term: &Term, alloc: Global, table: &mut TermTable) -> Result<Form, Gathe
 {
     match term {
         Term::Whole(n) => Ok(Form::constant(*n, alloc)),
-        Term::Neg(a) => form(a, alloc, table)?.times(-1, alloc),
+        Term::Neg(a) => {
+            let inner = form(a, alloc, table)?;
+            inner.times(-1, alloc)
+        }
         Term::Add(a, b) => {
-            let (left, right) = two_forms(a, b, alloc, table)?;
+            let left = form(a, alloc, table)?;
+            let right = form(b, alloc, table)?;
             left.plus(right)
         }
         Term::Sub(a, b) => {
-            let (left, right) = two_forms(a, b, alloc, table)?;
+            let left = form(a, alloc, table)?;
+            let right = form(b, alloc, table)?;
             left.minus(right)
         }
-        Term::Mul(a, b) => match (a.literal(), b.literal()) {
-            (Some(n), _) => {
-                let (_, right) = two_forms(a, b, alloc, table)?;
-                right.times(n, alloc)
+        Term::Mul(a, b) => {
+            if let Some(n) = a.literal() {
+                let right = form(b, alloc, table)?;
+                return right.times(n, alloc);
             }
-            (None, Some(n)) => {
-                let (left, _) = two_forms(a, b, alloc, table)?;
-                left.times(n, alloc)
+            if let Some(n) = b.literal() {
+                let left = form(a, alloc, table)?;
+                return left.times(n, alloc);
             }
-            (None, None) => application(term, a, b, alloc, table),
-        },
+            application(term, a, b, alloc, table)
+        }
         Term::Div(a, b) | Term::Mod(a, b) => application(term, a, b, alloc, table),
         Term::Var(_) | Term::Length(_) | Term::Measure(_, _) => atom(term, alloc, table),
     }
-}
-
-// The forms of two terms, one after the other.
-#[cycle(form)]
-#[tactic(auto, using(crate::proofs::Growing::growing))]
-fn two_forms(
-    left: &Term,
-    right: &Term,
-    alloc: Global,
-    table: &mut TermTable,
-) -> Result<(Form, Form), GatherError>
-    ensures numbered { OnOk result (terms_of table.new ≡ numbered (numbered (terms_of table.old) (sum_of left.now)) (sum_of right.now)) }
-    ensures left { IfOk result (λ f. IsFormOf (terms_of table.new) f.0 (sum_of left.now)) }
-    ensures right { IfOk result (λ f. IsFormOf (terms_of table.new) f.1 (sum_of right.now)) }
-    ensures fit { OnOk result (IsFit (sum_of left.now) × IsFit (sum_of right.now)) }
-    ensures past { IsErrOf result GatherError.Past → IsFit (sum_of left.now) → IsFit (sum_of right.now) → ⊥ }
-    ensures grows { Extends (terms_of table.old) (terms_of table.new) }
-{
-    let first = form(left, alloc, table)?;
-    let second = form(right, alloc, table)?;
-    Ok((first, second))
 }
