@@ -4,3 +4,4 @@ pub mod Keys
 pub mod Merging
 pub mod Growing
 pub mod Forms
+pub mod Again

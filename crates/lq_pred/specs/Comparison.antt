@@ -13,6 +13,9 @@ pub record Comparison : Type 0 where
   pub added : ℤ
   pub equal : Bool
 
+abbrev pub comparison : Sum → Sum → ℤ → Bool → Comparison
+comparison a b n e = record { left = a; right = b; added = n; equal = e }
+
 -- the coefficient of the term t in the row
 abbrev pub row_coefficient : Comparison → Sum → ℤ
 row_coefficient c t = coefficient c.left t -ℤ coefficient c.right t

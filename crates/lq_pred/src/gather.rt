@@ -1,16 +1,21 @@
-ghost use Rattle.std.specs.Prelude.{◌≡◌, pos, IfOk, OnOk, IsErrOf};
-ghost use Rattle.lq_pred.specs.Comparison.{CanGather, IsRowOf};
-ghost use Rattle.lq_pred.specs.FormOf.{HasForm, IsFormOf};
+ghost use Rattle.std.specs.Prelude.{◌≡◌, ℕ, pos, ◌+ℤ◌, ◌-ℤ◌, FitsSigned, IfOk, OnOk, IsErrOf};
+ghost use Rattle.std.specs.Int.{w128};
+ghost use Rattle.std.specs.Option.{SomeIff};
+ghost use Rattle.lq_linear.specs.Row.{IsRow};
+ghost use Rattle.lq_pred.specs.Comparison.{comparison, entry, CanGather, IsRowOf};
+ghost use Rattle.lq_pred.specs.FormOf.{at, HasForm, IsFormOf};
 ghost use Rattle.lq_pred.specs.LinearForm.{one_at, IsFit};
 ghost use Rattle.lq_pred.specs.Table.{numbered, with_term, Extends};
 ghost use Rattle.lq_pred.specs.TableView.{terms_of};
 ghost use Rattle.lq_pred.specs.TermView.{sum_of};
 
 use crate::error::GatherError;
-use crate::form::Form;
+use crate::form::{Form, merge};
 use crate::table::TermTable;
 use crate::term::Term;
+use lq_linear::LinearRow;
 use std::alloc::{AllocError, Global};
+use std::collections::BTreeMap;
 
 // Numbers the terms of a term that a table numbers, an inner one before the outer.
 #[tactic(auto, using(crate::proofs::Growing::growing))]
@@ -120,4 +125,60 @@ fn form(term: &Term, alloc: Global, table: &mut TermTable) -> Result<Form, Gathe
         Term::Div(a, b) | Term::Mod(a, b) => application(term, a, b, alloc, table),
         Term::Var(_) | Term::Length(_) | Term::Measure(_, _) => atom(term, alloc, table),
     }
+}
+
+// The row of these coefficients, those that are 0 left out.
+fn row_of(
+    coefficients: BTreeMap<u64, i128>,
+    constant: i128,
+    equal: bool,
+    alloc: Global,
+) -> Result<LinearRow, AllocError>
+    ensures constant { IfOk result (λ row. row.constant ≡ constant) }
+    ensures equal { IfOk result (λ row. row.equal ≡ equal) }
+    ensures formed { IfOk result IsRow }
+    ensures coefficients { IfOk result (λ row. (q : ℕ) → entry row.parts q ≡ at coefficients q) }
+{
+    let parts = coefficients
+        .into_iter()
+        .filter(|part| part.1 != 0)
+        .collect::<Vec<(u64, i128)>>(alloc)?;
+    Ok(LinearRow::new(parts, constant, equal))
+}
+
+// left - right + added, where it is within 128 bits: the sums on the way may be past them.
+fn whole_constant(left: i128, right: i128, added: i128) -> Option<i128>
+    ensures { SomeIff result (FitsSigned w128 (left -ℤ right +ℤ added)) (left -ℤ right +ℤ added) }
+{
+    match left.checked_sub(right) {
+        Some(difference) => difference.checked_add(added),
+        None => left.checked_add(added)?.checked_sub(right),
+    }
+}
+
+/// The row of `left - right + added`, read "at most 0", or "is 0" where `equal` is set. Terms that the
+/// table lacks are added to it, an inner one before the outer.
+#[tactic(auto, using(crate::proofs::Growing::growing))]
+pub fn gather(
+    left: &Term,
+    right: &Term,
+    added: i128,
+    equal: bool,
+    alloc: Global,
+    table: &mut TermTable,
+) -> Result<LinearRow, GatherError>
+    ensures numbered { OnOk result (terms_of table.new ≡ numbered (numbered (terms_of table.old) (sum_of left.now)) (sum_of right.now)) }
+    ensures row { IfOk result (λ row. IsRowOf (terms_of table.new) (comparison (sum_of left.now) (sum_of right.now) added equal) row) }
+    ensures can { OnOk result (CanGather (comparison (sum_of left.now) (sum_of right.now) added equal)) }
+    ensures past { IsErrOf result GatherError.Past → CanGather (comparison (sum_of left.now) (sum_of right.now) added equal) → ⊥ }
+    ensures grows { Extends (terms_of table.old) (terms_of table.new) }
+{
+    let first = form(left, alloc, table)?;
+    let second = form(right, alloc, table)?;
+    let Some(constant) = whole_constant(first.constant, second.constant, added) else {
+        return Err(GatherError::Past);
+    };
+    let mut coefficients = first.coefficients;
+    merge(true, &mut coefficients, second.coefficients)?;
+    Ok(row_of(coefficients, constant, equal, alloc)?)
 }
