@@ -1,4 +1,4 @@
--- Products and the order of ℤ, which `omega` does not know.
+-- Products and the order of the whole numbers, which `omega` doesn't know. Example: `tripled`.
 use Rattle.std.proofs.Common.{◌≡◌, suc, zero, arith}
 use Rattle.std.proofs.Math.IntN.{ℤ, pos, negsuc, ◌-ℤ◌, ◌*ℤ◌}
 use Rattle.std.specs.Int.Signed.{◌≤ℤ◌, ◌<ℤ◌}
@@ -40,3 +40,7 @@ mul_cancel a b c k e =
     let x : (a *ℤ c) ≤ℤ (b *ℤ c) = omega (arith, ints) in
     let y : (b *ℤ c) ≤ℤ (a *ℤ c) = omega (arith, ints) in
     let p = le_of_mul_le a b c k x in let q = le_of_mul_le b a c k y in omega (arith, ints)
+
+-- an example of use
+tripled : (a b : ℤ) → a ≤ℤ b → (a *ℤ pos 3) ≤ℤ (b *ℤ pos 3)
+tripled a b = mul_le a b (pos 3) (omega (arith, ints))

@@ -1,5 +1,6 @@
--- The rationals: two pairs are one number where their cross products are one.
-use Rattle.std.specs.Prelude.{◌≡◌, ℕ, ℤ, ◌-◌, refl}
+-- The rationals, with sums, differences and products. Two pairs are one number where their cross products are one, so that `≡`
+-- is equality of numbers. `ratio n d` is n / d for a positive d, and `whole n` is n. Example: `half` and `half_again`.
+use Rattle.std.specs.Prelude.{◌≡◌, ℕ, ℤ, pos, ◌-◌, refl}
 use std.Quotient
 use std.Quotient.{cls, eq/, /_set, /_rec, /_rec₂}
 use Rattle.lq_math.specs.Pairs.{Pair, Same, pair_sum, pair_difference, pair_product}
@@ -49,3 +50,13 @@ difference-class a b = refl
 pub product-class : (a b : Pair) → class a *ℚ class b ≡ class (pair_product a b)
 unfolding ◌*ℚ◌ /_rec₂ /_rec
 product-class a b = refl
+
+abbrev pub neg_ℚ : ℚ → ℚ
+neg_ℚ x = whole (pos 0) -ℚ x
+
+-- an example of use: 1 / 2 and 2 / 4 are one number
+abbrev half : ℚ
+half = ratio (pos 1) 2
+
+half_again : half ≡ ratio (pos 2) 4
+half_again = same_class (pos 1, 1) (pos 2, 3) refl

@@ -1,4 +1,5 @@
--- When two pairs are one rational, and the order of the rationals.
+-- When two fractions are one rational, and the order of the rationals, with what follows from cross products. `OrderLaws` has the rest.
+-- Example: `half_below_two_thirds`.
 use Rattle.std.proofs.Common.{◌≡◌, ℕ, suc, ◌-◌, ◌<◌, arith, refl, sym, ap, ◌∙◌, subst, Bool, true, false, IsTrue}
 use Rattle.std.proofs.Math.IntN.{ℤ, pos, negsuc, ◌-ℤ◌, ◌*ℤ◌, ℤ_set}
 use Rattle.std.specs.Int.Signed.{◌≤ℤ◌}
@@ -83,7 +84,7 @@ x <ℚ y = ¬ (y ≤ℚ x)
 abbrev pub NotNegative : ℚ → Type 0
 NotNegative x = IsTrue (at_least_zero x)
 
-T_prop : (b : Bool) → IsProp (IsTrue b)
+pub T_prop : (b : Bool) → IsProp (IsTrue b)
 T_prop b = Bool-set b true
 
 pub NotNegative-sum : (x y : ℚ) → NotNegative x → NotNegative y → NotNegative (x +ℚ y)
@@ -161,3 +162,7 @@ product_at_most m x h k = record { at_most = subst NotNegative (minus_product m 
 
 pub NotNegative-whole : (n : ℕ) → NotNegative (whole (pos n))
 NotNegative-whole n = at_least_zero-class (pos n, 0)
+
+-- an example of use
+half_below_two_thirds : ratio (pos 1) 2 ≤ℚ ratio (pos 2) 3
+half_below_two_thirds = at_most_from_cross (pos 1) (pos 2) 2 3 (omega arith) (omega arith) (omega (arith, ints))

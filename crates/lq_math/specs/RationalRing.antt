@@ -1,4 +1,5 @@
--- A normalizer for polynomials over the rationals, and their laws.
+-- The laws of sums, differences and products of rationals, each an identity of the cross products. Any further identity is one line
+-- by `Solver`. Example: `+ℚ_comm`.
 use Rattle.std.proofs.Common.{◌≡◌, ℕ, suc, ◌+◌, arith, refl, sym, ap, ◌∙◌}
 use Rattle.std.proofs.Math.IntN.{pos, ◌*ℤ◌}
 use std.Quotient.{/_set, /_elim_prop, /_elim_prop₂, /_elim_prop₃}

@@ -1,4 +1,4 @@
--- The operations on pairs respect `Same`.
+-- The operations on pairs respect `Same`, as `Same-sum_l` says of sums, so they are operations on rationals. For `Rational` alone.
 use Rattle.std.proofs.Common.{suc, arith, ap}
 use Rattle.std.proofs.Math.IntN.{pos, ◌*ℤ◌}
 use Rattle.lq_math.specs.Pairs.{Pair, Same, below, times, pair_sum, pair_difference, pair_product}

@@ -1,4 +1,5 @@
--- A normalizer for polynomials over ℚ in any number of variables: an identity is `refl` between two normal forms.
+-- Identities of polynomials over the rationals, in any number of variables: list the values of the variables, write both sides with
+-- `var` and `con`, and `refl` between the two normal forms is the proof. Example: `telescope`.
 use Rattle.std.proofs.Common.{◌≡◌, ℕ, suc, zero, refl, sym, ap, ap₂, ◌∙◌, List, [], ◌∷◌, Bool, true, false, ltb, eqb}
 use Rattle.std.proofs.Common.{eqb-true, cond}
 use Rattle.std.proofs.Math.IntN.{ℤ, pos, negsuc, ◌+ℤ◌, ◌*ℤ◌}
@@ -216,12 +217,8 @@ normal_is xs (s ⊗ t) = multiply_is xs (normal s) (normal t) ∙ ap₂ (λ x y.
 pub solve : (xs : List ℚ) (s t : Term) → normal s ≡ normal t → value xs s ≡ value xs t
 solve xs s t e = sym (normal_is xs s) ∙ ap (form_value xs) e ∙ normal_is xs t
 
+-- an example of use
 telescope : (a b c d e : ℚ) → ((a -ℚ b) +ℚ d) +ℚ ((b -ℚ c) +ℚ e) ≡ (a -ℚ c) +ℚ (d +ℚ e)
 telescope a b c d e =
     let x = var 0 in let y = var 1 in let z = var 2 in let u = var 3 in let w = var 4 in
     solve (a ∷ b ∷ c ∷ d ∷ e ∷ []) (x ⊖ y ⊕ u ⊕ (y ⊖ z ⊕ w)) (x ⊖ z ⊕ (u ⊕ w)) refl
-
-cube : (a b : ℚ) → ((a +ℚ b) *ℚ (a +ℚ b)) *ℚ (a -ℚ b) ≡ (a *ℚ a -ℚ b *ℚ b) *ℚ (b +ℚ a)
-cube a b =
-    let x = var 0 in let y = var 1 in
-    solve (a ∷ b ∷ []) ((x ⊕ y) ⊗ (x ⊕ y) ⊗ (x ⊖ y)) ((x ⊗ x ⊖ y ⊗ y) ⊗ (y ⊕ x)) refl

@@ -6,6 +6,9 @@ use Rattle.std.specs.Int.{w128}
 use Rattle.std.specs.Ordering.{MatchOrdering}
 use Rattle.std.proofs.lemmas.Int.{ints, to_z-of_z}
 use Rattle.lq_math.specs.Rational.{ratio, whole}
+use Rattle.lq_math.specs.OrderLaws.{<ℚ_apart}
+use Rattle.lq_num.specs.declared.frac.Frac.{Frac}
+use Rattle.lq_num.specs.Value.{value_of, fraction_once}
 use Rattle.lq_math.specs.RationalOrder.{◌<ℚ◌, cross_from_at_most, ratio_from_cross, cross_from_ratio}
 
 below : (n m : ℤ) (d e : ℕ) → 0 < d → 0 < e → (n *ℤ pos e) <ℤ (m *ℤ pos d) → ratio n d <ℚ ratio m e
@@ -38,3 +41,16 @@ zero_test n d f p = (
       let z : n ≡ pos 0 = omega (arith, ints) in
       subst (λ x. IsTrue (nat_eq (of_z w128 x) 0)) (sym z) refl,
 )
+
+-- ---- equal values are one fraction
+pub same_fraction : (r : Ordering) (f g : Frac)
+    → MatchOrdering r (value_of f <ℚ value_of g) (value_of f ≡ value_of g) (value_of g <ℚ value_of f) → (r ≡ Equal) ↔ (f ≡ g)
+same_fraction Less f g h = (λ e. absurd (apart e), λ e. absurd (<ℚ_apart (value_of f) (value_of g) h (ap value_of e)))
+  where
+    apart : Less ≡ Equal → ⊥
+    apart e = cc
+same_fraction Equal f g h = (λ e. fraction_once f g h, λ e. refl)
+same_fraction Greater f g h = (λ e. absurd (apart e), λ e. absurd (<ℚ_apart (value_of g) (value_of f) h (ap value_of (sym e))))
+  where
+    apart : Greater ≡ Equal → ⊥
+    apart e = cc

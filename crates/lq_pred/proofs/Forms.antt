@@ -138,3 +138,45 @@ has_term-with_term terms t = by (has_term terms t) refl
         has_last : (l : List Sum) → has_term (l ++ t ∷ []) t ≡ true
         has_last [] = has_term-here t []
         has_last (u ∷ l) = or_right (same t u) (has_term (l ++ t ∷ []) t) (has_last l)
+
+-- what fits of a sum or a difference, so that its operands' forms can be combined
+pub fit_parts : (subtract : Bool) (old terms : List Sum) (f g : Form) (c d : ℤ) (k l : Sum → ℤ) → all_differ terms ≡ true
+    → HasForm old f c k → Extends old terms → HasForm terms g d l → FitsSigned w128 (combined subtract c d) → ((t : Sum) → FitsSigned w128 (combined subtract (k t) (l t)))
+    → FitsSigned w128 (combined subtract f.constant g.constant) × CanCombine subtract f.coefficients g.coefficients
+fit_parts subtract old terms f g c d k l distinct p x r fc fk = (
+  subst (FitsSigned w128) (sym (ap₂ (combined subtract) p.constant r.constant)) fc,
+  can_combine subtract terms f g c d k l distinct (grown old terms f c k p x) r fk,
+)
+
+pub fit_scale : (n : ℤ) (terms : List Sum) (f : Form) (c : ℤ) (k : Sum → ℤ) → all_differ terms ≡ true
+    → HasForm terms f c k → FitsSigned w128 (n *ℤ c) → ((t : Sum) → FitsSigned w128 (n *ℤ k t))
+    → FitsSigned w128 (n *ℤ f.constant) × ((q : ℕ) → FitsSigned w128 (n *ℤ at f.coefficients q))
+fit_scale n terms f c k distinct p fc fk = (
+  subst (λ x. FitsSigned w128 (n *ℤ x)) (sym p.constant) fc,
+  can_scale n terms f c k distinct p fk,
+)
+
+negated : (x : ℤ) → negsuc 0 *ℤ x ≡ pos 0 -ℤ x
+negated x = omega (arith, ints)
+
+pub fit_negated : (x : ℤ) → FitsSigned w128 (pos 0 -ℤ x) → FitsSigned w128 (negsuc 0 *ℤ x)
+fit_negated x h = subst (FitsSigned w128) (sym (negated x)) h
+
+-- the part of a product where the left or the right factor is a literal
+pub left_factor : (o p : Option ℤ) (n : ℤ) (P : Type 0) → o ≡ Some n → OnFactors o p P → P
+left_factor (Some m) p n P e h = h
+left_factor None p n P e h = cc
+
+pub right_factor : (o p : Option ℤ) (n : ℤ) (P : Type 0) → p ≡ Some n → OnFactors o p P → P
+right_factor (Some m) p n P e h = h
+right_factor None (Some m) n P e h = h
+right_factor None None n P e h = cc
+
+pub scaled_left : (o p : Option ℤ) (n x y z : ℤ) → o ≡ Some n → scaled o p x y z ≡ n *ℤ y
+scaled_left (Some m) p n x y z e = let w : m ≡ n = cc in ap (λ u. u *ℤ y) w
+scaled_left None p n x y z e = cc
+
+pub scaled_right : (o p : Option ℤ) (n x y z : ℤ) → o ≡ None → p ≡ Some n → scaled o p x y z ≡ n *ℤ x
+scaled_right None (Some m) n x y z d e = let w : m ≡ n = cc in ap (λ u. u *ℤ x) w
+scaled_right None None n x y z d e = cc
+scaled_right (Some m) p n x y z d e = cc

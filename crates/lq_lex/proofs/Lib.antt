@@ -1,0 +1,5 @@
+pub mod Numbers
+pub mod Ends
+pub mod Fronts
+pub mod Lexing
+pub mod Unique

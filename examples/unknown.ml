@@ -1,0 +1,2 @@
+let width = read_int ()
+let height = widht + 2
