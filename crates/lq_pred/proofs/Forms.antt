@@ -1,5 +1,5 @@
 -- Forms of sums, from those of their operands.
-use Rattle.std.proofs.Common.{◌≡◌, ℕ, zero, suc, ℤ, pos, ◌<◌, ◌≤◌, ◌==◌, length, length-append, List, [], ◌∷◌, ◌++◌, Bool, true, false, Option, Some, None, slice_get, unwrap_or, ◌⊎◌, inl, inr, Result, Ok, Err, IfOk, refl, sym, ap, ap₂, subst, ◌∙◌, FitsSigned, arith, if◌then◌else◌, eqb}
+use Rattle.std.proofs.Common.{◌≡◌, ℕ, zero, suc, ℤ, pos, ◌<◌, ◌≤◌, ◌==◌, length, length-append, List, [], ◌∷◌, ◌++◌, Bool, true, false, Option, Some, None, slice_get, unwrap_or, ◌⊎◌, inl, inr, Result, Ok, Err, IfOk, OnOk, refl, sym, ap, ap₂, subst, ◌∙◌, FitsSigned, arith, if◌then◌else◌, eqb}
 use Rattle.std.proofs.Math.IntN.{◌+ℤ◌, ◌-ℤ◌, ◌*ℤ◌, negsuc}
 use Rattle.std.proofs.lemmas.Bool.{eq-eqb, ne_eqb, or_right}
 use Rattle.std.proofs.lemmas.Int.{ints}
@@ -8,8 +8,8 @@ use Rattle.std.specs.BTreeMap.{BTreeMap}
 use Rattle.lq_pred.specs.Sum.{Sum, same}
 use Rattle.lq_pred.specs.SameLaws.{same-is, same-from}
 use Rattle.lq_pred.specs.Table.{has_term, index_of, all_differ, with_term, Extends}
-use Rattle.lq_pred.specs.LinearForm.{one_at, scaled, OnFactors}
-use Rattle.lq_pred.specs.FormOf.{at, AllFit, combined, CanCombine, IsCombined, FormFits, HasForm}
+use Rattle.lq_pred.specs.LinearForm.{one_at, scaled, OnFactors, HasFit}
+use Rattle.lq_pred.specs.FormOf.{at, AllFit, combined, CanCombine, IsCombined, FormFits, HasForm, IsFormOf}
 use Rattle.lq_pred.specs.declared.form.Form.{Form}
 use Rattle.lq_pred.proofs.Numbering.{index_of-append_present, index_of-append_absent, index_of-absent, index_of-present, index_of-slice_get, slice_get-index_of, has_term-here}
 
@@ -148,13 +148,14 @@ fit_parts subtract old terms f g c d k l distinct p x r fc fk = (
   can_combine subtract terms f g c d k l distinct (grown old terms f c k p x) r fk,
 )
 
-pub fit_scale : (n : ℤ) (terms : List Sum) (f : Form) (c : ℤ) (k : Sum → ℤ) → all_differ terms ≡ true
+pub fit_scale : (m n : ℤ) → m ≡ n → (terms : List Sum) (f : Form) (c : ℤ) (k : Sum → ℤ) → all_differ terms ≡ true
     → HasForm terms f c k → FitsSigned w128 (n *ℤ c) → ((t : Sum) → FitsSigned w128 (n *ℤ k t))
-    → FitsSigned w128 (n *ℤ f.constant) × ((q : ℕ) → FitsSigned w128 (n *ℤ at f.coefficients q))
-fit_scale n terms f c k distinct p fc fk = (
-  subst (λ x. FitsSigned w128 (n *ℤ x)) (sym p.constant) fc,
-  can_scale n terms f c k distinct p fk,
-)
+    → FitsSigned w128 (m *ℤ f.constant) × ((q : ℕ) → FitsSigned w128 (m *ℤ at f.coefficients q))
+fit_scale m n e terms f c k distinct p fc fk =
+    subst (λ u. FitsSigned w128 (u *ℤ f.constant) × ((q : ℕ) → FitsSigned w128 (u *ℤ at f.coefficients q))) (sym e) (
+      subst (λ x. FitsSigned w128 (n *ℤ x)) (sym p.constant) fc,
+      can_scale n terms f c k distinct p fk,
+    )
 
 negated : (x : ℤ) → negsuc 0 *ℤ x ≡ pos 0 -ℤ x
 negated x = omega (arith, ints)
@@ -180,3 +181,19 @@ pub scaled_right : (o p : Option ℤ) (n x y z : ℤ) → o ≡ None → p ≡ S
 scaled_right None (Some m) n x y z d e = let w : m ≡ n = cc in ap (λ u. u *ℤ x) w
 scaled_right None None n x y z d e = cc
 scaled_right (Some m) p n x y z d e = cc
+
+-- the form that was kept fits
+pub kept_fit : {E : Type 0} (r : Result Form E) (terms : List Sum) (s : Sum) → IfOk r (λ h. IsFormOf terms h s) → OnOk r (HasFit s)
+kept_fit (Err e) terms s h = tt
+kept_fit (Ok f) terms s h = record {
+  constant = subst (FitsSigned w128) h.constant h.constant_fits;
+  coefficients = λ t. subst (FitsSigned w128) (h.coefficients t) (h.fit (index_of terms t));
+}
+
+pub and_two_kept : {E : Type 0} (P Q R : Type 0) (r : Result Form E) → P → Q → OnOk r R → OnOk r (P × Q × R)
+and_two_kept P Q R (Err e) p q s = tt
+and_two_kept P Q R (Ok f) p q s = (p, q, s)
+
+pub no_literal : (r o : Option ℤ) → r ≡ o → ((n : ℤ) → r ≡ Some n → ⊥) → o ≡ None
+no_literal (Some n) o e k = absurd (k n refl)
+no_literal None o e k = sym e
