@@ -8,7 +8,9 @@ use Rattle.std.specs.BTreeMap.{BTreeMap}
 use Rattle.lq_pred.specs.Sum.{Sum, same}
 use Rattle.lq_pred.specs.SameLaws.{same-is, same-from}
 use Rattle.lq_pred.specs.Table.{has_term, index_of, all_differ, with_term, Extends}
-use Rattle.lq_pred.specs.LinearForm.{one_at, scaled, OnFactors, HasFit}
+use Rattle.lq_pred.specs.LinearForm.{one_at, scaled, OnFactors, HasFit, IsFit, constant_of, coefficient}
+use Rattle.lq_pred.specs.Comparison.{Comparison, CanGather, IsRowOf, entry}
+use Rattle.lq_linear.specs.Row.{Row, IsRow}
 use Rattle.lq_pred.specs.FormOf.{at, AllFit, combined, CanCombine, IsCombined, FormFits, HasForm, IsFormOf}
 use Rattle.lq_pred.specs.declared.form.Form.{Form}
 use Rattle.lq_pred.proofs.Numbering.{index_of-append_present, index_of-append_absent, index_of-absent, index_of-present, index_of-slice_get, slice_get-index_of, has_term-here}
@@ -197,3 +199,35 @@ and_two_kept P Q R (Ok f) p q s = (p, q, s)
 pub no_literal : (r o : Option ℤ) → r ≡ o → ((n : ℤ) → r ≡ Some n → ⊥) → o ≡ None
 no_literal (Some n) o e k = absurd (k n refl)
 no_literal None o e k = sym e
+
+-- the row of a comparison, from the forms of its sides
+pub row_from_forms : (old terms : List Sum) (f g : Form) (c : Comparison) (m : BTreeMap ℕ ℤ) (r : Row)
+    → HasForm old f (constant_of c.left) (coefficient c.left) → Extends old terms → HasForm terms g (constant_of c.right) (coefficient c.right)
+    → IsCombined true f.coefficients g.coefficients m → IsRow r → r.constant ≡ f.constant -ℤ g.constant +ℤ c.added → r.equal ≡ c.equal
+    → ((q : ℕ) → entry r.parts q ≡ at m q) → IsRowOf terms c r
+row_from_forms old terms f g c m r p x q combined_is formed constant equal parts =
+    let left = grown old terms f (constant_of c.left) (coefficient c.left) p x in record {
+      formed = formed;
+      constant = constant ∙ ap₂ (λ u v. u -ℤ v +ℤ c.added) p.constant q.constant;
+      equal = equal;
+      coefficients = λ t. parts (index_of terms t) ∙ combined_is (index_of terms t) ∙ ap₂ (λ u v. u -ℤ v) (left.coefficients t) (q.coefficients t);
+      within = λ i w. parts i ∙ combined_is i ∙ ap₂ (λ u v. u -ℤ v) (left.within i w) (q.within i w);
+    }
+
+pub can_from_forms : (old terms : List Sum) (f g : Form) (c : Comparison) (m : BTreeMap ℕ ℤ) (k : ℤ)
+    → HasForm old f (constant_of c.left) (coefficient c.left) → Extends old terms → HasForm terms g (constant_of c.right) (coefficient c.right)
+    → IsCombined true f.coefficients g.coefficients m → AllFit m → IsFit c.left → IsFit c.right → FitsSigned w128 k → k ≡ f.constant -ℤ g.constant +ℤ c.added → CanGather c
+can_from_forms old terms f g c m k p x q combined_is fit a b kf ke =
+    let left = grown old terms f (constant_of c.left) (coefficient c.left) p x in record {
+      left = a;
+      right = b;
+      constant = subst (FitsSigned w128) (ke ∙ ap₂ (λ u v. u -ℤ v +ℤ c.added) p.constant q.constant) kf;
+      coefficients = λ t. subst (FitsSigned w128) (combined_is (index_of terms t) ∙ ap₂ (λ u v. u -ℤ v) (left.coefficients t) (q.coefficients t)) (fit (index_of terms t));
+    }
+
+pub can_merge : (old terms : List Sum) (f g : Form) (c : Comparison) → all_differ terms ≡ true
+    → HasForm old f (constant_of c.left) (coefficient c.left) → Extends old terms → HasForm terms g (constant_of c.right) (coefficient c.right)
+    → CanGather c → CanCombine true f.coefficients g.coefficients
+can_merge old terms f g c distinct p x q can =
+    can_combine true terms f g (constant_of c.left) (constant_of c.right) (coefficient c.left) (coefficient c.right) distinct
+    (grown old terms f (constant_of c.left) (coefficient c.left) p x) q can.coefficients

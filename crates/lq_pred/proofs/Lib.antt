@@ -5,3 +5,4 @@ pub mod Merging
 pub mod Growing
 pub mod Forms
 pub mod Again
+pub mod RowParts

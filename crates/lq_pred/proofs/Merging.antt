@@ -69,3 +69,12 @@ pub plain_result : (subtract : Bool) (x y v : ℤ) → FitsSigned w128 x → Fit
     → FitsSigned w128 v × (v ≡ combined subtract x y)
 plain_result subtract x y v fx fy fits is =
     (subst (FitsSigned w128) (sym is) fits, is ∙ ap₂ (combined subtract) (to_z-of_z w128 x fx) (to_z-of_z w128 y fy))
+
+pub plain_constant : (x y z v : ℤ) → FitsSigned w128 x → FitsSigned w128 y → FitsSigned w128 z
+    → FitsSigned w128 (to_z w128 (of_z w128 x) -ℤ to_z w128 (of_z w128 y) +ℤ to_z w128 (of_z w128 z))
+    → v ≡ to_z w128 (of_z w128 x) -ℤ to_z w128 (of_z w128 y) +ℤ to_z w128 (of_z w128 z)
+    → FitsSigned w128 v × (v ≡ x -ℤ y +ℤ z)
+plain_constant x y z v fx fy fz fits is = (
+  subst (FitsSigned w128) (sym is) fits,
+  is ∙ ap₂ (λ a b. a -ℤ b +ℤ to_z w128 (of_z w128 z)) (to_z-of_z w128 x fx) (to_z-of_z w128 y fy) ∙ ap (λ c. x -ℤ y +ℤ c) (to_z-of_z w128 z fz),
+)
