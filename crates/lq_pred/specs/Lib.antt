@@ -10,3 +10,5 @@ pub mod Reading
 pub mod SameLaws
 pub mod Hashed
 pub mod FormOf
+pub mod NnfView
+pub mod Relation

@@ -2,7 +2,8 @@
 use Rattle.std.specs.Prelude.{ℤ, pos, Bool, true, false, not, List, [], ◌∷◌, ◌++◌}
 use Rattle.lq_pred.specs.Sum.{Sum}
 use Rattle.lq_pred.specs.Table.{numbered}
-use Rattle.lq_pred.specs.Comparison.{Comparison}
+use Rattle.lq_linear.specs.Row.{Row}
+use Rattle.lq_pred.specs.Comparison.{Comparison, comparison, CanGather, IsRowOf}
 use Rattle.lq_pred.specs.Formula.{Formula, truth, falsity, flag, compare, objects, negation, conjunction, disjunction, equivalence}
 use Rattle.lq_pred.specs.declared.symbol.Symbol.{Symbol}
 use Rattle.lq_pred.specs.declared.pred.CompareOp.{CompareOp}
@@ -29,13 +30,13 @@ pair_of a b = more a (more b none)
 
 -- a at most b, a + 1 at most b, a equal to b
 abbrev pub at_most : Sum → Sum → Reading Comparison
-at_most a b = row record { left = a; right = b; added = pos 0; equal = false }
+at_most a b = row (comparison a b (pos 0) false)
 
 abbrev pub below : Sum → Sum → Reading Comparison
-below a b = row record { left = a; right = b; added = pos 1; equal = false }
+below a b = row (comparison a b (pos 1) false)
 
 abbrev pub equal_to : Sum → Sum → Reading Comparison
-equal_to a b = row record { left = a; right = b; added = pos 0; equal = true }
+equal_to a b = row (comparison a b (pos 0) true)
 
 -- apart by at least 1
 abbrev pub apart : Sum → Sum → Reading Comparison
@@ -87,4 +88,33 @@ formula_numbered terms (conjunction p q) = formula_numbered (formula_numbered te
 formula_numbered terms (disjunction p q) = formula_numbered (formula_numbered terms p) q
 formula_numbered terms (equivalence p q) = formula_numbered (formula_numbered terms p) q
 
--- A reading of rows gathers a reading of comparisons where it has the same form, and each row is that of its comparison.
+mutual
+  -- A reading of rows gathers one of comparisons where it has the same form, and each row is that of its comparison.
+  pub data Gathers (terms : List Sum) : Reading Comparison → Reading Row → Type 0 where
+    gathers_yes : Gathers terms yes yes
+    gathers_no : Gathers terms no no
+    gathers_row : (c : Comparison) (r : Row) → IsRowOf terms c r → Gathers terms (row c) (row r)
+    gathers_flag : (x : Symbol) (sign : Bool) → Gathers terms (flag_is x sign) (flag_is x sign)
+    gathers_objects : (a b : Sum) (sign : Bool) → Gathers terms (objects_are a b sign) (objects_are a b sign)
+    gathers_all : (cs : Readings Comparison) (rs : Readings Row) → AllGather terms cs rs → Gathers terms (all_of cs) (all_of rs)
+    gathers_any : (cs : Readings Comparison) (rs : Readings Row) → AllGather terms cs rs → Gathers terms (any_of cs) (any_of rs)
+
+  pub data AllGather (terms : List Sum) : Readings Comparison → Readings Row → Type 0 where
+    gather_none : AllGather terms none none
+    gather_more : (c : Reading Comparison) (cs : Readings Comparison) (r : Reading Row) (rs : Readings Row) → Gathers terms c r → AllGather terms cs rs
+      → AllGather terms (more c cs) (more r rs)
+
+-- every comparison in the reading can be gathered
+abbrev mutual
+  pub AllFitIn : Reading Comparison → Type 0
+  AllFitIn yes = Unit {0}
+  AllFitIn no = Unit {0}
+  AllFitIn (row c) = CanGather c
+  AllFitIn (flag_is x sign) = Unit {0}
+  AllFitIn (objects_are a b sign) = Unit {0}
+  AllFitIn (all_of rs) = EachFits rs
+  AllFitIn (any_of rs) = EachFits rs
+
+  pub EachFits : Readings Comparison → Type 0
+  EachFits none = Unit {0}
+  EachFits (more r rs) = AllFitIn r × EachFits rs

@@ -3,16 +3,19 @@
 
 mod error;
 mod form;
-mod gather;
+mod gathering;
 mod nnf;
 mod pred;
 mod symbol;
 mod table;
 mod term;
+mod tightening;
 
 pub use error::GatherError;
+pub use gathering::gather;
 pub use nnf::{Nnf, Nnfs};
 pub use pred::{Closed, CompareOp, Pred, Preds};
 pub use symbol::{Shape, Sort, Symbol};
 pub use table::TermTable;
 pub use term::{Term, Terms};
+pub use tightening::tighten;

@@ -3,7 +3,7 @@ use Rattle.lq_pred.specs.Table.{has_term}
 use Rattle.lq_pred.specs.TableView.{terms_of}
 use Rattle.lq_pred.specs.TermView.{sum_of}
 use Rattle.lq_pred.proofs.Forms.{one_form, has_term-with_term}
-use Rattle.lq_pred.proofs.gather.atom.Goals as goal
+use Rattle.lq_pred.proofs.gathering.atom.Goals as goal
 
 pub returns-clause-form : goal.returns-clause-form
 returns-clause-form c =

@@ -7,7 +7,7 @@ use Rattle.lq_pred.specs.TermView.{sum_of}
 use Rattle.lq_pred.specs.declared.error.GatherError.TheVariants.{Past}
 use Rattle.lq_pred.proofs.Forms.{row_from_forms, can_from_forms, can_merge}
 use Rattle.lq_pred.proofs.Merging.{plain_constant}
-use Rattle.lq_pred.proofs.gather.gather.Goals as goal
+use Rattle.lq_pred.proofs.gathering.gather.Goals as goal
 
 pub returns-in_err-merge-clause-past : goal.returns-in_err-merge-clause-past
 returns-in_err-merge-clause-past c = λ e can.

@@ -8,7 +8,7 @@ use Rattle.lq_pred.specs.TermView.{sum_of}
 use Rattle.lq_pred.specs.LinearForm.{IsFit, HasFit, coefficient, constant_of, one_at}
 use Rattle.lq_pred.specs.FormOf.{IsFormOf}
 use Rattle.lq_pred.proofs.Forms.{grown, combined_form, fit_parts, fit_scale, fit_negated, left_factor, right_factor, scaled_left, scaled_right, no_literal, kept_fit, and_two_kept}
-use Rattle.lq_pred.proofs.gather.+form.Goals as goal
+use Rattle.lq_pred.proofs.gathering.+form.Goals as goal
 
 pub returns-in_ok-right-in-Add-clause-form : goal.returns-in_ok-right-in-Add-clause-form
 returns-in_ok-right-in-Add-clause-form t c =

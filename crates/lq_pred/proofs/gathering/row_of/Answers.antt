@@ -3,7 +3,7 @@ use Rattle.std.specs.Ordering.{nat_cmp}
 use Rattle.std.specs.BTreeMap.{IsOrdered}
 use Rattle.lq_pred.specs.Comparison.{entry}
 use Rattle.lq_pred.proofs.RowParts.{is_nonzero, ascends_from_map, entry-filter, entry-at, row_parts}
-use Rattle.lq_pred.proofs.gather.row_of.Goals as goal
+use Rattle.lq_pred.proofs.gathering.row_of.Goals as goal
 
 pub new-requires : goal.new-requires
 new-requires c =
