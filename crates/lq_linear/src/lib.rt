@@ -3,7 +3,6 @@
 
 mod engine;
 mod row;
-mod value;
 
 pub use engine::{LinearEngine, LinearStop, Mark, Verdict, conflict_or_point};
 pub use row::LinearRow;

@@ -6,3 +6,6 @@ pub mod Growing
 pub mod Forms
 pub mod Again
 pub mod RowParts
+pub mod Readings
+pub mod WholeNumbers
+pub mod NnfViews

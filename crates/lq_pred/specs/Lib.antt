@@ -12,3 +12,5 @@ pub mod Hashed
 pub mod FormOf
 pub mod NnfView
 pub mod Relation
+pub mod Truth
+pub mod Points

@@ -4,6 +4,7 @@
 mod error;
 mod form;
 mod gathering;
+mod laws;
 mod nnf;
 mod pred;
 mod symbol;
@@ -13,6 +14,7 @@ mod tightening;
 
 pub use error::GatherError;
 pub use gathering::gather;
+pub use laws::whole_numbers_are_a_point;
 pub use nnf::{Nnf, Nnfs};
 pub use pred::{Closed, CompareOp, Pred, Preds};
 pub use symbol::{Shape, Sort, Symbol};
