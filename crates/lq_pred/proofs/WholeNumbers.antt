@@ -49,7 +49,7 @@ difference_value m c =
     ∙ whole-sum (term_value m c.left -ℤ term_value m c.right) c.added
 
 order_holds : (m : Meaning) (a b : Sum) (n : ℤ) → (term_value m a -ℤ term_value m b +ℤ n) ≤ℤ pos 0 → ComparisonHolds (point_of m) (comparison a b n false)
-order_holds m a b n h = subst (λ x. x ≤ℚ rational (pos 0)) (sym (difference_value m (comparison a b n false))) (whole_at_most _ (pos 0) h)
+order_holds m a b n h = subst (λ x. x ≤ℚ rational (pos 0)) (sym (difference_value m (comparison a b n false))) (whole_at_most (term_value m a -ℤ term_value m b +ℤ n) (pos 0) h)
 
 equal_holds : (m : Meaning) (a b : Sum) → term_value m a ≡ term_value m b → ComparisonHolds (point_of m) (comparison a b (pos 0) true)
 equal_holds m a b h = difference_value m (comparison a b (pos 0) true) ∙ ap rational (omega (arith, ints, h))
@@ -75,22 +75,22 @@ apart_holds : (m : Meaning) (a b : Sum) → int_eq (term_value m a) (term_value 
 apart_holds m a b h = by (one_below (term_value m a) (term_value m b) h)
   where
     by : (lt_z (term_value m a) (term_value m b) ≡ true) ⊎ (lt_z (term_value m b) (term_value m a) ≡ true) → Meets (point_of m) (apart a b)
-    by (inl p) = inl (order_holds m a b (pos 1) (from_below _ _ p))
-    by (inr p) = inr (inl (order_holds m b a (pos 1) (from_below _ _ p)))
+    by (inl p) = inl (order_holds m a b (pos 1) (from_below (term_value m a) (term_value m b) p))
+    by (inr p) = inr (inl (order_holds m b a (pos 1) (from_below (term_value m b) (term_value m a) p)))
 
 comparison_holds : (m : Meaning) (o : CompareOp) (a b : Sum) (sign : Bool) → compares o (term_value m a) (term_value m b) ≡ sign → Meets (point_of m) (comparison_reading sign o a b)
 comparison_holds m op.Eq a b true h = equal_holds m a b ((Decides-int_eq (term_value m a) (term_value m b)).0 h)
 comparison_holds m op.Eq a b false h = apart_holds m a b h
 comparison_holds m op.Ne a b true h = apart_holds m a b (not-true (int_eq (term_value m a) (term_value m b)) h)
 comparison_holds m op.Ne a b false h = equal_holds m a b ((Decides-int_eq (term_value m a) (term_value m b)).0 (not-false (int_eq (term_value m a) (term_value m b)) h))
-comparison_holds m op.Lt a b true h = order_holds m a b (pos 1) (from_below _ _ h)
-comparison_holds m op.Lt a b false h = order_holds m b a (pos 0) (from_not_below _ _ h)
-comparison_holds m op.Le a b true h = order_holds m a b (pos 0) (from_not_below _ _ (not-true (lt_z (term_value m b) (term_value m a)) h))
-comparison_holds m op.Le a b false h = order_holds m b a (pos 1) (from_below _ _ (not-false (lt_z (term_value m b) (term_value m a)) h))
-comparison_holds m op.Gt a b true h = order_holds m b a (pos 1) (from_below _ _ h)
-comparison_holds m op.Gt a b false h = order_holds m a b (pos 0) (from_not_below _ _ h)
-comparison_holds m op.Ge a b true h = order_holds m b a (pos 0) (from_not_below _ _ (not-true (lt_z (term_value m a) (term_value m b)) h))
-comparison_holds m op.Ge a b false h = order_holds m a b (pos 1) (from_below _ _ (not-false (lt_z (term_value m a) (term_value m b)) h))
+comparison_holds m op.Lt a b true h = order_holds m a b (pos 1) (from_below (term_value m a) (term_value m b) h)
+comparison_holds m op.Lt a b false h = order_holds m b a (pos 0) (from_not_below (term_value m a) (term_value m b) h)
+comparison_holds m op.Le a b true h = order_holds m a b (pos 0) (from_not_below (term_value m b) (term_value m a) (not-true (lt_z (term_value m b) (term_value m a)) h))
+comparison_holds m op.Le a b false h = order_holds m b a (pos 1) (from_below (term_value m b) (term_value m a) (not-false (lt_z (term_value m b) (term_value m a)) h))
+comparison_holds m op.Gt a b true h = order_holds m b a (pos 1) (from_below (term_value m b) (term_value m a) h)
+comparison_holds m op.Gt a b false h = order_holds m a b (pos 0) (from_not_below (term_value m b) (term_value m a) h)
+comparison_holds m op.Ge a b true h = order_holds m b a (pos 0) (from_not_below (term_value m a) (term_value m b) (not-true (lt_z (term_value m a) (term_value m b)) h))
+comparison_holds m op.Ge a b false h = order_holds m a b (pos 1) (from_below (term_value m a) (term_value m b) (not-false (lt_z (term_value m a) (term_value m b)) h))
 
 -- of a predicate that is true or false of whole numbers, the reading with that sign holds at their point
 pub reading_holds : (m : Meaning) (p : Formula) (sign : Bool) → truth_of m p ≡ sign → Meets (point_of m) (reading_of sign p)

@@ -10,13 +10,16 @@ mod pred;
 mod symbol;
 mod table;
 mod term;
+#[cfg(test)]
+mod tests;
 mod tightening;
 
 pub use error::GatherError;
 pub use gathering::gather;
 pub use laws::whole_numbers_are_a_point;
 pub use nnf::{Nnf, Nnfs};
-pub use pred::{Closed, CompareOp, Pred, Preds};
+pub use lq_linear::{LinearEngine, LinearRow, LinearStop, Mark, Verdict};
+pub use pred::{Closed, CompareOp, Pred, Preds, Stop};
 pub use symbol::{Shape, Sort, Symbol};
 pub use table::TermTable;
 pub use term::{Term, Terms};

@@ -200,5 +200,39 @@ fn is_same_symbol(x: Symbol, y: Symbol) -> bool
 /// Terms in a row.
 #[derive(Debug, Drop)]
 pub struct Terms {
-    items: Vec<Term>,
+    pub(crate) items: Vec<Term>,
+}
+
+impl Terms {
+    ghost use Rattle.std.specs.Prelude.{◌≡◌, IfOk, [], ◌∷◌, ◌++◌, length, slice_get, OnOk, OnErr};
+    ghost use Rattle.std.specs.Option.{option_copied};
+    ghost use Rattle.lq_pred.specs.TermView.{term_items};
+
+    pub fn new(alloc: Global) -> Result<Terms, AllocError>
+        ensures { IfOk result (λ terms. term_items terms ≡ []) }
+    {
+        Ok(Terms {
+            items: Vec::new(alloc),
+        })
+    }
+
+    pub fn len(&self) -> usize
+        ensures { result ≡ length (term_items self.now) }
+    {
+        self.items.len()
+    }
+
+    pub fn get(&self, at: usize) -> Option<&Term>
+        ensures { option_copied result ≡ slice_get (term_items self.now) at }
+    {
+        self.items.get(at)
+    }
+
+    pub fn push(&mut self, term: Term) -> Result<(), AllocError>
+        ensures ok { OnOk result (term_items self.new ≡ term_items self.old ++ term ∷ []) }
+        ensures err { OnErr result (term_items self.new ≡ term_items self.old) }
+    {
+        self.items.push(term)?;
+        Ok(())
+    }
 }
