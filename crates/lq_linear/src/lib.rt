@@ -3,6 +3,8 @@
 
 mod engine;
 mod row;
+mod value;
 
 pub use engine::{LinearEngine, LinearStop, Mark, Verdict, conflict_or_point};
 pub use row::LinearRow;
+pub use value::level_at;

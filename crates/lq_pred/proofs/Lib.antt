@@ -9,3 +9,4 @@ pub mod RowParts
 pub mod Readings
 pub mod WholeNumbers
 pub mod NnfViews
+pub mod WholePoints

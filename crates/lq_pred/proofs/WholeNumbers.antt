@@ -60,7 +60,7 @@ from_below x y h = omega (arith, ints)
 from_not_below : (x y : ℤ) → lt_z x y ≡ false → (y -ℤ x +ℤ pos 0) ≤ℤ pos 0
 from_not_below x y h = omega (arith, ints)
 
-one_below : (x y : ℤ) → int_eq x y ≡ false → (lt_z x y ≡ true) ⊎ (lt_z y x ≡ true)
+pub one_below : (x y : ℤ) → int_eq x y ≡ false → (lt_z x y ≡ true) ⊎ (lt_z y x ≡ true)
 one_below x y h = by (lt_z x y) (lt_z y x) refl refl
   where
     apart_from : int_eq x y ≡ false → x ≡ y → ⊥

@@ -14,3 +14,4 @@ pub mod NnfView
 pub mod Relation
 pub mod Truth
 pub mod Points
+pub mod Implication
