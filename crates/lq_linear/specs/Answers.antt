@@ -1,5 +1,4 @@
 -- What an engine last answered.
-use Rattle.lq_linear.specs.declared.engine.LinearStop.{LinearStop}
 use Rattle.lq_linear.specs.declared.engine.Verdict.{Verdict}
 use Rattle.lq_linear.specs.declared.engine.Verdict.TheVariants.{Holds, Conflict}
 

@@ -22,7 +22,7 @@ HasValues row values = All (λ part. part.0 < length values) row.parts
 -- the operations by which the level of a row is formed, with their operands
 pub data IsStep (v : Valuation) (row : Row) : NumOp → ℚ → ℚ → Type 0 where
   member_product : (k term : ℕ) (coefficient : ℤ) → slice_get row.parts k ≡ Some (term, coefficient)
-    → IsStep v row Mul (whole coefficient) (v term)
+      → IsStep v row Mul (whole coefficient) (v term)
   member_sum : (k term : ℕ) (coefficient : ℤ) → slice_get row.parts k ≡ Some (term, coefficient)
-    → IsStep v row Add (sum_at v (take k row.parts)) (whole coefficient *ℚ v term)
+      → IsStep v row Add (sum_at v (take k row.parts)) (whole coefficient *ℚ v term)
   constant_sum : IsStep v row Add (sum_at v row.parts) (whole row.constant)
