@@ -1,5 +1,5 @@
 -- Terms that are numbered already aren't numbered again.
-use Rattle.std.proofs.Common.{◌≡◌, List, [], ◌∷◌, ◌++◌, Bool, true, false, Option, Some, None, ℤ, refl, sym, ap, subst, ◌∙◌, if◌then◌else◌}
+use Rattle.std.proofs.Common.{◌≡◌, List, Option, Some, None, ℤ, refl, ap, ◌∙◌}
 use Rattle.lq_pred.specs.Sum.{Sum, whole, var, neg, add, sub, mul, div, rem, len, measure}
 use Rattle.lq_pred.specs.Table.{has_term, with_term, numbered, literal_of, by_factors, Extends}
 use Rattle.lq_pred.specs.Formula.{Formula, truth, falsity, flag, compare, objects, negation, conjunction, disjunction, equivalence}

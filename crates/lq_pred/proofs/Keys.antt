@@ -1,5 +1,5 @@
 -- The keys of a table, seen as sums.
-use Rattle.std.proofs.Common.{◌≡◌, ℕ, suc, ◌<◌, ◌+◌, length, map, List, [], ◌∷◌, ◌++◌, Bool, true, false, not, ◌||◌, Option, Some, None, cond, refl, sym, ap, ap₂, ◌∙◌, arith, nat_lt, if◌then◌else◌, Result, Ok, Err, IfOk, OnErr}
+use Rattle.std.proofs.Common.{◌≡◌, ℕ, suc, ◌+◌, length, map, List, [], ◌∷◌, ◌++◌, Bool, true, false, not, ◌||◌, Some, None, cond, refl, ap, ◌∙◌, arith, nat_lt, if◌then◌else◌, Result, Ok, Err, IfOk, OnErr}
 use Rattle.std.specs.List.{list_any, position, position_or_len}
 use Rattle.std.proofs.lemmas.List.{map_push}
 use Rattle.lq_pred.specs.Sum.{Sum, same}

@@ -1,11 +1,9 @@
 -- Numbered terms: what stays when more are added.
-use Rattle.std.proofs.Common.{◌≡◌, ℕ, zero, suc, ◌+◌, ◌<◌, ◌≤◌, length, List, [], ◌∷◌, ◌++◌, Bool, true, false, not, ◌&&◌, IsTrue, Option, Some, None, slice_get, refl, sym, ap, ap₂, subst, ◌∙◌, arith, append_assoc, length-append, if◌then◌else◌, cond, ◌||◌}
-use Rattle.std.specs.List.{list_any}
-use Rattle.std.proofs.lemmas.List.{append-nil}
+use Rattle.std.proofs.Common.{◌≡◌, ℕ, zero, suc, ◌<◌, ◌≤◌, length, List, [], ◌∷◌, ◌++◌, Bool, true, false, not, Some, slice_get, refl, sym, ap, subst, ◌∙◌, arith, if◌then◌else◌, ◌||◌}
 use Rattle.std.proofs.lemmas.Bool.{or_left, or_right, and_parts, and_from, or_parts, or_from, not-true, not_from_false}
-use Rattle.lq_pred.specs.Sum.{Sum, whole, var, neg, add, sub, mul, div, rem, len, measure, same}
+use Rattle.lq_pred.specs.Sum.{Sum, same}
 use Rattle.lq_pred.specs.SameLaws.{same-is, same-refl, same-from, same-symm}
-use Rattle.lq_pred.specs.Table.{has_term, index_of, all_differ, with_term, numbered, literal_of, by_factors}
+use Rattle.lq_pred.specs.Table.{has_term, index_of, all_differ, with_term}
 
 pub has_term-here : (t : Sum) (terms : List Sum) → has_term (t ∷ terms) t ≡ true
 has_term-here t terms = or_left (same t t) (has_term terms t) (same-refl t)

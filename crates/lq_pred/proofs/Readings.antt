@@ -3,10 +3,10 @@ use Rattle.std.proofs.Common.{◌≡◌, ℕ, ◌≤◌, length, length-append, 
 use Rattle.lq_linear.specs.Row.{Row}
 use Rattle.lq_pred.specs.Sum.{Sum}
 use Rattle.lq_pred.specs.Table.{has_term, index_of, Extends}
-use Rattle.lq_pred.specs.Comparison.{Comparison, entry, row_coefficient, CanGather, IsRowOf}
+use Rattle.lq_pred.specs.Comparison.{Comparison, entry, row_coefficient, IsRowOf}
 use Rattle.lq_pred.specs.Formula.{Formula, truth, falsity, flag, objects, conjunction, disjunction, equivalence}
 use Rattle.lq_pred.specs.declared.symbol.Symbol.{Symbol}
-use Rattle.lq_pred.specs.Reading.{Reading, Readings, yes, no, row, flag_is, objects_are, all_of, any_of, none, more, pair_of, reading_of, Gathers, AllGather, gathers_yes, gathers_no, gathers_row, gathers_flag, gathers_objects, gathers_all, gathers_any, gather_none, gather_more, AllFitIn}
+use Rattle.lq_pred.specs.Reading.{Reading, Readings, flag_is, objects_are, all_of, any_of, none, more, pair_of, reading_of, Gathers, AllGather, gathers_yes, gathers_no, gathers_row, gathers_flag, gathers_objects, gathers_all, gathers_any, gather_none, gather_more, AllFitIn}
 use Rattle.lq_pred.specs.NnfView.{joined_reading, constant_reading}
 use Rattle.lq_pred.proofs.Numbering.{index_of-append_present, index_of-append_absent, index_of-absent}
 

@@ -1,5 +1,5 @@
 -- A predicate that is true of whole numbers has a reading that holds at their point.
-use Rattle.std.proofs.Common.{◌≡◌, ◌⊎◌, inl, inr, ℕ, ℤ, pos, Bool, true, false, not, ◌&&◌, ◌||◌, ◌==◌, Option, Some, None, MatchBool, refl, sym, ap, ap₂, subst, ◌∙◌, arith}
+use Rattle.std.proofs.Common.{◌≡◌, ◌⊎◌, inl, inr, ℤ, pos, Bool, true, false, Option, Some, None, refl, sym, ap, ap₂, subst, ◌∙◌, arith}
 use Rattle.std.proofs.Math.IntN.{◌+ℤ◌, ◌-ℤ◌, ◌*ℤ◌, *ℤ_comm}
 use Rattle.std.specs.Int.Signed.{◌≤ℤ◌, lt_z}
 use Rattle.std.specs.Ordering.{int_eq}
@@ -13,7 +13,7 @@ use Rattle.lq_pred.specs.Sum.{Sum, whole, var, neg, add, sub, mul, div, rem, len
 use Rattle.lq_pred.specs.Table.{literal_of}
 use Rattle.lq_pred.specs.Comparison.{Comparison, comparison}
 use Rattle.lq_pred.specs.Formula.{Formula, truth, falsity, flag, compare, objects, negation, conjunction, disjunction, equivalence}
-use Rattle.lq_pred.specs.Reading.{comparison_reading, reading_of, at_most, below, equal_to, apart}
+use Rattle.lq_pred.specs.Reading.{comparison_reading, reading_of, apart}
 use Rattle.lq_pred.specs.Truth.{Meaning, term_value, compares, truth_of, same_truth}
 use Rattle.lq_pred.specs.Points.{form_at, scaled_value, difference_at, ComparisonHolds, Meets, point_of}
 use Rattle.lq_pred.specs.declared.pred.CompareOp.{CompareOp}

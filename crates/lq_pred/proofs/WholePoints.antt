@@ -1,16 +1,15 @@
 -- Whole numbers make a point of every implication, so a valid one is true of them.
-use Rattle.std.proofs.Common.{◌≡◌, ◌⊎◌, inl, inr, ℕ, ℤ, pos, Bool, true, false, List, [], ◌∷◌, refl, sym, ap, ap₂, subst, ◌∙◌, arith}
-use Rattle.std.proofs.Math.IntN.{◌+ℤ◌, ◌-ℤ◌, ◌*ℤ◌}
-use Rattle.std.specs.Int.Signed.{◌≤ℤ◌, lt_z}
+use Rattle.std.proofs.Common.{◌≡◌, ◌⊎◌, inl, inr, ℤ, pos, Bool, true, false, List, [], ◌∷◌, refl, sym, ap, ap₂, subst, ◌∙◌, arith}
+use Rattle.std.proofs.Math.IntN.{◌+ℤ◌, ◌*ℤ◌}
+use Rattle.std.specs.Int.Signed.{lt_z}
 use Rattle.std.specs.Ordering.{int_eq}
 use Rattle.std.proofs.lemmas.Int.{ints}
 use Rattle.std.proofs.lemmas.Bool.Decides.{Decides-int_eq}
-use Rattle.lq_math.specs.Rational.{ℚ, whole as rational, ◌+ℚ◌}
+use Rattle.lq_math.specs.Rational.{whole as rational, ◌+ℚ◌}
 use Rattle.lq_math.specs.RationalOrder.{◌≤ℚ◌}
 use Rattle.lq_math.specs.Whole.{whole-sum, whole_at_most}
 use Rattle.lq_pred.specs.Sum.{Sum, whole, var, neg, add, sub, mul, div, rem, len, measure}
 use Rattle.lq_pred.specs.Formula.{Formula}
-use Rattle.lq_pred.specs.Reading.{reading_of}
 use Rattle.lq_pred.specs.Truth.{Meaning, term_value, truth_of, IsTrueIn, quotient, remainder}
 use Rattle.lq_pred.specs.Points.{form_at, point_of}
 use Rattle.lq_pred.specs.Implication.{Implication, AreApart, AgreeOrApart, Agree, IsPoint, MeetsEach, EachTrueIn, IsValid}

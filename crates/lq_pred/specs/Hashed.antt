@@ -1,5 +1,5 @@
 -- What a term feeds a hasher.
-use Rattle.std.specs.Prelude.{◌≡◌, Bool, true, ◌++◌}
+use Rattle.std.specs.Prelude.{◌≡◌, true, ◌++◌}
 use Rattle.std.proofs.Common.{ap}
 use Rattle.std.specs.Hash as fed
 use Rattle.std.specs.Hash.{HashWrites}

@@ -1,8 +1,8 @@
 -- Implications: their terms, their points, and when one is valid.
-use Rattle.std.specs.Prelude.{◌≡◌, ◌⊎◌, ℕ, ℤ, pos, Bool, true, false, List, [], ◌∷◌, map}
+use Rattle.std.specs.Prelude.{◌≡◌, ◌⊎◌, pos, true, false, List, [], ◌∷◌}
 use Rattle.lq_math.specs.Rational.{ℚ, whole as rational, ◌+ℚ◌}
 use Rattle.lq_math.specs.RationalOrder.{◌≤ℚ◌}
-use Rattle.lq_pred.specs.Sum.{Sum, whole, var, neg, add, sub, mul, div, rem, len, measure}
+use Rattle.lq_pred.specs.Sum.{Sum, mul, div, rem, len, measure}
 use Rattle.lq_pred.specs.Table.{has_term}
 use Rattle.lq_pred.specs.Formula.{Formula}
 use Rattle.lq_pred.specs.Reading.{reading_of, formula_numbered}

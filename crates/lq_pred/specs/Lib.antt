@@ -15,3 +15,4 @@ pub mod Relation
 pub mod Truth
 pub mod Points
 pub mod Implication
+pub mod Literals

@@ -1,5 +1,5 @@
 -- The linear form of a term: a coefficient for each variable and each application, and a constant.
-use Rattle.std.specs.Prelude.{ℕ, ℤ, pos, ◌+ℤ◌, ◌-ℤ◌, ◌*ℤ◌, ◌^◌, Option, Some, None, if◌then◌else◌, FitsSigned}
+use Rattle.std.specs.Prelude.{ℤ, pos, ◌+ℤ◌, ◌-ℤ◌, ◌*ℤ◌, Option, Some, None, if◌then◌else◌, FitsSigned}
 use Rattle.std.specs.Int.{w128}
 use Rattle.lq_pred.specs.Sum.{Sum, whole, var, neg, add, sub, mul, div, rem, len, measure, same}
 use Rattle.lq_pred.specs.Table.{literal_of}

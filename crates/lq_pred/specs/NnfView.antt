@@ -4,7 +4,7 @@ use Rattle.lq_linear.specs.Row.{Row}
 use Rattle.lq_pred.specs.Reading.{Reading, yes, no, row, flag_is, objects_are, all_of, any_of, Readings, none, more, pair_of}
 use Rattle.lq_pred.specs.TermView.{sum_of}
 use Rattle.lq_pred.specs.declared.nnf.Nnf.{Nnf, fold-Nnf}
-use Rattle.lq_pred.specs.declared.nnf.Nnfs.{Nnfs, fold-Nnfs, out-Nnfs}
+use Rattle.lq_pred.specs.declared.nnf.Nnfs.{Nnfs, fold-Nnfs}
 use Rattle.lq_pred.specs.declared.nnf.Nnf.TheOpen.{Nnf-F, Nnfs-F}
 
 abbrev pub readings_of : List (Reading Row) → Readings Row

@@ -1,5 +1,5 @@
 -- The tightened reading of a formula, as a tree of literals.
-use Rattle.std.specs.Prelude.{ℤ, pos, Bool, true, false, not, List, [], ◌∷◌, ◌++◌}
+use Rattle.std.specs.Prelude.{pos, Bool, true, false, not, List}
 use Rattle.lq_pred.specs.Sum.{Sum}
 use Rattle.lq_pred.specs.Table.{numbered}
 use Rattle.lq_linear.specs.Row.{Row}
@@ -102,7 +102,7 @@ mutual
   pub data AllGather (terms : List Sum) : Readings Comparison → Readings Row → Type 0 where
     gather_none : AllGather terms none none
     gather_more : (c : Reading Comparison) (cs : Readings Comparison) (r : Reading Row) (rs : Readings Row) → Gathers terms c r → AllGather terms cs rs
-      → AllGather terms (more c cs) (more r rs)
+        → AllGather terms (more c cs) (more r rs)
 
 -- every comparison in the reading can be gathered
 abbrev mutual

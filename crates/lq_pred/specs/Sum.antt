@@ -1,5 +1,5 @@
 -- What a term is, without the memory that holds it.
-use Rattle.std.specs.Prelude.{◌≡◌, ℕ, ℤ, Bool, true, false, ◌==◌, ◌&&◌}
+use Rattle.std.specs.Prelude.{ℤ, Bool, true, false, ◌==◌, ◌&&◌}
 use Rattle.std.specs.Ordering.{int_eq}
 use Rattle.lq_tree.specs.declared.name.Name.{Name}
 use Rattle.lq_pred.specs.declared.symbol.Symbol.{Symbol}

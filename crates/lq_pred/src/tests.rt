@@ -147,18 +147,68 @@ fn comparisons(rt: HostRuntime) -> Result<(), Fail> {
     let m = rt.alloc();
     let op = CompareOp::Le;
     reads(&rt, m, compare(op, var(0), var(1)), "1 t0 + -1 t1 + 0 <= 0")?;
-    reads(&rt, m, compare(CompareOp::Lt, var(0), var(1)), "1 t0 + -1 t1 + 1 <= 0")?;
-    reads(&rt, m, compare(CompareOp::Ge, var(0), var(1)), "-1 t0 + 1 t1 + 0 <= 0")?;
-    reads(&rt, m, compare(CompareOp::Gt, var(0), var(1)), "-1 t0 + 1 t1 + 1 <= 0")?;
-    reads(&rt, m, compare(CompareOp::Eq, var(0), var(1)), "1 t0 + -1 t1 + 0 = 0")?;
+    reads(
+        &rt,
+        m,
+        compare(CompareOp::Lt, var(0), var(1)),
+        "1 t0 + -1 t1 + 1 <= 0",
+    )?;
+    reads(
+        &rt,
+        m,
+        compare(CompareOp::Ge, var(0), var(1)),
+        "-1 t0 + 1 t1 + 0 <= 0",
+    )?;
+    reads(
+        &rt,
+        m,
+        compare(CompareOp::Gt, var(0), var(1)),
+        "-1 t0 + 1 t1 + 1 <= 0",
+    )?;
+    reads(
+        &rt,
+        m,
+        compare(CompareOp::Eq, var(0), var(1)),
+        "1 t0 + -1 t1 + 0 = 0",
+    )?;
     let apart = "any(1 t0 + -1 t1 + 1 <= 0; -1 t0 + 1 t1 + 1 <= 0; )";
     reads(&rt, m, compare(CompareOp::Ne, var(0), var(1)), apart)?;
-    reads(&rt, m, not(m, compare(op, var(0), var(1))), "-1 t0 + 1 t1 + 1 <= 0")?;
-    reads(&rt, m, not(m, compare(CompareOp::Lt, var(0), var(1))), "-1 t0 + 1 t1 + 0 <= 0")?;
-    reads(&rt, m, not(m, compare(CompareOp::Ge, var(0), var(1))), "1 t0 + -1 t1 + 1 <= 0")?;
-    reads(&rt, m, not(m, compare(CompareOp::Gt, var(0), var(1))), "1 t0 + -1 t1 + 0 <= 0")?;
-    reads(&rt, m, not(m, compare(CompareOp::Eq, var(0), var(1))), apart)?;
-    reads(&rt, m, not(m, compare(CompareOp::Ne, var(0), var(1))), "1 t0 + -1 t1 + 0 = 0")?;
+    reads(
+        &rt,
+        m,
+        not(m, compare(op, var(0), var(1))),
+        "-1 t0 + 1 t1 + 1 <= 0",
+    )?;
+    reads(
+        &rt,
+        m,
+        not(m, compare(CompareOp::Lt, var(0), var(1))),
+        "-1 t0 + 1 t1 + 0 <= 0",
+    )?;
+    reads(
+        &rt,
+        m,
+        not(m, compare(CompareOp::Ge, var(0), var(1))),
+        "1 t0 + -1 t1 + 1 <= 0",
+    )?;
+    reads(
+        &rt,
+        m,
+        not(m, compare(CompareOp::Gt, var(0), var(1))),
+        "1 t0 + -1 t1 + 0 <= 0",
+    )?;
+    reads(
+        &rt,
+        m,
+        not(m, compare(CompareOp::Eq, var(0), var(1))),
+        apart,
+    )?;
+    reads(
+        &rt,
+        m,
+        not(m, compare(CompareOp::Ne, var(0), var(1))),
+        "1 t0 + -1 t1 + 0 = 0",
+    )?;
     Ok(())
 }
 
@@ -168,18 +218,53 @@ fn linear_terms(rt: HostRuntime) -> Result<(), Fail> {
     let le = CompareOp::Le;
     reads(&rt, m, compare(le, var(0), n(5)), "1 t0 + -5 <= 0")?;
     reads(&rt, m, compare(le, n(5), var(0)), "-1 t0 + 5 <= 0")?;
-    reads(&rt, m, compare(CompareOp::Eq, add(m, var(0), var(0)), n(1)), "2 t0 + -1 = 0")?;
+    reads(
+        &rt,
+        m,
+        compare(CompareOp::Eq, add(m, var(0), var(0)), n(1)),
+        "2 t0 + -1 = 0",
+    )?;
     reads(&rt, m, compare(le, sub(m, var(0), var(0)), n(0)), "0 <= 0")?;
-    reads(&rt, m, compare(le, mul(m, n(3), var(0)), n(7)), "3 t0 + -7 <= 0")?;
-    reads(&rt, m, compare(le, mul(m, var(0), n(3)), var(1)), "3 t0 + -1 t1 + 0 <= 0")?;
-    reads(&rt, m, compare(le, mul(m, var(0), n(-3)), n(0)), "-3 t0 + 0 <= 0")?;
-    reads(&rt, m, compare(le, mul(m, n(2), n(3)), var(0)), "-1 t0 + 6 <= 0")?;
-    reads(&rt, m, compare(le, mul(m, n(0), var(0)), var(1)), "-1 t1 + 0 <= 0")?;
+    reads(
+        &rt,
+        m,
+        compare(le, mul(m, n(3), var(0)), n(7)),
+        "3 t0 + -7 <= 0",
+    )?;
+    reads(
+        &rt,
+        m,
+        compare(le, mul(m, var(0), n(3)), var(1)),
+        "3 t0 + -1 t1 + 0 <= 0",
+    )?;
+    reads(
+        &rt,
+        m,
+        compare(le, mul(m, var(0), n(-3)), n(0)),
+        "-3 t0 + 0 <= 0",
+    )?;
+    reads(
+        &rt,
+        m,
+        compare(le, mul(m, n(2), n(3)), var(0)),
+        "-1 t0 + 6 <= 0",
+    )?;
+    reads(
+        &rt,
+        m,
+        compare(le, mul(m, n(0), var(0)), var(1)),
+        "-1 t1 + 0 <= 0",
+    )?;
     let inner = add(m, var(0), mul(m, n(3), var(1)));
     let sum = sub(m, mul(m, n(2), inner), n(4));
     reads(&rt, m, compare(le, sum, var(0)), "1 t0 + 6 t1 + -4 <= 0")?;
     let turned = neg(m, sub(m, var(0), var(1)));
-    reads(&rt, m, compare(CompareOp::Lt, turned, n(0)), "-1 t0 + 1 t1 + 1 <= 0")?;
+    reads(
+        &rt,
+        m,
+        compare(CompareOp::Lt, turned, n(0)),
+        "-1 t0 + 1 t1 + 1 <= 0",
+    )?;
     Ok(())
 }
 
@@ -189,14 +274,44 @@ fn applications(rt: HostRuntime) -> Result<(), Fail> {
     let le = CompareOp::Le;
     let by_negation = mul(m, var(0), neg(m, n(3)));
     reads(&rt, m, compare(le, by_negation, n(0)), "1 t1 + 0 <= 0")?;
-    reads(&rt, m, compare(le, mul(m, var(0), var(1)), n(0)), "1 t2 + 0 <= 0")?;
-    reads(&rt, m, compare(le, div(m, var(0), n(2)), var(0)), "-1 t0 + 1 t1 + 0 <= 0")?;
-    reads(&rt, m, compare(CompareOp::Eq, rem(m, var(0), n(2)), n(1)), "1 t1 + -1 = 0")?;
-    reads(&rt, m, compare(le, n(0), length(m, var(0))), "-1 t0 + 0 <= 0")?;
+    reads(
+        &rt,
+        m,
+        compare(le, mul(m, var(0), var(1)), n(0)),
+        "1 t2 + 0 <= 0",
+    )?;
+    reads(
+        &rt,
+        m,
+        compare(le, div(m, var(0), n(2)), var(0)),
+        "-1 t0 + 1 t1 + 0 <= 0",
+    )?;
+    reads(
+        &rt,
+        m,
+        compare(CompareOp::Eq, rem(m, var(0), n(2)), n(1)),
+        "1 t1 + -1 = 0",
+    )?;
+    reads(
+        &rt,
+        m,
+        compare(le, n(0), length(m, var(0))),
+        "-1 t0 + 0 <= 0",
+    )?;
     let longer = add(m, n(1), measure(m, var(1)));
-    reads(&rt, m, compare(CompareOp::Eq, measure(m, var(0)), longer), "1 t0 + -1 t1 + -1 = 0")?;
+    reads(
+        &rt,
+        m,
+        compare(CompareOp::Eq, measure(m, var(0)), longer),
+        "1 t0 + -1 t1 + -1 = 0",
+    )?;
     let outer = div(m, mul(m, var(0), var(1)), var(0));
-    reads(&rt, m, compare(le, outer, mul(m, var(0), var(1))), "-1 t2 + 1 t3 + 0 <= 0")?;
+    reads(
+        &rt,
+        m,
+        compare(le, outer, mul(m, var(0), var(1))),
+        "-1 t2 + 1 t3 + 0 <= 0",
+    )?;
     Ok(())
 }
 
@@ -212,10 +327,30 @@ fn connectives(rt: HostRuntime) -> Result<(), Fail> {
     reads(&rt, m, not(m, flag()), "not flag")?;
     reads(&rt, m, same(var(0), var(1)), "same")?;
     reads(&rt, m, not(m, same(var(0), var(1))), "not same")?;
-    reads(&rt, m, and(m, below(0), flag()), "all(1 t0 + 1 <= 0; flag; )")?;
-    reads(&rt, m, not(m, and(m, below(0), flag())), "any(-1 t0 + 0 <= 0; not flag; )")?;
-    reads(&rt, m, or(m, below(0), flag()), "any(1 t0 + 1 <= 0; flag; )")?;
-    reads(&rt, m, not(m, or(m, below(0), flag())), "all(-1 t0 + 0 <= 0; not flag; )")?;
+    reads(
+        &rt,
+        m,
+        and(m, below(0), flag()),
+        "all(1 t0 + 1 <= 0; flag; )",
+    )?;
+    reads(
+        &rt,
+        m,
+        not(m, and(m, below(0), flag())),
+        "any(-1 t0 + 0 <= 0; not flag; )",
+    )?;
+    reads(
+        &rt,
+        m,
+        or(m, below(0), flag()),
+        "any(1 t0 + 1 <= 0; flag; )",
+    )?;
+    reads(
+        &rt,
+        m,
+        not(m, or(m, below(0), flag())),
+        "all(-1 t0 + 0 <= 0; not flag; )",
+    )?;
     let both = "any(all(flag; 1 t0 + 1 <= 0; ); all(not flag; -1 t0 + 0 <= 0; ); )";
     reads(&rt, m, iff(m, flag(), below(0)), both)?;
     let one = "any(all(flag; -1 t0 + 0 <= 0; ); all(not flag; 1 t0 + 1 <= 0; ); )";

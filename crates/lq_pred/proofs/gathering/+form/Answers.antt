@@ -1,7 +1,7 @@
-use Rattle.std.proofs.Common.{◌≡◌, ◌∙◌, ap, ap₂, sym, subst, true, false, IfOk, OnOk, Some, ℤ, pos, negsuc, refl, rules, to_z, of_z, ◌-ℤ◌, ◌*ℤ◌, FitsSigned}
+use Rattle.std.proofs.Common.{◌≡◌, ◌∙◌, ap, ap₂, sym, subst, true, false, IfOk, OnOk, Some, pos, negsuc, refl, rules, to_z, of_z, FitsSigned}
 use Rattle.std.specs.Int.{w128}
 use Rattle.std.proofs.lemmas.Int.{to_z-of_z}
-use Rattle.lq_pred.specs.Sum.{Sum, neg, add, sub, mul}
+use Rattle.lq_pred.specs.Sum.{neg, add, sub, mul}
 use Rattle.lq_pred.specs.Table.{literal_of}
 use Rattle.lq_pred.specs.TableView.{terms_of}
 use Rattle.lq_pred.specs.TermView.{sum_of}
@@ -18,8 +18,8 @@ returns-in_ok-right-in-Add-clause-form t c =
     let f = c.in_ok-left-in-Add.left in let g = c.in_ok-right-in-Add.right in
     subst (λ s. IfOk c.plus.result (λ h. IsFormOf all h s)) is
     (combined_form false c.plus.result all f g (constant_of a) (constant_of b) (coefficient a) (coefficient b)
-        (grown old all f (constant_of a) (coefficient a) c.in_ok-left-in-Add.ensures.form c.in_ok-right-in-Add.ensures.grows)
-        c.in_ok-right-in-Add.ensures.form c.plus.ensures.constant c.plus.ensures.coefficients c.plus.ensures.fit)
+    (grown old all f (constant_of a) (coefficient a) c.in_ok-left-in-Add.ensures.form c.in_ok-right-in-Add.ensures.grows)
+    c.in_ok-right-in-Add.ensures.form c.plus.ensures.constant c.plus.ensures.coefficients c.plus.ensures.fit)
 
 pub returns-in_ok-right-in-Add-clause-fit : goal.returns-in_ok-right-in-Add-clause-fit
 returns-in_ok-right-in-Add-clause-fit t c =
@@ -30,8 +30,8 @@ returns-in_ok-right-in-Add-clause-fit t c =
     subst (λ s. OnOk c.plus.result (IsFit s)) is
     (and_two_kept (IsFit a) (IsFit b) (HasFit (add a b)) c.plus.result c.in_ok-left-in-Add.ensures.fit c.in_ok-right-in-Add.ensures.fit (kept_fit c.plus.result all (add a b)
     (combined_form false c.plus.result all f g (constant_of a) (constant_of b) (coefficient a) (coefficient b)
-        (grown old all f (constant_of a) (coefficient a) c.in_ok-left-in-Add.ensures.form c.in_ok-right-in-Add.ensures.grows)
-        c.in_ok-right-in-Add.ensures.form c.plus.ensures.constant c.plus.ensures.coefficients c.plus.ensures.fit)))
+    (grown old all f (constant_of a) (coefficient a) c.in_ok-left-in-Add.ensures.form c.in_ok-right-in-Add.ensures.grows)
+    c.in_ok-right-in-Add.ensures.form c.plus.ensures.constant c.plus.ensures.coefficients c.plus.ensures.fit)))
 
 pub returns-in_ok-right-in-Add-clause-past : goal.returns-in_ok-right-in-Add-clause-past
 returns-in_ok-right-in-Add-clause-past t c = λ e fit.
@@ -41,7 +41,7 @@ returns-in_ok-right-in-Add-clause-past t c = λ e fit.
     let f = c.in_ok-left-in-Add.left in let g = c.in_ok-right-in-Add.right in
     let fits = subst IsFit (sym is) fit in
     let parts = fit_parts false old all f g (constant_of a) (constant_of b) (coefficient a) (coefficient b) c.form-in-Add-2.new.table.distinct
-        c.in_ok-left-in-Add.ensures.form c.in_ok-right-in-Add.ensures.grows c.in_ok-right-in-Add.ensures.form (fits.2).constant (fits.2).coefficients in
+    c.in_ok-left-in-Add.ensures.form c.in_ok-right-in-Add.ensures.grows c.in_ok-right-in-Add.ensures.form (fits.2).constant (fits.2).coefficients in
     c.plus.ensures.past e parts.0 parts.1
 
 pub returns-in_ok-right-in-Sub-clause-form : goal.returns-in_ok-right-in-Sub-clause-form
@@ -52,8 +52,8 @@ returns-in_ok-right-in-Sub-clause-form t c =
     let f = c.in_ok-left-in-Sub.left in let g = c.in_ok-right-in-Sub.right in
     subst (λ s. IfOk c.minus.result (λ h. IsFormOf all h s)) is
     (combined_form true c.minus.result all f g (constant_of a) (constant_of b) (coefficient a) (coefficient b)
-        (grown old all f (constant_of a) (coefficient a) c.in_ok-left-in-Sub.ensures.form c.in_ok-right-in-Sub.ensures.grows)
-        c.in_ok-right-in-Sub.ensures.form c.minus.ensures.constant c.minus.ensures.coefficients c.minus.ensures.fit)
+    (grown old all f (constant_of a) (coefficient a) c.in_ok-left-in-Sub.ensures.form c.in_ok-right-in-Sub.ensures.grows)
+    c.in_ok-right-in-Sub.ensures.form c.minus.ensures.constant c.minus.ensures.coefficients c.minus.ensures.fit)
 
 pub returns-in_ok-right-in-Sub-clause-fit : goal.returns-in_ok-right-in-Sub-clause-fit
 returns-in_ok-right-in-Sub-clause-fit t c =
@@ -64,8 +64,8 @@ returns-in_ok-right-in-Sub-clause-fit t c =
     subst (λ s. OnOk c.minus.result (IsFit s)) is
     (and_two_kept (IsFit a) (IsFit b) (HasFit (sub a b)) c.minus.result c.in_ok-left-in-Sub.ensures.fit c.in_ok-right-in-Sub.ensures.fit (kept_fit c.minus.result all (sub a b)
     (combined_form true c.minus.result all f g (constant_of a) (constant_of b) (coefficient a) (coefficient b)
-        (grown old all f (constant_of a) (coefficient a) c.in_ok-left-in-Sub.ensures.form c.in_ok-right-in-Sub.ensures.grows)
-        c.in_ok-right-in-Sub.ensures.form c.minus.ensures.constant c.minus.ensures.coefficients c.minus.ensures.fit)))
+    (grown old all f (constant_of a) (coefficient a) c.in_ok-left-in-Sub.ensures.form c.in_ok-right-in-Sub.ensures.grows)
+    c.in_ok-right-in-Sub.ensures.form c.minus.ensures.constant c.minus.ensures.coefficients c.minus.ensures.fit)))
 
 pub returns-in_ok-right-in-Sub-clause-past : goal.returns-in_ok-right-in-Sub-clause-past
 returns-in_ok-right-in-Sub-clause-past t c = λ e fit.
@@ -75,7 +75,7 @@ returns-in_ok-right-in-Sub-clause-past t c = λ e fit.
     let f = c.in_ok-left-in-Sub.left in let g = c.in_ok-right-in-Sub.right in
     let fits = subst IsFit (sym is) fit in
     let parts = fit_parts true old all f g (constant_of a) (constant_of b) (coefficient a) (coefficient b) c.form-in-Sub-2.new.table.distinct
-        c.in_ok-left-in-Sub.ensures.form c.in_ok-right-in-Sub.ensures.grows c.in_ok-right-in-Sub.ensures.form (fits.2).constant (fits.2).coefficients in
+    c.in_ok-left-in-Sub.ensures.form c.in_ok-right-in-Sub.ensures.grows c.in_ok-right-in-Sub.ensures.form (fits.2).constant (fits.2).coefficients in
     c.minus.ensures.past e parts.0 parts.1
 
 pub returns-in_ok-inner-in-Neg-clause-past : goal.returns-in_ok-inner-in-Neg-clause-past
@@ -84,7 +84,7 @@ returns-in_ok-inner-in-Neg-clause-past t c = λ e fit.
     let is : neg a ≡ sum_of c.args.term.now = ap neg (ap sum_of c.deref.ensures) ∙ sym (ap sum_of c.in-Neg.is) in
     let fits = subst IsFit (sym is) fit in
     let parts = fit_scale (negsuc 0) (negsuc 0) refl (terms_of c.form.new.table) c.in_ok-inner-in-Neg.inner (constant_of a) (coefficient a) c.form.new.table.distinct
-        c.in_ok-inner-in-Neg.ensures.form (fit_negated (constant_of a) (fits.1).constant) (λ u. fit_negated (coefficient a u) ((fits.1).coefficients u)) in
+    c.in_ok-inner-in-Neg.ensures.form (fit_negated (constant_of a) (fits.1).constant) (λ u. fit_negated (coefficient a u) ((fits.1).coefficients u)) in
     c.times.ensures.past e parts.0 parts.1
 
 pub returns-in-Some-clause-past : goal.returns-in-Some-clause-past
@@ -96,9 +96,9 @@ returns-in-Some-clause-past t c = λ e fit.
     let fits = left_factor (literal_of a) (literal_of b) n (IsFit a × IsFit b × HasFit (mul a b)) o (subst IsFit (sym is) fit) in
     let nf : FitsSigned w128 n = search rules in
     let parts = fit_scale (to_z w128 (of_z w128 n)) n (to_z-of_z w128 n nf) (terms_of c.form-in-Some.new.table) c.in_ok-right-in-Mul.right (constant_of b) (coefficient b) c.form-in-Some.new.table.distinct
-        c.in_ok-right-in-Mul.ensures.form
-        (subst (FitsSigned w128) (scaled_left (literal_of a) (literal_of b) n (constant_of a) (constant_of b) (pos 0) o) (fits.2).constant)
-        (λ u. subst (FitsSigned w128) (scaled_left (literal_of a) (literal_of b) n (coefficient a u) (coefficient b u) (one_at (mul a b) u) o) ((fits.2).coefficients u)) in
+    c.in_ok-right-in-Mul.ensures.form
+    (subst (FitsSigned w128) (scaled_left (literal_of a) (literal_of b) n (constant_of a) (constant_of b) (pos 0) o) (fits.2).constant)
+    (λ u. subst (FitsSigned w128) (scaled_left (literal_of a) (literal_of b) n (coefficient a u) (coefficient b u) (one_at (mul a b) u) o) ((fits.2).coefficients u)) in
     c.times-in-Some.ensures.past e parts.0 parts.1
 
 pub returns-in-Some-literal-clause-past : goal.returns-in-Some-literal-clause-past
@@ -113,7 +113,7 @@ returns-in-Some-literal-clause-past t c = λ e fit.
     let form = subst (IsFormOf (terms_of c.form-in-Some-literal.new.table) c.in_ok-left-in-Mul.left) here c.in_ok-left-in-Mul.ensures.form in
     let nf : FitsSigned w128 n = search rules in
     let parts = fit_scale (to_z w128 (of_z w128 n)) n (to_z-of_z w128 n nf) (terms_of c.form-in-Some-literal.new.table) c.in_ok-left-in-Mul.left (constant_of a) (coefficient a) c.form-in-Some-literal.new.table.distinct
-        form
-        (subst (FitsSigned w128) (scaled_right (literal_of a) (literal_of b) n (constant_of a) (constant_of b) (pos 0) none o) (fits.2).constant)
-        (λ u. subst (FitsSigned w128) (scaled_right (literal_of a) (literal_of b) n (coefficient a u) (coefficient b u) (one_at (mul a b) u) none o) ((fits.2).coefficients u)) in
+    form
+    (subst (FitsSigned w128) (scaled_right (literal_of a) (literal_of b) n (constant_of a) (constant_of b) (pos 0) none o) (fits.2).constant)
+    (λ u. subst (FitsSigned w128) (scaled_right (literal_of a) (literal_of b) n (coefficient a u) (coefficient b u) (one_at (mul a b) u) none o) ((fits.2).coefficients u)) in
     c.times-in-Some-literal.ensures.past e parts.0 parts.1

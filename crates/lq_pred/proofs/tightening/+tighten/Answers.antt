@@ -1,5 +1,5 @@
 use Rattle.std.proofs.Common.{◌≡◌, ◌∙◌, ap, ap₂, sym, subst, true, false, not}
-use Rattle.lq_pred.specs.Formula.{Formula, truth, falsity, flag, objects, conjunction, disjunction, equivalence}
+use Rattle.lq_pred.specs.Formula.{truth, falsity, flag, objects, conjunction, disjunction, equivalence}
 use Rattle.lq_pred.specs.NnfView.{nnf_view, joined_reading}
 use Rattle.lq_pred.specs.PredView.{formula_of}
 use Rattle.lq_pred.specs.Reading.{reading_of, formula_numbered, Gathers}

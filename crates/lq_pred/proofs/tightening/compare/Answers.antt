@@ -1,5 +1,5 @@
-use Rattle.std.proofs.Common.{◌≡◌, ◌∙◌, ap, sym, subst}
-use Rattle.lq_pred.specs.Table.{numbered, Extends}
+use Rattle.std.proofs.Common.{◌∙◌, ap}
+use Rattle.lq_pred.specs.Table.{numbered}
 use Rattle.lq_pred.specs.TableView.{terms_of}
 use Rattle.lq_pred.specs.TermView.{sum_of}
 use Rattle.lq_pred.proofs.Again.{sides_again, turned_again}

@@ -1,7 +1,6 @@
-use Rattle.std.proofs.Common.{sym, subst, pos, false}
-use Rattle.lq_pred.specs.Comparison.{comparison}
+use Rattle.std.proofs.Common.{sym, subst}
 use Rattle.lq_pred.specs.NnfView.{nnf_view}
-use Rattle.lq_pred.specs.Reading.{row, below, apart, Gathers}
+use Rattle.lq_pred.specs.Reading.{below, apart, Gathers}
 use Rattle.lq_pred.specs.Relation.{relation_reading}
 use Rattle.lq_pred.specs.TableView.{terms_of}
 use Rattle.lq_pred.specs.TermView.{sum_of}

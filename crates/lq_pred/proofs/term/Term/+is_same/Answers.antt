@@ -1,4 +1,4 @@
-use Rattle.std.proofs.Common.{◌≡◌, ◌∙◌, ap, sym, false}
+use Rattle.std.proofs.Common.{◌∙◌, ap, sym}
 use Rattle.lq_pred.specs.Sum.{same}
 use Rattle.lq_pred.specs.TermView.{sum_of}
 use Rattle.lq_pred.proofs.TermForms.{not_whole, not_var, not_neg, not_add, not_sub, not_mul, not_div, not_mod, not_length, not_measure}
