@@ -1,0 +1,5 @@
+pub mod Row
+pub mod Contradiction
+pub mod Clash
+pub mod Answers
+pub mod Steps

@@ -1,0 +1,10 @@
+//! Rows of linear arithmetic, what they say at a point, and the engines that decide them.
+#![tactic(auto)]
+
+mod engine;
+mod row;
+mod value;
+
+pub use engine::{LinearEngine, LinearStop, Mark, Verdict, conflict_or_point};
+pub use row::LinearRow;
+pub use value::level_at;

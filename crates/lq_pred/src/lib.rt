@@ -1,0 +1,27 @@
+//! Predicates, their tightened readings, and points.
+#![tactic(auto)]
+
+mod error;
+mod form;
+mod gathering;
+mod laws;
+mod nnf;
+mod pred;
+mod symbol;
+mod table;
+mod term;
+#[cfg(test)]
+mod tests;
+mod tightening;
+
+pub use error::GatherError;
+pub use gathering::gather;
+pub use laws::whole_numbers_are_a_point;
+pub use lq_linear::{LinearEngine, LinearRow, LinearStop, Mark, Verdict};
+pub use lq_name::CompareOp;
+pub use nnf::{Nnf, Nnfs};
+pub use pred::{Closed, Pred, Preds, Stop};
+pub use symbol::{Shape, Sort, Symbol};
+pub use table::TermTable;
+pub use term::{Term, Terms};
+pub use tightening::tighten;

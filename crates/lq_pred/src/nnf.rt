@@ -1,0 +1,61 @@
+ghost use Rattle.std.specs.Prelude.{◌≡◌, [], ◌∷◌, ◌++◌, length, slice_get, option_copied, OnOk, OnErr, IfOk};
+
+use crate::symbol::Symbol;
+use crate::term::Term;
+use lq_linear::LinearRow;
+use std::alloc::{AllocError, Global};
+
+/// A tightened reading: literals under "all of" and "any of".
+#[cycle(nnf)]
+#[derive(Drop)]
+pub enum Nnf {
+    /// It always holds.
+    Yes,
+    /// It never holds.
+    No,
+    Row(LinearRow),
+    Flag(Symbol, bool),
+    /// Two objects are one, or are not.
+    Same(Term, Term, bool),
+    All(Nnfs),
+    Any(Nnfs),
+}
+
+/// Readings in a row.
+#[cycle(nnf)]
+#[derive(Drop)]
+pub struct Nnfs {
+    pub(crate) items: Vec<Nnf>,
+}
+
+impl Nnfs {
+    ghost use Rattle.lq_pred.specs.NnfView.{nnf_items};
+
+    pub fn new(alloc: Global) -> Result<Nnfs, AllocError>
+        ensures { IfOk result (λ nnfs. nnf_items nnfs ≡ []) }
+    {
+        Ok(Nnfs {
+            items: Vec::new(alloc),
+        })
+    }
+
+    pub fn len(&self) -> usize
+        ensures { result ≡ length (nnf_items self.now) }
+    {
+        self.items.len()
+    }
+
+    pub fn get(&self, at: usize) -> Option<&Nnf>
+        ensures { option_copied result ≡ slice_get (nnf_items self.now) at }
+    {
+        self.items.get(at)
+    }
+
+    pub fn push(&mut self, nnf: Nnf) -> Result<(), AllocError>
+        ensures ok { OnOk result (nnf_items self.new ≡ nnf_items self.old ++ nnf ∷ []) }
+        ensures err { OnErr result (nnf_items self.new ≡ nnf_items self.old) }
+    {
+        self.items.push(nnf)?;
+        Ok(())
+    }
+}

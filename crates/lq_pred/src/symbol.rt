@@ -1,0 +1,34 @@
+use lq_name::{Binder, Name};
+
+/// A name in a predicate.
+#[derive(Clone, Copy, Debug, PartialEq, Eq, PartialOrd, Ord, Hash)]
+pub enum Symbol {
+    /// The value that a refinement speaks of.
+    Value,
+    /// A variable of the program.
+    Bound(Binder),
+    /// A component of a tuple or a field of a constructor, counted from 1.
+    Position(u32),
+}
+
+/// What kind of value a term or a symbol stands for: a whole number, a truth value, or an array or
+/// value of a datatype.
+#[derive(Clone, Copy, Debug, PartialEq, Eq, Hash)]
+pub enum Sort {
+    Int,
+    Bool,
+    Object,
+}
+
+/// What a qualifier or an unknown may speak of.
+#[derive(Clone, Copy, Debug, PartialEq, Eq, Hash)]
+pub enum Shape {
+    Int,
+    Bool,
+    Unit,
+    Array,
+    /// A datatype.
+    Named(Name),
+    /// A function, a tuple or a type variable.
+    Other,
+}

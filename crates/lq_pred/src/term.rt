@@ -1,0 +1,238 @@
+ghost use Rattle.std.specs.Prelude.{◌≡◌, ◌↔◌, IsTrue, IfOk};
+
+use crate::symbol::Symbol;
+use lq_name::Name;
+use std::alloc::{AllocError, Global};
+use std::hash::{Hash, Hasher};
+
+/// A term.
+#[derive(Debug, Drop)]
+pub enum Term {
+    Whole(i128),
+    Var(Symbol),
+    Neg(Box<Term>),
+    Add(Box<Term>, Box<Term>),
+    Sub(Box<Term>, Box<Term>),
+    Mul(Box<Term>, Box<Term>),
+    Div(Box<Term>, Box<Term>),
+    Mod(Box<Term>, Box<Term>),
+    Length(Box<Term>),
+    Measure(Name, Box<Term>),
+}
+
+impl Term {
+    ghost use Rattle.lq_pred.specs.Sum.{same};
+    ghost use Rattle.lq_pred.specs.TermView.{sum_of};
+    ghost use Rattle.std.specs.Prelude.{fold};
+    ghost use Rattle.lq_pred.specs.Hashed.{writes_of};
+    ghost use Rattle.lq_pred.specs.Table.{literal_of};
+
+    /// An equal term.
+    #[cycle(copy)]
+    pub fn copy(&self, alloc: Global) -> Result<Term, AllocError>
+        ensures { IfOk result (λ term. sum_of term ≡ sum_of self.now) }
+    {
+        match self {
+            Term::Whole(n) => Ok(Term::Whole(*n)),
+            Term::Var(x) => Ok(Term::Var(*x)),
+            Term::Neg(a) => Ok(Term::Neg(a.boxed(alloc)?)),
+            Term::Add(a, b) => Ok(Term::Add(a.boxed(alloc)?, b.boxed(alloc)?)),
+            Term::Sub(a, b) => Ok(Term::Sub(a.boxed(alloc)?, b.boxed(alloc)?)),
+            Term::Mul(a, b) => Ok(Term::Mul(a.boxed(alloc)?, b.boxed(alloc)?)),
+            Term::Div(a, b) => Ok(Term::Div(a.boxed(alloc)?, b.boxed(alloc)?)),
+            Term::Mod(a, b) => Ok(Term::Mod(a.boxed(alloc)?, b.boxed(alloc)?)),
+            Term::Length(a) => Ok(Term::Length(a.boxed(alloc)?)),
+            Term::Measure(name, a) => Ok(Term::Measure(*name, a.boxed(alloc)?)),
+        }
+    }
+
+    #[cycle(copy)]
+    fn boxed(&self, alloc: Global) -> Result<Box<Term>, AllocError>
+        ensures { IfOk result (λ b. sum_of b.value ≡ sum_of self.now) }
+    {
+        let copied = self.copy(alloc)?;
+        Ok(Box::new(alloc, copied)?)
+    }
+
+    // The number that a literal is.
+    pub(crate) fn literal(&self) -> Option<i128>
+        ensures { result ≡ literal_of (sum_of self.now) }
+    {
+        match self {
+            Term::Whole(n) => Some(*n),
+            _ => None,
+        }
+    }
+
+    // Whether the two are one term.
+    fn is_same(&self, other: &Term) -> bool
+        ensures { result ≡ same (sum_of self.now) (sum_of other.now) }
+    {
+        match (self, other) {
+            (Term::Whole(n), Term::Whole(m)) => *n == *m,
+            (Term::Var(x), Term::Var(y)) => is_same_symbol(*x, *y),
+            (Term::Neg(a), Term::Neg(b)) => a.is_same(b),
+            (Term::Add(a, b), Term::Add(c, d)) => a.is_same(c) && b.is_same(d),
+            (Term::Sub(a, b), Term::Sub(c, d)) => a.is_same(c) && b.is_same(d),
+            (Term::Mul(a, b), Term::Mul(c, d)) => a.is_same(c) && b.is_same(d),
+            (Term::Div(a, b), Term::Div(c, d)) => a.is_same(c) && b.is_same(d),
+            (Term::Mod(a, b), Term::Mod(c, d)) => a.is_same(c) && b.is_same(d),
+            (Term::Length(a), Term::Length(b)) => a.is_same(b),
+            (Term::Measure(f, a), Term::Measure(g, b)) => *f == *g && a.is_same(b),
+            _ => false,
+        }
+    }
+
+    // Feeds the term to a hasher, each form under a number of its own.
+    fn feed<H: Hasher>(&self, state: &mut H)
+        ensures { state.new ≡ fold H.write state.old (writes_of (sum_of self.now)) }
+    {
+        match self {
+            Term::Whole(n) => {
+                state.write_u8(0);
+                state.write_i128(*n);
+            }
+            Term::Var(x) => {
+                state.write_u8(1);
+                feed_symbol(*x, state);
+            }
+            Term::Neg(a) => {
+                state.write_u8(2);
+                a.feed(state);
+            }
+            Term::Add(a, b) => {
+                state.write_u8(3);
+                a.feed(state);
+                b.feed(state);
+            }
+            Term::Sub(a, b) => {
+                state.write_u8(4);
+                a.feed(state);
+                b.feed(state);
+            }
+            Term::Mul(a, b) => {
+                state.write_u8(5);
+                a.feed(state);
+                b.feed(state);
+            }
+            Term::Div(a, b) => {
+                state.write_u8(6);
+                a.feed(state);
+                b.feed(state);
+            }
+            Term::Mod(a, b) => {
+                state.write_u8(7);
+                a.feed(state);
+                b.feed(state);
+            }
+            Term::Length(a) => {
+                state.write_u8(8);
+                a.feed(state);
+            }
+            Term::Measure(name, a) => {
+                state.write_u8(9);
+                state.write_u32(name.0);
+                a.feed(state);
+            }
+        }
+    }
+}
+
+impl PartialEq for Term {
+    ghost use Rattle.lq_pred.specs.Sum.{same};
+    ghost use Rattle.lq_pred.specs.TermView.{sum_of};
+    ghost use Rattle.lq_pred.specs.SameLaws.{same_partial_laws};
+
+    ghost eq = { λ a b. same (sum_of a) (sum_of b) };
+
+    ghost laws = { same_partial_laws };
+
+    fn eq(&self, other: &Term) -> bool {
+        self.is_same(other)
+    }
+}
+
+impl Eq for Term {
+    ghost use Rattle.lq_pred.specs.SameLaws.{same_laws};
+
+    ghost laws = { same_laws };
+}
+
+impl Hash for Term {
+    ghost use Rattle.lq_pred.specs.TermView.{sum_of};
+    ghost use Rattle.lq_pred.specs.Hashed.{writes_of, writes-same};
+
+    ghost hash_input = { λ t. writes_of (sum_of t) };
+
+    ghost respects_eq = { λ a b h. writes-same (sum_of a) (sum_of b) h };
+
+    fn hash<H: Hasher>(&self, state: &mut H) {
+        self.feed(state);
+    }
+}
+
+ghost use Rattle.std.specs.Prelude.{fold};
+ghost use Rattle.lq_pred.specs.Sum.{same_symbol};
+ghost use Rattle.lq_pred.specs.Hashed.{symbol_writes};
+
+fn feed_symbol<H: Hasher>(x: Symbol, state: &mut H)
+    ensures { state.new ≡ fold H.write state.old (symbol_writes x) }
+{
+    match x {
+        Symbol::Value => state.write_u8(10),
+        Symbol::Bound(name) => {
+            state.write_u8(11);
+            state.write_u32(name.0);
+        }
+        Symbol::Position(at) => {
+            state.write_u8(12);
+            state.write_u32(at);
+        }
+    }
+}
+
+fn is_same_symbol(x: Symbol, y: Symbol) -> bool
+    ensures { result ≡ same_symbol x y }
+{
+    x == y
+}
+
+/// Terms in a row.
+#[derive(Debug, Drop)]
+pub struct Terms {
+    pub(crate) items: Vec<Term>,
+}
+
+impl Terms {
+    ghost use Rattle.std.specs.Prelude.{◌≡◌, IfOk, [], ◌∷◌, ◌++◌, length, slice_get, OnOk, OnErr};
+    ghost use Rattle.std.specs.Option.{option_copied};
+    ghost use Rattle.lq_pred.specs.TermView.{term_items};
+
+    pub fn new(alloc: Global) -> Result<Terms, AllocError>
+        ensures { IfOk result (λ terms. term_items terms ≡ []) }
+    {
+        Ok(Terms {
+            items: Vec::new(alloc),
+        })
+    }
+
+    pub fn len(&self) -> usize
+        ensures { result ≡ length (term_items self.now) }
+    {
+        self.items.len()
+    }
+
+    pub fn get(&self, at: usize) -> Option<&Term>
+        ensures { option_copied result ≡ slice_get (term_items self.now) at }
+    {
+        self.items.get(at)
+    }
+
+    pub fn push(&mut self, term: Term) -> Result<(), AllocError>
+        ensures ok { OnOk result (term_items self.new ≡ term_items self.old ++ term ∷ []) }
+        ensures err { OnErr result (term_items self.new ≡ term_items self.old) }
+    {
+        self.items.push(term)?;
+        Ok(())
+    }
+}

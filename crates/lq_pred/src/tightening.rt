@@ -1,0 +1,197 @@
+ghost use Rattle.std.specs.Prelude.{◌≡◌, IfOk, OnOk, IsErrOf};
+ghost use Rattle.lq_pred.specs.Comparison.{comparison, CanGather};
+ghost use Rattle.lq_pred.specs.Relation.{relation_reading};
+ghost use Rattle.lq_pred.specs.Sum.{Sum};
+ghost use Rattle.lq_pred.specs.NnfView.{nnf_view, constant_reading, joined_reading};
+ghost use Rattle.lq_pred.specs.PredView.{formula_of};
+ghost use Rattle.lq_pred.specs.Reading.{row, comparison_reading, reading_of, formula_numbered, Gathers, AllFitIn};
+ghost use Rattle.lq_pred.specs.Table.{numbered, Extends};
+ghost use Rattle.lq_pred.specs.TableView.{terms_of};
+ghost use Rattle.lq_pred.specs.TermView.{sum_of};
+
+use crate::error::GatherError;
+use crate::gathering::{gather, number_terms};
+use crate::nnf::{Nnf, Nnfs};
+use crate::pred::{CompareOp, Pred};
+use crate::table::TermTable;
+use crate::term::Term;
+use std::alloc::{AllocError, Global};
+
+/// The tightened reading of a predicate, or of its negation where `positive` is false: strict
+/// comparisons of whole numbers get a 1, negations go down to the literals, an equivalence is read
+/// "both or neither". Terms that the table lacks are added to it in the order of the predicate's
+/// text. (The reading of integer comparisons over the rationals that Rondon, Kawaguchi and Jhala
+/// leave to their prover, 2008.)
+#[tactic(auto, using(crate::proofs::Growing::growing))]
+pub fn tighten(
+    pred: &Pred,
+    positive: bool,
+    alloc: Global,
+    table: &mut TermTable,
+) -> Result<Nnf, GatherError>
+    ensures numbered { OnOk result (terms_of table.new ≡ formula_numbered (terms_of table.old) (formula_of pred.now)) }
+    ensures reading { IfOk result (λ nnf. Gathers (terms_of table.new) (reading_of positive (formula_of pred.now)) (nnf_view nnf)) }
+    ensures fits { OnOk result (AllFitIn (reading_of positive (formula_of pred.now))) }
+    ensures past { IsErrOf result GatherError.Past → AllFitIn (reading_of positive (formula_of pred.now)) → ⊥ }
+    ensures grows { Extends (terms_of table.old) (terms_of table.new) }
+{
+    match pred {
+        Pred::True => Ok(constant(positive)),
+        Pred::False => Ok(constant(!positive)),
+        Pred::Flag(x) => Ok(Nnf::Flag(*x, positive)),
+        Pred::Compare(op, left, right) => compare(*op, positive, left, right, alloc, table),
+        Pred::Same(left, right) => {
+            let first = left.copy(alloc)?;
+            let second = right.copy(alloc)?;
+            Ok(Nnf::Same(first, second, positive))
+        }
+        Pred::Not(inner) => tighten(inner, !positive, alloc, table),
+        Pred::And(left, right) => {
+            let first = tighten(left, positive, alloc, table)?;
+            let second = tighten(right, positive, alloc, table)?;
+            Ok(joined(positive, first, second, alloc)?)
+        }
+        Pred::Or(left, right) => {
+            let first = tighten(left, positive, alloc, table)?;
+            let second = tighten(right, positive, alloc, table)?;
+            Ok(joined(!positive, first, second, alloc)?)
+        }
+        Pred::Iff(left, right) => {
+            let yes = tighten(left, true, alloc, table)?;
+            let no = tighten(left, false, alloc, table)?;
+            let same = tighten(right, positive, alloc, table)?;
+            let other = tighten(right, !positive, alloc, table)?;
+            let both = joined(true, yes, same, alloc)?;
+            let neither = joined(true, no, other, alloc)?;
+            Ok(joined(false, both, neither, alloc)?)
+        }
+    }
+}
+
+// What always or never holds.
+fn constant(holds: bool) -> Nnf
+    ensures { nnf_view result ≡ constant_reading holds }
+{
+    if holds { Nnf::Yes } else { Nnf::No }
+}
+
+// All or any of two readings.
+fn joined(all: bool, first: Nnf, second: Nnf, alloc: Global) -> Result<Nnf, AllocError>
+    ensures { IfOk result (λ nnf. nnf_view nnf ≡ joined_reading all (nnf_view first) (nnf_view second)) }
+{
+    let mut both = Nnfs::new(alloc)?;
+    both.push(first)?;
+    both.push(second)?;
+    if all {
+        Ok(Nnf::All(both))
+    } else {
+        Ok(Nnf::Any(both))
+    }
+}
+
+// How two terms are to stand.
+#[derive(Clone, Copy)]
+enum Relation {
+    AtMost,
+    AtLeast,
+    Below,
+    Above,
+    Equal,
+    Apart,
+}
+
+// The relation that a comparison, or its negation, asks for.
+fn asked_relation(op: CompareOp, positive: bool) -> Relation
+    ensures { (a b : Sum) → comparison_reading positive op a b ≡ relation_reading result a b }
+{
+    if positive {
+        match op {
+            CompareOp::Eq => Relation::Equal,
+            CompareOp::Ne => Relation::Apart,
+            CompareOp::Lt => Relation::Below,
+            CompareOp::Le => Relation::AtMost,
+            CompareOp::Gt => Relation::Above,
+            CompareOp::Ge => Relation::AtLeast,
+        }
+    } else {
+        match op {
+            CompareOp::Eq => Relation::Apart,
+            CompareOp::Ne => Relation::Equal,
+            CompareOp::Lt => Relation::AtLeast,
+            CompareOp::Le => Relation::Above,
+            CompareOp::Gt => Relation::AtMost,
+            CompareOp::Ge => Relation::Below,
+        }
+    }
+}
+
+// The reading of a comparison or of its negation.
+#[tactic(auto, using(crate::proofs::Growing::growing))]
+fn compare(
+    op: CompareOp,
+    positive: bool,
+    left: &Term,
+    right: &Term,
+    alloc: Global,
+    table: &mut TermTable,
+) -> Result<Nnf, GatherError>
+    ensures numbered { OnOk result (terms_of table.new ≡ numbered (numbered (terms_of table.old) (sum_of left.now)) (sum_of right.now)) }
+    ensures reading { IfOk result (λ nnf. Gathers (terms_of table.new) (comparison_reading positive op (sum_of left.now) (sum_of right.now)) (nnf_view nnf)) }
+    ensures fits { OnOk result (AllFitIn (comparison_reading positive op (sum_of left.now) (sum_of right.now))) }
+    ensures past { IsErrOf result GatherError.Past → AllFitIn (comparison_reading positive op (sum_of left.now) (sum_of right.now)) → ⊥ }
+    ensures grows { Extends (terms_of table.old) (terms_of table.new) }
+{
+    let relation = asked_relation(op, positive);
+    number_terms(left, alloc, table)?;
+    number_terms(right, alloc, table)?;
+    read(relation, left, right, alloc, table)
+}
+
+// The reading of a relation of two terms whose terms are numbered.
+fn read(
+    relation: Relation,
+    left: &Term,
+    right: &Term,
+    alloc: Global,
+    table: &mut TermTable,
+) -> Result<Nnf, GatherError>
+    requires numbered { numbered (numbered (terms_of table.old) (sum_of left.now)) (sum_of right.now) ≡ terms_of table.old }
+    requires turned { numbered (numbered (terms_of table.old) (sum_of right.now)) (sum_of left.now) ≡ terms_of table.old }
+    ensures same { OnOk result (terms_of table.new ≡ terms_of table.old) }
+    ensures reading { IfOk result (λ nnf. Gathers (terms_of table.old) (relation_reading relation (sum_of left.now) (sum_of right.now)) (nnf_view nnf)) }
+    ensures fits { OnOk result (AllFitIn (relation_reading relation (sum_of left.now) (sum_of right.now))) }
+    ensures past { IsErrOf result GatherError.Past → AllFitIn (relation_reading relation (sum_of left.now) (sum_of right.now)) → ⊥ }
+    ensures grows { Extends (terms_of table.old) (terms_of table.new) }
+{
+    match relation {
+        Relation::AtMost => read_row(left, right, 0, false, alloc, table),
+        Relation::AtLeast => read_row(right, left, 0, false, alloc, table),
+        Relation::Below => read_row(left, right, 1, false, alloc, table),
+        Relation::Above => read_row(right, left, 1, false, alloc, table),
+        Relation::Equal => read_row(left, right, 0, true, alloc, table),
+        Relation::Apart => {
+            let first = read_row(left, right, 1, false, alloc, table)?;
+            let second = read_row(right, left, 1, false, alloc, table)?;
+            Ok(joined(false, first, second, alloc)?)
+        }
+    }
+}
+
+// One row as a reading.
+fn read_row(
+    left: &Term,
+    right: &Term,
+    added: i128,
+    equal: bool,
+    alloc: Global,
+    table: &mut TermTable,
+) -> Result<Nnf, GatherError>
+    requires { numbered (numbered (terms_of table.old) (sum_of left.now)) (sum_of right.now) ≡ terms_of table.old }
+    ensures same { OnOk result (terms_of table.new ≡ terms_of table.old) }
+    ensures reading { IfOk result (λ nnf. Gathers (terms_of table.old) (row (comparison (sum_of left.now) (sum_of right.now) added equal)) (nnf_view nnf)) }
+    ensures fits { OnOk result (CanGather (comparison (sum_of left.now) (sum_of right.now) added equal)) }
+    ensures past { IsErrOf result GatherError.Past → CanGather (comparison (sum_of left.now) (sum_of right.now) added equal) → ⊥ }
+    ensures grows { Extends (terms_of table.old) (terms_of table.new) }
+{
+    Ok(Nnf::Row(gather(left, right, added, equal, alloc, table)?))
+}
