@@ -12,9 +12,10 @@ ghost use Rattle.lq_pred.specs.TermView.{sum_of};
 use crate::error::GatherError;
 use crate::gathering::{gather, number_terms};
 use crate::nnf::{Nnf, Nnfs};
-use crate::pred::{CompareOp, Pred};
+use crate::pred::Pred;
 use crate::table::TermTable;
 use crate::term::Term;
+use lq_name::CompareOp;
 use std::alloc::{AllocError, Global};
 
 /// The tightened reading of a predicate, or of its negation where `positive` is false: strict
