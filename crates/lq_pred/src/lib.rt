@@ -10,6 +10,8 @@ mod pred;
 mod symbol;
 mod table;
 mod term;
+#[cfg(test)]
+mod tests;
 mod tightening;
 
 pub use error::GatherError;
