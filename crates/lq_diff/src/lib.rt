@@ -1,0 +1,4 @@
+//! Difference rows: a table that decides them by potentials, after Cotton and Maler (2006).
+#![tactic(auto)]
+
+mod arc;
