@@ -1,5 +1,5 @@
 -- A scale of the whole numbers that rises by one exactly across the spans of the arcs of cost below 0: so it rises by no more than their costs in all.
-use Rattle.std.proofs.Common.{◌≡◌, ℕ, suc, zero, ◌+◌, ◌-◌, ◌≤◌, ◌<◌, min, refl, sym, ap, ap₂, subst, ◌∙◌, arith, add-one, List, [], ◌∷◌, Option, Some, None, slice_get}
+use Rattle.std.proofs.Common.{◌≡◌, ℕ, suc, zero, ◌+◌, ◌-◌, ◌≤◌, ◌<◌, min, refl, sym, ap, subst, ◌∙◌, arith, add-one, List, [], ◌∷◌, Some, slice_get}
 use Rattle.std.proofs.Math.IntN.{ℤ, pos, negsuc, ◌+ℤ◌, ◌-ℤ◌, neg_ℤ}
 use Rattle.std.specs.Int.Signed.{◌≤ℤ◌, ◌<ℤ◌}
 use Rattle.std.proofs.lemmas.Int.{ints}
@@ -51,7 +51,7 @@ climbs_inside p (b ∷ arcs) zero a x e l h =
     let same : b ≡ a = cc in
     subst (λ (c : Arc). climb p (c ∷ arcs) x < climb p (c ∷ arcs) (x +ℤ pos 1)) (sym same)
     (let one : over p a x < over p a (x +ℤ pos 1) = over_inside a.cost x (p a.from +ℤ a.cost) l (omega (arith, ints)) in
-     omega (arith, one, climb_more p arcs x))
+    omega (arith, one, climb_more p arcs x))
 climbs_inside p (b ∷ arcs) (suc k) a x e l h =
     omega (arith, over_more (down b.cost) x (p b.from +ℤ b.cost), climbs_inside p arcs k a x e l h)
 
@@ -140,7 +140,7 @@ slope t x (suc k) h =
       up_to = step_up _ _ _ (rise t y) s.up_to m;
       by_one = step_one _ _ _ (rise t y) k s.by_one m (rise_most (t y) (t (y +ℤ pos 1)));
       by_climb = step_climb _ _ _ (rise t y) (t x) (t y) (t (x +ℤ pos (suc k))) s.by_climb m
-        (subst (λ (z : ℤ). rise t y + t y ≤ t z) (sym (plus_more x k)) (rise_climb (t y) (t (y +ℤ pos 1)) (h y)));
+          (subst (λ (z : ℤ). rise t y + t y ≤ t z) (sym (plus_more x k)) (rise_climb (t y) (t (y +ℤ pos 1)) (h y)));
     }
 
 rise_one : (a b : ℕ) → a < b → min 1 (b - a) ≡ 1

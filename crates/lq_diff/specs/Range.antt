@@ -1,6 +1,6 @@
 -- Greatest potentials lie no farther apart than the sizes of the costs below 0 sum to.
-use Rattle.std.proofs.Common.{◌≡◌, ℕ, suc, zero, ◌+◌, ◌≤◌, ◌<◌, refl, sym, ap, subst, ◌∙◌, arith, List, Bool, false, Option, Some, None, IfSome, slice_get, ◌⊎◌, inl, inr}
-use Rattle.std.proofs.Math.IntN.{ℤ, pos, negsuc, ◌+ℤ◌, ◌-ℤ◌}
+use Rattle.std.proofs.Common.{◌≡◌, ℕ, ◌≤◌, ◌<◌, refl, sym, ap, subst, ◌∙◌, arith, List, Bool, false, Option, Some, None, IfSome, slice_get}
+use Rattle.std.proofs.Math.IntN.{ℤ, pos, ◌+ℤ◌, ◌-ℤ◌}
 use Rattle.std.specs.Int.Signed.{◌≤ℤ◌, ◌<ℤ◌}
 use Rattle.std.proofs.lemmas.Int.{ints, by_lt_z}
 use borrow.Author.Differences.{up, down}
@@ -24,7 +24,7 @@ between p arcs x y h =
     let one : scaled p arcs x ≤ℤ scaled p arcs y = subst (λ (z : ℤ). scaled p arcs x ≤ℤ scaled p arcs z) e s.up_to in
     let two : scaled p arcs y ≤ℤ (scaled p arcs x +ℤ pos k) = subst (λ (z : ℤ). scaled p arcs z ≤ℤ (scaled p arcs x +ℤ pos k)) e s.by_one in
     let three : (scaled p arcs y +ℤ pos (climb p arcs x)) ≤ℤ (scaled p arcs x +ℤ pos (climb p arcs y)) =
-        subst (λ (z : ℤ). (scaled p arcs z +ℤ pos (climb p arcs x)) ≤ℤ (scaled p arcs x +ℤ pos (climb p arcs z))) e s.by_climb in
+    subst (λ (z : ℤ). (scaled p arcs z +ℤ pos (climb p arcs x)) ≤ℤ (scaled p arcs x +ℤ pos (climb p arcs z))) e s.by_climb in
     (one, join_two x y (scaled p arcs x) (scaled p arcs y) k e two, join_three (scaled p arcs x) (scaled p arcs y) _ _ _ three (climb_most p arcs y))
   where
     join_two : (x y a b : ℤ) (k : ℕ) → x +ℤ pos k ≡ y → b ≤ℤ (a +ℤ pos k) → (b +ℤ x) ≤ℤ (a +ℤ y)
@@ -76,7 +76,7 @@ arc_scaled p arcs k a e h =
         glue_down a.cost (s (p a.from)) (s (p a.to)) (s low) f (between p arcs (p a.to) low h).0
         (ap s (sym (whole_span (p a.from) a.cost f))
         ∙ slope_one (climb p arcs) low (down a.cost)
-          (λ j l. climbs_inside p arcs k a (low +ℤ pos j) e (at_low low j) (under (p a.from) a.cost j l)))
+        (λ j l. climbs_inside p arcs k a (low +ℤ pos j) e (at_low low j) (under (p a.from) a.cost j l)))
 
 meets_scaled : (p : Potentials) (arcs : List Arc) → Meets p arcs → Meets (λ v. scaled p arcs (p v)) arcs
 meets_scaled p arcs h k = by (slice_get arcs k) refl (h k)

@@ -18,3 +18,14 @@ pub(crate) struct Edge {
     pub(crate) weight: i128,
     pub(crate) equal: bool,
 }
+
+/// What the table keeps of a vertex: vertex 0 stands for the number 0, and vertex t + 1 for term t.
+#[derive(Clone, Copy)]
+pub(crate) struct Vertex {
+    /// The potential under the arcs that were admitted.
+    pub(crate) value: i128,
+    /// The least that was offered for it while an arc is being admitted.
+    pub(crate) next: i128,
+    /// The arc of that offer.
+    pub(crate) parent: usize,
+}

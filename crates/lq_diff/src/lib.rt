@@ -2,3 +2,10 @@
 #![tactic(auto)]
 
 mod arc;
+mod cycle;
+mod number;
+mod pass;
+mod solve;
+mod table;
+
+pub use table::DistanceTable;
