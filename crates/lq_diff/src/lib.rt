@@ -9,3 +9,6 @@ mod solve;
 mod table;
 
 pub use table::DistanceTable;
+
+#[cfg(test)]
+mod tests;
