@@ -1,0 +1,5 @@
+pub mod Passing
+pub mod Numbers
+pub mod Walking
+pub mod Solving
+pub mod Rows

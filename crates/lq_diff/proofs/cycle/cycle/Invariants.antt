@@ -1,0 +1,14 @@
+use Rattle.std.proofs.Common.{ℕ, get_or, pos, false}
+use Rattle.lq_diff.specs.declared.arc.Arc.{Arc}
+use Rattle.lq_diff.specs.Passes.{vertex_at, order_at, IsStuck}
+use Rattle.lq_diff.proofs.Walking.{Walks}
+use Rattle.lq_diff.proofs.cycle.cycle.Given as goal
+
+abbrev none : Arc
+none = record { tag = 0; from = 0; to = 0; cost = pos 0; forward = false }
+
+abbrev pub invariant-steps : goal.invariant-steps
+invariant-steps l = (top : ℕ) × (IsStuck l.arcs top l.closing (vertex_at l.vertices) (order_at l.order) × Walks l.arcs top (vertex_at l.vertices) (order_at l.order) l.found.items l.at)
+
+abbrev pub decreases-steps : goal.decreases-steps
+decreases-steps l = order_at l.order (get_or l.arcs l.at none).from

@@ -1,0 +1,9 @@
+pub mod Arcs
+pub mod Climb
+pub mod Range
+pub mod Passes
+pub mod Stops
+pub mod Cycles
+pub mod Solving
+pub mod Edges
+pub mod Table

@@ -1,0 +1,14 @@
+//! Difference rows: a table that decides them by potentials, after Cotton and Maler (2006).
+#![tactic(auto)]
+
+mod arc;
+mod cycle;
+mod number;
+mod pass;
+mod solve;
+mod table;
+
+pub use table::DistanceTable;
+
+#[cfg(test)]
+mod tests;
