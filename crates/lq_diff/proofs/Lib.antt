@@ -2,4 +2,5 @@ pub mod Passing
 pub mod Numbers
 pub mod Walking
 pub mod Solving
+pub mod Placing
 pub mod Rows

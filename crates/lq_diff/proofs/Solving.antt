@@ -26,11 +26,11 @@ taken (suc n) (x ∷ xs) (suc k) a e = taken n xs k a e
 pub taken_all : {A : Type 0} (n : ℕ) (xs : List A) (P : A → Type 0) → ((k : ℕ) → IfSome (slice_get xs k) P) → (k : ℕ) → IfSome (slice_get (take n xs) k) P
 taken_all n xs P h = each (take n xs) (λ k a. P a) (λ k a e. there xs P k a (taken n xs k a e) (h k))
 
-falls-append : (xs ys : List Arc) → falls (xs ++ ys) ≡ falls xs + falls ys
+pub falls-append : (xs ys : List Arc) → falls (xs ++ ys) ≡ falls xs + falls ys
 falls-append [] ys = omega arith
 falls-append (x ∷ xs) ys = omega (arith, falls-append xs ys)
 
-falls_taken : (n : ℕ) (xs : List Arc) → falls (take n xs) ≤ falls xs
+pub falls_taken : (n : ℕ) (xs : List Arc) → falls (take n xs) ≤ falls xs
 falls_taken n xs = omega (arith, falls-append (take n xs) (drop n xs), ap falls (take-append-drop n xs))
 
 pub narrow : (placed : ℕ → Bool) (arcs front : List Arc) (last : Arc) (k n : ℕ) (p : Potentials) → take k arcs ≡ front ++ last ∷ [] → IsGreatest placed front p → IsBounded n arcs

@@ -1,5 +1,5 @@
 -- What holds of all arcs at once.
-use Rattle.std.specs.Prelude.{ℕ, pos, ◌≤ℤ◌, ◌≤◌, Bool, List, slice_get, IfSome}
+use Rattle.std.specs.Prelude.{◌≡◌, ◌≢◌, ℕ, pos, ◌+ℤ◌, ◌≤ℤ◌, ◌≤◌, ◌+◌, ◌⊎◌, Bool, false, List, Some, slice_get, slice_index_or, IfSome}
 use Rattle.lq_diff.specs.declared.arc.Arc.{Arc}
 use Rattle.lq_diff.specs.declared.arc.Vertex.{Vertex}
 use Rattle.lq_diff.specs.Arcs.{Potentials, IsGreatest, falls}
@@ -17,3 +17,27 @@ pub record IsSolved (arcs : List Arc) (p : Potentials) : Type 0 where
 
 abbrev pub IsEnded : List Arc → ℕ → (ℕ → Vertex) → (ℕ → ℕ) → Type 0
 IsEnded arcs closing s order = (top : ℕ) × IsStuck arcs top closing s order
+
+-- no arc leads from the vertex or to it
+abbrev pub IsUnnamed : List Arc → ℕ → Type 0
+IsUnnamed arcs v = (k : ℕ) → IfSome (slice_get arcs k) (λ a. (a.from ≢ v) × (a.to ≢ v))
+
+abbrev pub touched_at : List Bool → ℕ → Bool
+touched_at touched v = slice_index_or touched v false
+
+-- the two readings of one equation between two vertices
+pub record IsOpposite (arc back : Arc) : Type 0 where
+  pub apart : arc.from ≢ arc.to
+  pub from : back.from ≡ arc.to
+  pub to : back.to ≡ arc.from
+  pub cost : arc.cost +ℤ back.cost ≡ pos 0
+
+abbrev pub ArePair : List Arc → ℕ → Arc → Arc → Type 0
+ArePair arcs at first second = (slice_get arcs at ≡ Some first) × (slice_get arcs (at + 1) ≡ Some second)
+
+-- the arcs of the numbers `at` and `at` + 1 are opposite, and this one of them leads to a vertex that isn't marked
+pub record IsPlacing (arcs : List Arc) (at : ℕ) (touched : ℕ → Bool) (arc : Arc) : Type 0 where
+  pub back : Arc
+  pub pair : ArePair arcs at arc back ⊎ ArePair arcs at back arc
+  pub opposite : IsOpposite arc back
+  pub untouched : touched arc.to ≡ false

@@ -152,7 +152,10 @@ fn decide(
     ensures stop { IfErr result (λ stop. StopsBy (sizes edges.now) stop) }
 {
     let arcs = arcs(alloc, edges)?;
-    match solve(arcs.as_slice(), vertices, order) {
+    let Ok(mut touched) = vec![in alloc; false; vertices.len()] else {
+        return Err(LinearStop::Memory);
+    };
+    match solve(arcs.as_slice(), vertices, order, &mut touched) {
         Err(past) => Err(LinearStop::Number(past)),
         Ok(None) => match measure(vertices) {
             Ok(()) => Ok(None),
