@@ -4,7 +4,7 @@ use Rattle.lq_linear.specs.Contradiction.{Tagged}
 use Rattle.lq_diff.specs.Table.{TakesRow, table_rows}
 use Rattle.lq_diff.proofs.tests.a_cycle_of_two_rows.Goals as goal
 
-at_most_one : {T E : Type 0} (r : Result T E) (a b : Tagged) (x : ℕ × Row) → OnOk r (a ≡ b ++ x ∷ []) → OnErr r (a ≡ b) → b ≡ [] → length a < 2
+at_most_one : {T E : Type 0} (r : Result T E) (a b : Tagged) (x : ℕ × Row) → OnOk r (a ≡ b ++ x ∷ []) → OnErr r (a ≡ b) → b ≡ [] → length a < 21
 at_most_one (Ok y) a b x h k e = omega (arith, ap length h, length-append b (x ∷ []), ap length e)
 at_most_one (Err y) a b x h k e = omega (arith, ap length k, ap length e)
 
