@@ -2,6 +2,7 @@
 repository, over what the crates here have already proved, and nothing is left behind."""
 import contextlib
 import os
+import resource
 import shutil
 import subprocess
 import sys
@@ -9,6 +10,12 @@ import tempfile
 
 sys.dont_write_bytecode = True
 TOP = os.path.dirname(os.path.dirname(os.path.abspath(__file__)))
+
+
+def with_deep_stack():
+    """Lets the child have as much stack as it may: deep trees are dropped by recursion."""
+    _, most = resource.getrlimit(resource.RLIMIT_STACK)
+    resource.setrlimit(resource.RLIMIT_STACK, (most, most))
 
 
 @contextlib.contextmanager
@@ -30,7 +37,7 @@ def built(crates, source):
             file.write(source)
         with open(os.path.join(copy, "crates.txt"), "a") as file:
             file.write(f"timed: {' '.join(crates)}\n")
-        done = subprocess.run(["rt", "run"], cwd=program, capture_output=True, text=True)
+        done = subprocess.run(["rt", "run"], cwd=program, capture_output=True, text=True, preexec_fn=with_deep_stack)
         if done.returncode != 0:
             sys.exit(f"the program could not be run:\n{done.stdout}{done.stderr}")
         yield os.path.join(program, "out", "timed"), done.stdout
