@@ -1,0 +1,7 @@
+pub mod Core
+pub mod Operations
+pub mod Step
+pub mod StepFunction
+pub mod Program
+pub mod FromTree
+pub mod Laws

@@ -1,0 +1,137 @@
+-- What operations on values give.
+use Rattle.std.specs.Prelude.{ℕ, zero, suc, ℤ, pos, negsuc, ◌+ℤ◌, ◌-ℤ◌, ◌*ℤ◌, int_div, int_rem, Bool, true, false, not, ◌==◌, if◌then◌else◌, List, [], ◌∷◌, ◌++◌, length, Option, Some, None, slice_get, slice_set}
+use Rattle.std.specs.Ordering.{int_eq}
+use Rattle.std.specs.Int.Signed.{lt_z}
+use Rattle.std.specs.Option.{option_map}
+use Rattle.lq_name.specs.declared.operation.ArithOp.{ArithOp}
+use Rattle.lq_name.specs.declared.operation.ArithOp.TheVariants as op
+use Rattle.lq_name.specs.declared.operation.CompareOp.{CompareOp}
+use Rattle.lq_name.specs.declared.operation.CompareOp.TheVariants as test
+use Rattle.lq_name.specs.declared.place.Place.{Place}
+use Rattle.lq_tree.specs.Pattern.{Pattern, pattern, PatternForm, any, bind, nothing, tuple_of, build_of, Patterns, no_patterns, more_patterns}
+use Rattle.lq_model.specs.declared.fault.FaultKind.{FaultKind}
+use Rattle.lq_model.specs.declared.fault.FaultKind.TheVariants.{AssertFailed, OutOfBounds, ZeroDivisor, NegativeLength, NoCase}
+use Rattle.lq_model.specs.Core.{Operation, negate, invert, assert, length_of, print, read, Binary, arithmetic, comparison, make, fetch, Value, v_whole, v_flag, v_unit, v_fun, v_rec, v_tuple, v_build, v_array, Values, no_values, more_values, Pairs}
+
+-- the arrays, what is left of the input, and the output so far
+pub record World : Type 0 where
+  pub arrays : List (List Value)
+  pub input : List ℤ
+  pub output : List ℤ
+
+-- what an operation on values gives: a value and a world, a fault at a place, or the end of the input at a place
+pub data Act : Type 0 where
+  gives : Value → World → Act
+  faults : FaultKind → Place → Act
+  ends : Place → Act
+
+-- a whole number, and no act on any other value
+abbrev pub on_whole : Value → (ℤ → Option Act) → Option Act
+on_whole (v_whole n) go = go n
+on_whole _ go = None
+
+-- arithmetic over unbounded numbers: the quotient truncates, the remainder has the sign of the dividend
+abbrev pub arithmetic_act : ArithOp → Place → ℤ → ℤ → World → Act
+arithmetic_act op.Add p m n w = gives (v_whole (m +ℤ n)) w
+arithmetic_act op.Sub p m n w = gives (v_whole (m -ℤ n)) w
+arithmetic_act op.Mul p m n w = gives (v_whole (m *ℤ n)) w
+arithmetic_act op.Div p m n w = if int_eq n (pos 0) then faults ZeroDivisor p else gives (v_whole (int_div m n)) w
+arithmetic_act op.Mod p m n w = if int_eq n (pos 0) then faults ZeroDivisor p else gives (v_whole (int_rem m n)) w
+
+abbrev pub compares : CompareOp → ℤ → ℤ → Bool
+compares test.Eq m n = int_eq m n
+compares test.Ne m n = not (int_eq m n)
+compares test.Lt m n = lt_z m n
+compares test.Le m n = not (lt_z n m)
+compares test.Gt m n = lt_z n m
+compares test.Ge m n = not (lt_z m n)
+
+abbrev pub copies : ℕ → Value → List Value
+copies zero v = []
+copies (suc n) v = v ∷ copies n v
+
+-- a new array behind the others; a length below 0 is a fault
+abbrev pub make_act : Place → ℤ → Value → World → Act
+make_act p (negsuc n) v w = faults NegativeLength p
+make_act p (pos n) v w = gives (v_array (length w.arrays) n) (record w { arrays = w.arrays ++ copies n v ∷ [] })
+
+-- the element at an index of an array, and what is done with it; an index out of bounds is a fault
+abbrev pub on_element : Place → Option Value → (Value → Act) → Act
+on_element p None go = faults OutOfBounds p
+on_element p (Some v) go = go v
+
+abbrev pub at_index : Place → List Value → ℤ → (ℕ → Value → Act) → Act
+at_index p elements (negsuc i) go = faults OutOfBounds p
+at_index p elements (pos i) go = on_element p (slice_get elements i) (go i)
+
+abbrev pub with_elements : Option (List Value) → (List Value → Option Act) → Option Act
+with_elements None go = None
+with_elements (Some elements) go = go elements
+
+abbrev pub on_array : Value → World → (ℕ → List Value → Option Act) → Option Act
+on_array (v_array r n) w go = with_elements (slice_get w.arrays r) (go r)
+on_array _ w go = None
+
+-- `a.(i)`
+abbrev pub fetch_act : Place → Value → Value → World → Option Act
+fetch_act p a i w = on_array a w (λ r elements. on_whole i (λ k. Some (at_index p elements k (λ j v. gives v w))))
+
+-- `a.(i) <- u`: unit, and the changed store
+abbrev pub store_act : Place → Value → Value → Value → World → Option Act
+store_act p a i u w =
+    on_array a w (λ r elements. on_whole i (λ k. Some (at_index p elements k (λ j v. gives v_unit (record w { arrays = slice_set w.arrays r (slice_set elements j u) })))))
+
+-- the operations on two values
+abbrev pub binary_act : Binary → Value → Value → World → Option Act
+binary_act (arithmetic o p) x y w = on_whole x (λ m. on_whole y (λ n. Some (arithmetic_act o p m n w)))
+binary_act (comparison o) x y w = on_whole x (λ m. on_whole y (λ n. Some (gives (v_flag (compares o m n)) w)))
+binary_act (make p) x v w = on_whole x (λ n. Some (make_act p n v w))
+binary_act (fetch p) a i w = fetch_act p a i w
+
+-- the next number of the input; where none is left the input has ended
+abbrev pub read_act : Place → List ℤ → World → Act
+read_act p [] w = ends p
+read_act p (n ∷ ns) w = gives (v_whole n) (record w { input = ns })
+
+-- true gives unit, false is a fault
+abbrev pub assert_act : Place → Bool → World → Act
+assert_act p true w = gives v_unit w
+assert_act p false w = faults AssertFailed p
+
+-- the operations on one value
+abbrev pub unary_act : Operation → Value → World → Option Act
+unary_act negate (v_whole n) w = Some (gives (v_whole (pos 0 -ℤ n)) w)
+unary_act invert (v_flag b) w = Some (gives (v_flag (not b)) w)
+unary_act (assert p) (v_flag b) w = Some (assert_act p b w)
+unary_act length_of (v_array r n) w = Some (gives (v_whole (pos n)) w)
+unary_act print (v_whole n) w = Some (gives v_unit (record w { output = w.output ++ n ∷ [] }))
+unary_act (read p) v_unit w = Some (read_act p w.input w)
+unary_act _ _ w = None
+
+-- ---- patterns
+
+abbrev pub both_pairs : Option Pairs → Option Pairs → Option Pairs
+both_pairs None qs = None
+both_pairs (Some ps) None = None
+both_pairs (Some ps) (Some qs) = Some (ps ++ qs)
+
+-- The values by which a pattern's variables are replaced, where the value fits it: a variable and `_` fit every value, `()` fits unit, a
+-- tuple pattern a tuple whose components its parts fit, a constructor pattern a value of that constructor whose fields its parts fit.
+abbrev mutual
+  pub fits : Pattern → Value → Option Pairs
+  fits (pattern p f) v = fits_form f v
+
+  pub fits_form : PatternForm → Value → Option Pairs
+  fits_form any v = Some []
+  fits_form (bind x) v = Some ((x, v) ∷ [])
+  fits_form nothing v_unit = Some []
+  fits_form nothing _ = None
+  fits_form (tuple_of qs) (v_tuple vs) = fits_all qs vs
+  fits_form (tuple_of qs) _ = None
+  fits_form (build_of c p qs) (v_build d vs) = if c == d then fits_all qs vs else None
+  fits_form (build_of c p qs) _ = None
+
+  pub fits_all : Patterns → Values → Option Pairs
+  fits_all no_patterns no_values = Some []
+  fits_all (more_patterns q qs) (more_values v vs) = both_pairs (fits q v) (fits_all qs vs)
+  fits_all _ _ = None
