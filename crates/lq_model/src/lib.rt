@@ -2,5 +2,7 @@
 #![tactic(auto)]
 
 mod fault;
+mod laws;
 
 pub use fault::FaultKind;
+pub use laws::{one_outcome, one_step, output_grows, over_stays};

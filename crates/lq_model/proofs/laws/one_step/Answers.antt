@@ -1,0 +1,9 @@
+use Rattle.std.proofs.Common.{sym, ◌∙◌}
+use Rattle.lq_model.proofs.Rows.{step_from, step_to}
+use Rattle.lq_model.proofs.laws.one_step.Goals as goal
+
+pub returns-clause-function : goal.returns-clause-function
+returns-clause-function c = λ e w n. (step_from e w n, step_to e w n)
+
+pub returns-clause-once : goal.returns-clause-once
+returns-clause-once c = λ e w n m s t. cc (step_from e w n s, step_from e w m t)
