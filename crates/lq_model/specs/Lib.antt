@@ -5,3 +5,4 @@ pub mod StepFunction
 pub mod Program
 pub mod FromTree
 pub mod Laws
+pub mod Examples

@@ -1,0 +1,155 @@
+-- Small programs, and what their first steps give.
+use Rattle.std.specs.Prelude.{◌≡◌, ℕ, ℤ, pos, negsuc, true, false, List, [], ◌∷◌}
+use Rattle.lq_name.specs.declared.operation.ArithOp.TheVariants as op
+use Rattle.lq_name.specs.declared.operation.CompareOp.TheVariants as test
+use Rattle.lq_name.specs.declared.place.Place.{Place}
+use Rattle.lq_name.specs.declared.place.TextKind.TheVariants.{Program}
+use Rattle.lq_tree.specs.declared.expr.Arguments.TheVariants.{Apart}
+use Rattle.lq_tree.specs.Items.{ItemTree, ItemForm, let_of, let_rec_of}
+use Rattle.lq_tree.specs.Pattern.{Pattern, pattern, any, bind, nothing, tuple_of, build_of, Patterns, no_patterns, more_patterns}
+use Rattle.lq_tree.specs.Tree as form
+use Rattle.lq_tree.specs.Tree.{Tree, tree, Form, no_trees, more_trees, no_cases, more_cases}
+use Rattle.lq_model.specs.declared.fault.FaultKind.TheVariants.{AssertFailed, OutOfBounds, ZeroDivisor, NegativeLength, NoCase}
+use Rattle.lq_model.specs.FromTree.{items_of}
+use Rattle.lq_model.specs.Program.{Ending, running, finished, input_ended, fault, Outcome, outcome}
+
+-- a place in the first line
+abbrev pub at : ℕ → Place
+at column = record { text = Program; line = 1; column = column }
+
+-- a node at a column
+abbrev pub node : ℕ → Form → Tree
+node column f = tree 0 (at column) f
+
+-- a node whose place doesn't matter
+abbrev pub plain : Form → Tree
+plain f = node 0 f
+
+abbrev pub variable : ℕ → Pattern
+variable x = pattern (at 0) (bind x)
+
+abbrev pub item : ItemForm → ItemTree
+item f = record { place = at 0; form = f }
+
+abbrev pub define : ℕ → Tree → ItemTree
+define x e = item (let_of (variable x) e)
+
+abbrev pub run : Tree → ItemTree
+run e = item (let_of (pattern (at 0) nothing) e)
+
+abbrev pub printed : Tree → ItemTree
+printed e = run (plain (form.print e))
+
+abbrev pub number : ℤ → Tree
+number n = plain (form.whole n)
+
+abbrev pub name : ℕ → Tree
+name x = plain (form.use_of x)
+
+abbrev pub reads : ℕ → Tree
+reads column = node column (form.read (plain form.unit))
+
+-- what a program gives that has these items, on this input, in 60 steps
+abbrev pub Gives : List ItemTree → List ℤ → Ending → List ℤ → Type 0
+Gives is input ending output = outcome (items_of is) input 60 ≡ record { ending = ending; output = output }
+
+abbrev pub quotient : ℤ → ℤ → Tree
+quotient m n = node 9 (form.arithmetic op.Div (number m) (number n))
+
+abbrev pub remainder : ℤ → ℤ → Tree
+remainder m n = node 9 (form.arithmetic op.Mod (number m) (number n))
+
+-- quotients truncate, remainders have the sign of the dividend
+abbrev pub ArithmeticExample : Type 0
+ArithmeticExample =
+    Gives (printed (quotient (pos 7) (negsuc 1)) ∷ printed (quotient (negsuc 6) (pos 2)) ∷ printed (remainder (pos 7) (negsuc 1)) ∷ printed (remainder (negsuc 6) (pos 2)) ∷ [])
+    [] finished (negsuc 2 ∷ negsuc 2 ∷ pos 1 ∷ negsuc 0 ∷ [])
+
+-- `print_int (read_int () - read_int ())` on 5, 3
+abbrev pub OrderExample : Type 0
+OrderExample = Gives (printed (plain (form.arithmetic op.Sub (reads 21) (reads 35))) ∷ []) (pos 5 ∷ pos 3 ∷ []) finished (pos 2 ∷ [])
+
+-- the second read finds no input
+abbrev pub InputExample : Type 0
+InputExample = Gives (printed (plain (form.arithmetic op.Sub (reads 21) (reads 35))) ∷ []) (pos 5 ∷ []) (input_ended (at 35)) []
+
+-- `let x = 1`, `let x = x + 1`, under one binder: the later definition hides the earlier one
+abbrev pub ShadowingExample : Type 0
+ShadowingExample = Gives (define 0 (number (pos 1)) ∷ define 0 (plain (form.arithmetic op.Add (name 0) (number (pos 1)))) ∷ printed (name 0) ∷ []) [] finished (pos 2 ∷ [])
+
+-- a function of two parameters, which is called in order: `f (read_int ()) (read_int ())`
+abbrev pub CallExample : Type 0
+CallExample =
+    Gives (define 0 (plain (form.fun (variable 1) (plain (form.fun (variable 2) (plain (form.arithmetic op.Sub (name 1) (name 2)))))))
+    ∷ printed (plain (form.call (plain (form.call (name 0) (reads 1))) (reads 2))) ∷ []) (pos 9 ∷ pos 4 ∷ []) finished (pos 5 ∷ [])
+
+-- `let rec sum k = if k <= 0 then 0 else k + sum (k - 1)`, `print_int (sum 3)`
+abbrev pub RecursionExample : Type 0
+RecursionExample =
+    Gives (item (let_rec_of 0 (record { id = 0; place = at 0; parameter = variable 1; body =
+        plain (form.if_else (plain (form.compare test.Le (name 1) (number (pos 0)))) (number (pos 0))
+        (plain (form.arithmetic op.Add (name 1) (plain (form.call (name 0) (plain (form.arithmetic op.Sub (name 1) (number (pos 1))))))))) }))
+    ∷ printed (plain (form.call (name 0) (number (pos 3)))) ∷ []) [] finished (pos 6 ∷ [])
+
+-- a call that never returns goes on
+abbrev pub LoopExample : Type 0
+LoopExample =
+    Gives (item (let_rec_of 0 (record { id = 0; place = at 0; parameter = variable 1; body = plain (form.call (name 0) (name 1)) }))
+    ∷ printed (plain (form.call (name 0) (number (pos 1)))) ∷ []) [] running []
+
+-- `let a = Array.make 2 7 in let b = a in b.(0) <- 1; print_int a.(0)`: two names of one array
+abbrev pub AliasExample : Type 0
+AliasExample =
+    Gives (run (plain (form.let_in (variable 0) (plain (form.make (number (pos 2)) (number (pos 7)))) (plain (form.let_in (variable 1) (name 0)
+        (plain (form.chain (more_trees (plain (form.store (name 1) (number (pos 0)) (number (pos 1))))
+        (more_trees (plain (form.print (plain (form.fetch (name 0) (number (pos 0)))))) no_trees))))))))
+    ∷ printed (plain (form.length_of (plain (form.make (number (pos 3)) (number (pos 0)))))) ∷ []) [] finished (pos 1 ∷ pos 3 ∷ [])
+
+-- `Some x`, then `_`: the first arm that fits; 10 is the constructor `Some`
+abbrev pub some_pattern : ℕ → Pattern
+some_pattern x = pattern (at 0) (build_of 10 (at 0) (more_patterns (variable x) no_patterns))
+
+abbrev pub MatchExample : Type 0
+MatchExample =
+    Gives (printed (plain (form.match_on (plain (form.build 10 Apart (more_trees (number (pos 4)) no_trees)))
+        (more_cases (some_pattern 0) (name 0) (more_cases (pattern (at 0) any) (number (pos 0)) no_cases))))
+    -- `match [5; 6] with x :: r -> x`; 8 is the constructor `::`
+    ∷ printed (plain (form.match_on (plain (form.list_of (more_trees (number (pos 5)) (more_trees (number (pos 6)) no_trees))))
+        (more_cases (pattern (at 0) (build_of 8 (at 0) (more_patterns (variable 0) (more_patterns (variable 1) no_patterns)))) (name 0) no_cases))) ∷ [])
+    [] finished (pos 4 ∷ pos 5 ∷ [])
+
+-- `(fun (x, y) -> x - y) (7, 2)`: a parameter that is a tuple
+abbrev pub TupleExample : Type 0
+TupleExample =
+    Gives (printed (plain (form.call (plain (form.fun (pattern (at 0) (tuple_of (more_patterns (variable 0) (more_patterns (variable 1) no_patterns))))
+        (plain (form.arithmetic op.Sub (name 0) (name 1))))) (plain (form.tuple (more_trees (number (pos 7)) (more_trees (number (pos 2)) no_trees)))))) ∷ [])
+    [] finished (pos 5 ∷ [])
+
+-- `&&` and `||` leave the right side where the left one decides; unary minus and `not`
+abbrev pub LogicExample : Type 0
+LogicExample =
+    Gives (printed (plain (form.if_else (plain (form.and_of (plain (form.flag false)) (plain (form.compare test.Eq (quotient (pos 1) (pos 0)) (number (pos 0))))))
+        (number (pos 1)) (plain (form.negated (number (pos 2))))))
+    ∷ printed (plain (form.if_else (plain (form.or_of (plain (form.not_of (plain (form.flag false)))) (plain (form.compare test.Eq (quotient (pos 1) (pos 0)) (number (pos 0))))))
+        (number (pos 1)) (number (pos 2)))) ∷ []) [] finished (negsuc 1 ∷ pos 1 ∷ [])
+
+-- each fault at its place
+abbrev pub DivisorExample : Type 0
+DivisorExample = Gives (printed (number (pos 1)) ∷ printed (quotient (pos 1) (pos 0)) ∷ []) [] (fault ZeroDivisor (at 9)) (pos 1 ∷ [])
+
+abbrev pub BoundsExample : Type 0
+BoundsExample = Gives (printed (node 7 (form.fetch (plain (form.make (number (pos 2)) (number (pos 0)))) (number (pos 2)))) ∷ []) [] (fault OutOfBounds (at 7)) []
+
+abbrev pub LengthExample : Type 0
+LengthExample = Gives (define 0 (node 4 (form.make (number (negsuc 0)) (number (pos 0)))) ∷ []) [] (fault NegativeLength (at 4)) []
+
+abbrev pub CaseExample : Type 0
+CaseExample = Gives (printed (node 5 (form.match_on (plain (form.build 9 Apart no_trees)) (more_cases (some_pattern 0) (name 0) no_cases))) ∷ []) [] (fault NoCase (at 5)) []
+
+abbrev pub AssertionExample : Type 0
+AssertionExample =
+    Gives (run (node 3 (form.assert (plain (form.compare test.Lt (number (pos 1)) (number (pos 2)))))) ∷ run (node 8 (form.assert (plain (form.compare test.Lt (number (pos 2)) (number (pos 2)))))) ∷ [])
+    [] (fault AssertFailed (at 8)) []
+
+abbrev pub UnreachedExample : Type 0
+UnreachedExample = Gives (run (node 6 form.assert_false) ∷ []) [] (fault AssertFailed (at 6)) []
