@@ -1,4 +1,4 @@
-ghost use Rattle.lq_model.specs.Laws.{IsStepFunction, IsDetermined, HasOneOutcome, StaysOver, OutputGrows};
+ghost use Rattle.lq_model.specs.Laws.{IsStepFunction, IsDetermined, HasOneOutcome, StaysOver, OutputGrows, ClosesTwice, ClosesAlike, ClosesByNone, StepsInside};
 
 /// The step function gives exactly what the rows of the relation give, so an expression has at most one step
 /// in a world.
@@ -21,4 +21,17 @@ pub fn over_stays()
 /// The output of some steps begins that of one step more.
 pub fn output_grows()
     ensures { OutputGrows }
+{}
+
+/// A form steps as its leftmost part that isn't a value does.
+pub fn parts_step()
+    ensures { StepsInside }
+{}
+
+/// Values are put for variables all at once: one closing after another is one closing, by the values alone,
+/// and no value changes nothing.
+pub fn closing()
+    ensures twice { ClosesTwice }
+    ensures alike { ClosesAlike }
+    ensures by_none { ClosesByNone }
 {}

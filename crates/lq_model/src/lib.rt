@@ -8,5 +8,5 @@ mod samples;
 
 
 pub use fault::FaultKind;
-pub use laws::{one_outcome, one_step, output_grows, over_stays};
+pub use laws::{closing, one_outcome, one_step, output_grows, over_stays, parts_step};
 pub use samples::examples;

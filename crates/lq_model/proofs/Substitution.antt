@@ -1,0 +1,155 @@
+-- Closing: one after another, by the same values, by none.
+use Rattle.std.proofs.Common.{◌≡◌, ℕ, Bool, true, false, ◌==◌, ◌||◌, if◌then◌else◌, List, [], ◌∷◌, ◌++◌, Option, Some, None, refl, sym, ap, ap₂, subst, ◌∙◌}
+use Rattle.std.specs.List.{list_any}
+use Rattle.std.proofs.lemmas.Bool.{eqb-true, eq-eqb}
+use Rattle.lq_tree.specs.Pattern.{Pattern, bound_in}
+use Rattle.lq_model.specs.Core.{Row, Core, val, use_of, fun, row, let_in, let_rec, call, one, two, store, and_of, or_of, if_else, match_on, seq, assert_false, Cores, none, more, Arms, no_arms, more_arms, Value, Pairs, value_in, without, replaced, close, close_all, close_arms}
+use Rattle.lq_model.specs.Laws.{SameIn}
+
+pub ap₃ : {A B C D : Type 0} (f : A → B → C → D) {a a' : A} {b b' : B} {c c' : C} → a ≡ a' → b ≡ b' → c ≡ c' → f a b c ≡ f a' b' c'
+ap₃ f {a' = a'} {b = b} {b' = b'} {c = c} e h i = ap (λ x. f x b c) e ∙ ap (λ x. f a' x c) h ∙ ap (f a' b') i
+
+-- ---- one after another
+
+replaced_later : (b : Bool) (v : Value) (x : ℕ) (g : Pairs) (r s : Option Value) → close g (replaced x r) ≡ replaced x s
+    → close g (replaced x (if b then Some v else r)) ≡ replaced x (if b then Some v else s)
+replaced_later true v x g r s h = refl
+replaced_later false v x g r s h = h
+
+close-replaced : (x : ℕ) (d g : Pairs) → close g (replaced x (value_in d x)) ≡ replaced x (value_in (d ++ g) x)
+close-replaced x [] g = refl
+close-replaced x (p ∷ d) g = replaced_later (p.0 == x) p.1 x g (value_in d x) (value_in (d ++ g) x) (close-replaced x d g)
+
+kept_append : (b : Bool) (p : ℕ × Value) (r s t : Pairs) → r ≡ s ++ t → (if b then r else p ∷ r) ≡ (if b then s else p ∷ s) ++ t
+kept_append true p r s t h = h
+kept_append false p r s t h = ap (λ l. p ∷ l) h
+
+pub without-append : (xs : List ℕ) (d g : Pairs) → without xs (d ++ g) ≡ without xs d ++ without xs g
+without-append xs [] g = refl
+without-append xs (p ∷ d) g = kept_append (list_any (λ x. x == p.0) xs) p _ _ (without xs g) (without-append xs d g)
+
+-- in a body, where a pattern binds some variables
+body_close : (xs : List ℕ) (b : Core) (d g : Pairs) → close (without xs g) (close (without xs d) b) ≡ close (without xs d ++ without xs g) b
+    → close (without xs g) (close (without xs d) b) ≡ close (without xs (d ++ g)) b
+body_close xs b d g h = h ∙ ap (λ l. close l b) (sym (without-append xs d g))
+
+mutual
+  -- a closing after a closing is one closing
+  pub close-close : (e : Core) (d g : Pairs) → close g (close d e) ≡ close (d ++ g) e
+  close-close (val v) d g = refl
+  close-close (use_of x) d g = close-replaced x d g
+  close-close (fun q b) d g = ap (fun q) (body_close (bound_in q) b d g (close-close b (without (bound_in q) d) (without (bound_in q) g)))
+  close-close (row r es) d g = ap (row r) (close_all-close es d g)
+  close-close (let_in q e b) d g =
+      ap₂ (let_in q) (close-close e d g) (body_close (bound_in q) b d g (close-close b (without (bound_in q) d) (without (bound_in q) g)))
+  close-close (let_rec f q e b) d g =
+      ap₂ (let_rec f q) (body_close (f ∷ bound_in q) e d g (close-close e (without (f ∷ bound_in q) d) (without (f ∷ bound_in q) g)))
+      (body_close (f ∷ []) b d g (close-close b (without (f ∷ []) d) (without (f ∷ []) g)))
+  close-close (call f a) d g = ap₂ call (close-close f d g) (close-close a d g)
+  close-close (one o e) d g = ap (one o) (close-close e d g)
+  close-close (two o a b) d g = ap₂ (two o) (close-close a d g) (close-close b d g)
+  close-close (store p a i e) d g = ap₃ (store p) (close-close a d g) (close-close i d g) (close-close e d g)
+  close-close (and_of a b) d g = ap₂ and_of (close-close a d g) (close-close b d g)
+  close-close (or_of a b) d g = ap₂ or_of (close-close a d g) (close-close b d g)
+  close-close (if_else c a b) d g = ap₃ if_else (close-close c d g) (close-close a d g) (close-close b d g)
+  close-close (match_on p e cs) d g = ap₂ (match_on p) (close-close e d g) (close_arms-close cs d g)
+  close-close (seq a b) d g = ap₂ seq (close-close a d g) (close-close b d g)
+  close-close (assert_false p) d g = refl
+
+  pub close_all-close : (es : Cores) (d g : Pairs) → close_all g (close_all d es) ≡ close_all (d ++ g) es
+  close_all-close none d g = refl
+  close_all-close (more e es) d g = ap₂ more (close-close e d g) (close_all-close es d g)
+
+  pub close_arms-close : (cs : Arms) (d g : Pairs) → close_arms g (close_arms d cs) ≡ close_arms (d ++ g) cs
+  close_arms-close no_arms d g = refl
+  close_arms-close (more_arms q e cs) d g =
+      ap₂ (more_arms q) (body_close (bound_in q) e d g (close-close e (without (bound_in q) d) (without (bound_in q) g))) (close_arms-close cs d g)
+
+-- ---- by the same values
+
+-- what is left of a value where the variable is among those that are left out
+abbrev unless : Bool → Option Value → Option Value
+unless b o = if b then None else o
+
+value_in-without : (xs : List ℕ) (ps : Pairs) (k : ℕ) → value_in (without xs ps) k ≡ unless (list_any (λ x. x == k) xs) (value_in ps k)
+value_in-without xs [] k = nothing (list_any (λ x. x == k) xs)
+  where
+    nothing : (b : Bool) → None ≡ unless b None
+    nothing true = refl
+    nothing false = refl
+value_in-without xs (p ∷ ps) k = by (list_any (λ x. x == p.0) xs) (p.0 == k) refl refl (value_in-without xs ps k)
+  where
+    by : (out here : Bool) → list_any (λ x. x == p.0) xs ≡ out → (p.0 == k) ≡ here → value_in (without xs ps) k ≡ unless (list_any (λ x. x == k) xs) (value_in ps k)
+        → value_in (if out then without xs ps else p ∷ without xs ps) k ≡ unless (list_any (λ x. x == k) xs) (if here then Some p.1 else value_in ps k)
+    by true true o h rest =
+        let e : p.0 ≡ k = eqb-true p.0 k h in
+        let out : list_any (λ x. x == k) xs ≡ true = sym (ap (λ j. list_any (λ x. x == j) xs) e) ∙ o in
+        rest ∙ ap (λ b. unless b (value_in ps k)) out ∙ sym (ap (λ b. unless b (Some p.1)) out)
+    by true false o h rest = rest
+    by false true o h rest =
+        let e : p.0 ≡ k = eqb-true p.0 k h in
+        let out : list_any (λ x. x == k) xs ≡ false = sym (ap (λ j. list_any (λ x. x == j) xs) e) ∙ o in
+        ap (λ b. if b then Some p.1 else value_in (without xs ps) k) h ∙ sym (ap (λ b. unless b (Some p.1)) out)
+    by false false o h rest = ap (λ b. if b then Some p.1 else value_in (without xs ps) k) h ∙ rest
+
+pub same_without : (xs : List ℕ) (d g : Pairs) → SameIn d g → SameIn (without xs d) (without xs g)
+same_without xs d g h k = value_in-without xs d k ∙ ap (unless (list_any (λ x. x == k) xs)) (h k) ∙ sym (value_in-without xs g k)
+
+mutual
+  pub close-same : (e : Core) (d g : Pairs) → SameIn d g → close d e ≡ close g e
+  close-same (val v) d g h = refl
+  close-same (use_of x) d g h = ap (replaced x) (h x)
+  close-same (fun q b) d g h = ap (fun q) (close-same b (without (bound_in q) d) (without (bound_in q) g) (same_without (bound_in q) d g h))
+  close-same (row r es) d g h = ap (row r) (close_all-same es d g h)
+  close-same (let_in q e b) d g h = ap₂ (let_in q) (close-same e d g h) (close-same b (without (bound_in q) d) (without (bound_in q) g) (same_without (bound_in q) d g h))
+  close-same (let_rec f q e b) d g h =
+      ap₂ (let_rec f q) (close-same e (without (f ∷ bound_in q) d) (without (f ∷ bound_in q) g) (same_without (f ∷ bound_in q) d g h))
+      (close-same b (without (f ∷ []) d) (without (f ∷ []) g) (same_without (f ∷ []) d g h))
+  close-same (call f a) d g h = ap₂ call (close-same f d g h) (close-same a d g h)
+  close-same (one o e) d g h = ap (one o) (close-same e d g h)
+  close-same (two o a b) d g h = ap₂ (two o) (close-same a d g h) (close-same b d g h)
+  close-same (store p a i e) d g h = ap₃ (store p) (close-same a d g h) (close-same i d g h) (close-same e d g h)
+  close-same (and_of a b) d g h = ap₂ and_of (close-same a d g h) (close-same b d g h)
+  close-same (or_of a b) d g h = ap₂ or_of (close-same a d g h) (close-same b d g h)
+  close-same (if_else c a b) d g h = ap₃ if_else (close-same c d g h) (close-same a d g h) (close-same b d g h)
+  close-same (match_on p e cs) d g h = ap₂ (match_on p) (close-same e d g h) (close_arms-same cs d g h)
+  close-same (seq a b) d g h = ap₂ seq (close-same a d g h) (close-same b d g h)
+  close-same (assert_false p) d g h = refl
+
+  pub close_all-same : (es : Cores) (d g : Pairs) → SameIn d g → close_all d es ≡ close_all g es
+  close_all-same none d g h = refl
+  close_all-same (more e es) d g h = ap₂ more (close-same e d g h) (close_all-same es d g h)
+
+  pub close_arms-same : (cs : Arms) (d g : Pairs) → SameIn d g → close_arms d cs ≡ close_arms g cs
+  close_arms-same no_arms d g h = refl
+  close_arms-same (more_arms q e cs) d g h =
+      ap₂ (more_arms q) (close-same e (without (bound_in q) d) (without (bound_in q) g) (same_without (bound_in q) d g h)) (close_arms-same cs d g h)
+
+-- ---- by none
+
+mutual
+  pub close-none : (e : Core) → close [] e ≡ e
+  close-none (val v) = refl
+  close-none (use_of x) = refl
+  close-none (fun q b) = ap (fun q) (close-none b)
+  close-none (row r es) = ap (row r) (close_all-none es)
+  close-none (let_in q e b) = ap₂ (let_in q) (close-none e) (close-none b)
+  close-none (let_rec f q e b) = ap₂ (let_rec f q) (close-none e) (close-none b)
+  close-none (call f a) = ap₂ call (close-none f) (close-none a)
+  close-none (one o e) = ap (one o) (close-none e)
+  close-none (two o a b) = ap₂ (two o) (close-none a) (close-none b)
+  close-none (store p a i e) = ap₃ (store p) (close-none a) (close-none i) (close-none e)
+  close-none (and_of a b) = ap₂ and_of (close-none a) (close-none b)
+  close-none (or_of a b) = ap₂ or_of (close-none a) (close-none b)
+  close-none (if_else c a b) = ap₃ if_else (close-none c) (close-none a) (close-none b)
+  close-none (match_on p e cs) = ap₂ (match_on p) (close-none e) (close_arms-none cs)
+  close-none (seq a b) = ap₂ seq (close-none a) (close-none b)
+  close-none (assert_false p) = refl
+
+  pub close_all-none : (es : Cores) → close_all [] es ≡ es
+  close_all-none none = refl
+  close_all-none (more e es) = ap₂ more (close-none e) (close_all-none es)
+
+  pub close_arms-none : (cs : Arms) → close_arms [] cs ≡ cs
+  close_arms-none no_arms = refl
+  close_arms-none (more_arms q e cs) = ap₂ (more_arms q) (close-none e) (close_arms-none cs)

@@ -1,0 +1,11 @@
+use Rattle.lq_model.proofs.Substitution.{close-close, close-same, close-none}
+use Rattle.lq_model.proofs.laws.closing.Goals as goal
+
+pub returns-clause-twice : goal.returns-clause-twice
+returns-clause-twice c = close-close
+
+pub returns-clause-alike : goal.returns-clause-alike
+returns-clause-alike c = close-same
+
+pub returns-clause-by_none : goal.returns-clause-by_none
+returns-clause-by_none c = close-none
