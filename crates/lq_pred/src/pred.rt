@@ -1,7 +1,9 @@
 ghost use Rattle.std.specs.Prelude.{◌≡◌, [], ◌∷◌, ◌++◌, length, slice_get, IfOk, OnOk, OnErr};
 ghost use Rattle.std.specs.Option.{option_copied};
 
+use crate::gathering::number_terms;
 use crate::symbol::Symbol;
+use crate::table::TermTable;
 use crate::term::Term;
 use lq_name::CompareOp;
 use lq_num::NumberPast;
@@ -24,6 +26,9 @@ pub enum Pred {
 
 impl Pred {
     ghost use Rattle.lq_pred.specs.PredView.{formula_of};
+    ghost use Rattle.lq_pred.specs.Reading.{formula_numbered};
+    ghost use Rattle.lq_pred.specs.Table.{Extends};
+    ghost use Rattle.lq_pred.specs.TableView.{terms_of};
 
     /// An equal predicate.
     #[cycle(copy)]
@@ -40,6 +45,27 @@ impl Pred {
             Pred::And(p, q) => Ok(Pred::And(p.boxed(alloc)?, q.boxed(alloc)?)),
             Pred::Or(p, q) => Ok(Pred::Or(p.boxed(alloc)?, q.boxed(alloc)?)),
             Pred::Iff(p, q) => Ok(Pred::Iff(p.boxed(alloc)?, q.boxed(alloc)?)),
+        }
+    }
+
+    /// Numbers the terms of the predicate that a table numbers, in the order of its text, an inner one
+    /// before the outer.
+    #[tactic(auto, using(crate::proofs::Growing::growing))]
+    pub fn number_terms(&self, alloc: Global, table: &mut TermTable) -> Result<(), AllocError>
+        ensures numbered { OnOk result (terms_of table.new ≡ formula_numbered (terms_of table.old) (formula_of self.now)) }
+        ensures grows { Extends (terms_of table.old) (terms_of table.new) }
+    {
+        match self {
+            Pred::True | Pred::False | Pred::Flag(_) | Pred::Same(_, _) => Ok(()),
+            Pred::Compare(_, a, b) => {
+                number_terms(a, alloc, table)?;
+                number_terms(b, alloc, table)
+            }
+            Pred::Not(p) => p.number_terms(alloc, table),
+            Pred::And(p, q) | Pred::Or(p, q) | Pred::Iff(p, q) => {
+                p.number_terms(alloc, table)?;
+                q.number_terms(alloc, table)
+            }
         }
     }
 
@@ -80,6 +106,12 @@ impl Preds {
         ensures { option_copied result ≡ slice_get (pred_items self.now) at }
     {
         self.items.get(at)
+    }
+
+    pub fn as_slice(&self) -> &[Pred]
+        ensures { result.now ≡ pred_items self.now }
+    {
+        self.items.as_slice()
     }
 
     pub fn push(&mut self, pred: Pred) -> Result<(), AllocError>
