@@ -50,7 +50,7 @@ impl Pred {
 
     /// Numbers the terms of the predicate that a table numbers, in the order of its text, an inner one
     /// before the outer.
-    #[tactic(auto, using(crate::proofs::Growing::growing))]
+    #[tactic(auto, using(crate::specs::Growing::growing))]
     pub fn number_terms(&self, alloc: Global, table: &mut TermTable) -> Result<(), AllocError>
         ensures numbered { OnOk result (terms_of table.new ≡ formula_numbered (terms_of table.old) (formula_of self.now)) }
         ensures grows { Extends (terms_of table.old) (terms_of table.new) }
@@ -139,6 +139,26 @@ impl Preds {
 pub struct Closed {
     pub hypotheses: Preds,
     pub goal: Pred,
+}
+
+impl Closed {
+    ghost use Rattle.std.specs.Prelude.{◌≡◌, IfOk};
+    ghost use Rattle.lq_pred.specs.Implication.{terms_in};
+    ghost use Rattle.lq_pred.specs.PredView.{implication_of};
+    ghost use Rattle.lq_pred.specs.TableView.{terms_of};
+
+    /// The terms of the hypotheses and then of the goal, numbered by their first appearance, an inner one
+    /// before the outer.
+    pub fn terms(&self, alloc: Global) -> Result<TermTable, AllocError>
+        ensures { IfOk result (λ table. terms_of table ≡ terms_in (implication_of self.now)) }
+    {
+        let mut table = TermTable::new(alloc)?;
+        for pred in self.hypotheses.as_slice() {
+            pred.number_terms(alloc, &mut table)?;
+        }
+        self.goal.number_terms(alloc, &mut table)?;
+        Ok(table)
+    }
 }
 
 /// Why no verdict on an implication came.
