@@ -3,3 +3,4 @@ pub mod LinesView
 pub mod Problem
 pub mod Halts
 pub mod Plain
+pub mod Solution

@@ -3,6 +3,7 @@
 #![tactic(auto)]
 
 mod lines;
+mod solution;
 mod solve;
 mod stage;
 
