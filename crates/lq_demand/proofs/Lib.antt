@@ -1,3 +1,5 @@
 pub mod Numbered
 pub mod Stages
 pub mod Values
+pub mod Differences
+pub mod Plains

@@ -4,3 +4,4 @@ pub mod Problem
 pub mod Halts
 pub mod Plain
 pub mod Solution
+pub mod Gathered
