@@ -3,3 +3,4 @@ pub mod Stages
 pub mod Values
 pub mod Differences
 pub mod Plains
+pub mod Staged

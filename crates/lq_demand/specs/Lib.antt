@@ -5,3 +5,5 @@ pub mod Halts
 pub mod Plain
 pub mod Solution
 pub mod Gathered
+pub mod Answer
+pub mod Staging
