@@ -4,3 +4,6 @@ pub mod Values
 pub mod Differences
 pub mod Plains
 pub mod Staged
+pub mod Variables
+pub mod Ungathered
+pub mod Steps
