@@ -22,7 +22,7 @@ below_more n m (part ∷ parts) l h = (let k = h.0 in omega arith, below_more n 
 taken_more : (n m : ℕ) (row : Row) → n ≤ m → IsTaken n row → IsTaken m row
 taken_more n m row l h = (h.0, below_more n m row.parts l h.1)
 
-all_taken_more : (n m : ℕ) (rows : List Row) → n ≤ m → All (IsTaken n) rows → All (IsTaken m) rows
+pub all_taken_more : (n m : ℕ) (rows : List Row) → n ≤ m → All (IsTaken n) rows → All (IsTaken m) rows
 all_taken_more n m rows l h k d p = taken_more n m (get_or rows k d) l (h k d p)
 
 stages_more : (n m : ℕ) (stages : List Stage) → n ≤ m → All (IsStageTaken n) stages → All (IsStageTaken m) stages
@@ -42,7 +42,7 @@ gathered_more a b s p r x g = record {
   }
 }
 
-all_gathered_more : (a b : List Sum) (ps : List Formula) (rows : List Row) → Extends a b → AreGathered a ps rows → AreGathered b ps rows
+pub all_gathered_more : (a b : List Sum) (ps : List Formula) (rows : List Row) → Extends a b → AreGathered a ps rows → AreGathered b ps rows
 all_gathered_more a b [] [] x h = tt
 all_gathered_more a b (p ∷ ps) (row ∷ rows) x h = (gathered_more a b true p row x h.0, all_gathered_more a b ps rows x h.1)
 all_gathered_more a b [] (row ∷ rows) x h = absurd h
@@ -55,7 +55,7 @@ problems_more a b (i ∷ is) (p ∷ ps) x h =
 problems_more a b [] (p ∷ ps) x h = absurd h
 problems_more a b (i ∷ is) [] x h = absurd h
 
-gathered_push : (all : List Sum) (ps : List Formula) (rows : List Row) (p : Formula) (row : Row) → AreGathered all ps rows → IsGathered all true p row
+pub gathered_push : (all : List Sum) (ps : List Formula) (rows : List Row) (p : Formula) (row : Row) → AreGathered all ps rows → IsGathered all true p row
     → AreGathered all (ps ++ p ∷ []) (rows ++ row ∷ [])
 gathered_push all [] [] p row h g = (g, tt)
 gathered_push all (q ∷ ps) (r ∷ rows) p row h g = (h.0, gathered_push all ps rows p row h.1 g)
@@ -94,7 +94,7 @@ count_push : (stages : List Stage) (s : Stage) → count_of (stages ++ s ∷ [])
 count_push [] s = omega arith
 count_push (t ∷ stages) s = let k = count_push stages s in omega arith
 
-longer : (a b : List Sum) → Extends a b → length a ≤ length b
+pub longer : (a b : List Sum) → Extends a b → length a ≤ length b
 longer a b x = let e = ap length x.is in let k = length-append a x.more in omega arith
 
 pub assume_step : (a b : List Sum) (steps : List Step) (old new : Staging) (p : Formula) (row : Row) → Extends a b → IsGathered b true p row → IsTaken (length b) row

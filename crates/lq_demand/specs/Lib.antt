@@ -7,3 +7,4 @@ pub mod Solution
 pub mod Gathered
 pub mod Answer
 pub mod Staging
+pub mod Closed

@@ -2,6 +2,7 @@
 //! of difference rows.
 #![tactic(auto)]
 
+mod closed;
 mod gathered;
 mod lines;
 mod solution;
