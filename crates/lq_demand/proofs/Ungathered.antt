@@ -28,7 +28,7 @@ pub stages_length : (known : List Row) (stages : List Stage) → length (problem
 stages_length known [] = refl
 stages_length known (s ∷ stages) = ap suc (stages_length (known ++ s.assumed.items) stages)
 
-get_behind : (front : List Implication) (i : Implication) (rest : List Implication) → slice_get (front ++ i ∷ rest) (length front) ≡ Some i
+pub get_behind : (front : List Implication) (i : Implication) (rest : List Implication) → slice_get (front ++ i ∷ rest) (length front) ≡ Some i
 get_behind [] i rest = refl
 get_behind (j ∷ front) i rest = get_behind front i rest
 
