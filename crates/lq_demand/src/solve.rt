@@ -71,7 +71,7 @@ fn is_open(engine: &mut DistanceTable, stage: &Stage) -> Result<bool, LinearStop
 }
 
 /// Why this stage isn't decided. A table of distances never answers `Pivots`.
-fn halted(stage: usize, stop: LinearStop) -> Halt
+pub(crate) fn halted(stage: usize, stop: LinearStop) -> Halt
     ensures { (n : ℕ) → StopsBy n stop → HaltsAt stage n result }
 {
     match stop {
