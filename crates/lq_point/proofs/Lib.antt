@@ -1,0 +1,4 @@
+pub mod Reading
+pub mod Items
+pub mod Size
+pub mod Order

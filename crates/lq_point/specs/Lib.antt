@@ -1,0 +1,4 @@
+pub mod Values
+pub mod Evaluation
+pub mod Function
+pub mod Nearest
