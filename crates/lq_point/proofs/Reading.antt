@@ -71,6 +71,12 @@ widened ls ms terms values e f s = record { literal = s.literal; its_row = s.its
 contains_only : (c : Comparison) → Contains (c ∷ []) c
 contains_only c = (0, lit< tt, refl)
 
+pub contains_first : (a b c : Comparison) → Contains (a ∷ []) c → Contains (a ∷ (b ∷ [])) c
+contains_first a b c h = Contains-append_left (a ∷ []) (b ∷ []) c h
+
+pub contains_second : (a b c : Comparison) → Contains (b ∷ []) c → Contains (a ∷ (b ∷ [])) c
+contains_second a b c h = Contains-append_right (a ∷ []) (b ∷ []) c h
+
 mutual
   pub step_of : (terms : List Sum) (values : List Frac) (e : NumberPast) (c : Reading Comparison) (r : Reading Row) → Gathers terms c r → IsStepIn (valuation_of values) r e → IsStepOf (comparisons_of c) terms values e
   step_of terms values e _ _ gathers_yes s = absurd s

@@ -2,3 +2,4 @@ pub mod Values
 pub mod Evaluation
 pub mod Function
 pub mod Nearest
+pub mod Arguments

@@ -1,6 +1,6 @@
 ghost use Rattle.std.specs.Prelude.{◌≡◌, ◌↔◌, ◌⊎◌, ◌<◌, ℕ, Bool, List, IsTrue, IfOk, IfErr, OnOk, [], ◌∷◌, All, length, pos, negsuc, Some, slice_get, unwrap_or, get_or, None};
 ghost use Rattle.lq_linear.specs.Steps.{valuation_of};
-ghost use Rattle.lq_math.specs.Rational.{whole, ◌-ℚ◌};
+ghost use Rattle.lq_math.specs.Rational.{ℚ, whole, ◌-ℚ◌};
 ghost use Rattle.lq_math.specs.RationalOrder.{◌≤ℚ◌};
 ghost use Rattle.lq_num.specs.Past.{IsPast};
 ghost use Rattle.lq_num.specs.Value.{value_of};
@@ -101,8 +101,79 @@ fn number_of(term: &Term, numbers: &[Frac], table: &TermTable) -> Frac
     requires { length numbers.now ≡ length (terms_of table.now) }
     ensures { value_of result ≡ valuation_of numbers.now (index_of (terms_of table.now) (sum_of term.now)) }
 {
-    match table.find(term) {
-        Some(at) => numbers[at as usize],
-        None => Frac::whole(0),
+    let Some(at) = table.find(term) else {
+        return Frac::whole(0);
+    };
+    numbers[at as usize]
+}
+
+// The class of an object, and 0 where none is given.
+fn class_of(object: &Term, classes: &IndexMap<Term, u64>) -> u64
+    ensures { result ≡ unwrap_or (class_value classes.now.entries (sum_of object.now)) 0 }
+{
+    classes.get(object).copied().unwrap_or(0)
+}
+
+// Whether two applications of a function of an object have equal values where their objects have one class.
+fn values_agree(
+    left: &Term,
+    left_object: &Term,
+    right: &Term,
+    right_object: &Term,
+    numbers: &[Frac],
+    classes: &IndexMap<Term, u64>,
+    table: &TermTable,
+) -> bool
+    requires { length numbers.now ≡ length (terms_of table.now) }
+    ensures { IsTrue result ↔ (unwrap_or (class_value classes.now.entries (sum_of left_object.now)) 0 ≡ unwrap_or (class_value classes.now.entries (sum_of right_object.now)) 0
+        → valuation_of numbers.now (index_of (terms_of table.now) (sum_of left.now)) ≡ valuation_of numbers.now (index_of (terms_of table.now) (sum_of right.now))) }
+{
+    if class_of(left_object, classes) != class_of(right_object, classes) {
+        return true;
     }
+    is_equal(
+        &number_of(left, numbers, table),
+        &number_of(right, numbers, table),
+    )
+}
+
+fn are_zero(first: &Frac, second: &Frac) -> bool
+    ensures { IsTrue result ↔ ((value_of first.now ≡ whole (pos 0)) × (value_of second.now ≡ whole (pos 0))) }
+{
+    first.is_zero() && second.is_zero()
+}
+
+// Whether two applications of a function of two numbers have equal arguments and results, or some arguments
+// apart.
+fn arguments_agree(
+    alloc: Global,
+    left: (&Term, &Term),
+    right: (&Term, &Term),
+    same_result: bool,
+    numbers: &[Frac],
+    table: &mut TermTable,
+) -> Result<bool, PointError>
+    requires left_first { numbered (terms_of table.old) (sum_of left.0.now) ≡ terms_of table.old }
+    requires left_second { numbered (terms_of table.old) (sum_of left.1.now) ≡ terms_of table.old }
+    requires right_first { numbered (terms_of table.old) (sum_of right.0.now) ≡ terms_of table.old }
+    requires right_second { numbered (terms_of table.old) (sum_of right.1.now) ≡ terms_of table.old }
+    requires first_fits { CanGather (equal_row (sum_of left.0.now) (sum_of right.0.now)) }
+    requires second_fits { CanGather (equal_row (sum_of left.1.now) (sum_of right.1.now)) }
+    requires one_each { length numbers.now ≡ length (terms_of table.old) }
+    ensures same { OnOk result (terms_of table.new ≡ terms_of table.old) }
+    ensures answer { IfOk result (λ answer. (flags : List (Symbol × Bool)) (classes : List (Term × ℕ)) (r s : ℚ) → (IsTrue same_result ↔ (r ≡ s))
+        → IsTrue answer ↔ AgreeOrApart (point_from (terms_of table.old) numbers.now flags classes) (sum_of left.entry.0.now) (sum_of left.entry.1.now) (sum_of right.entry.0.now) (sum_of right.entry.1.now) r s) }
+    ensures past { IfErr result (λ e. (n : NumberPast) → e ≡ PointError.Past n → IsPast n) }
+    ensures step { IfErr result (λ e. (n : NumberPast) → e ≡ PointError.Past n
+        → IsStepOf (equal_row (sum_of left.entry.0.now) (sum_of right.entry.0.now) ∷ (equal_row (sum_of left.entry.1.now) (sum_of right.entry.1.now) ∷ [])) (terms_of table.old) numbers.now n) }
+{
+    let first = difference(alloc, left.0, right.0, numbers, table)?;
+    if is_apart(&first) {
+        return Ok(true);
+    }
+    let second = difference(alloc, left.1, right.1, numbers, table)?;
+    if is_apart(&second) {
+        return Ok(true);
+    }
+    Ok(are_zero(&first, &second) && same_result)
 }
