@@ -5,3 +5,4 @@ pub mod Order
 pub mod Numbers
 pub mod Apart
 pub mod Agreement
+pub mod TwoArguments

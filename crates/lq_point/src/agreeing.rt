@@ -15,6 +15,7 @@ ghost use Rattle.lq_pred.specs.Sum.{Sum};
 ghost use Rattle.lq_pred.specs.Table.{index_of, numbered, has_term};
 ghost use Rattle.lq_pred.specs.TableView.{terms_of};
 ghost use Rattle.lq_pred.specs.TermView.{sum_of};
+ghost use Rattle.lq_point.specs.Arguments.{HasArguments};
 ghost use Rattle.lq_point.specs.Evaluation.{IsStepOf};
 ghost use Rattle.lq_point.specs.Function.{applied};
 
@@ -107,6 +108,17 @@ fn number_of(term: &Term, numbers: &[Frac], table: &TermTable) -> Frac
     numbers[at as usize]
 }
 
+// Whether two terms have one number.
+fn is_same_number(left: &Term, right: &Term, numbers: &[Frac], table: &TermTable) -> bool
+    requires { length numbers.now ≡ length (terms_of table.now) }
+    ensures { IsTrue result ↔ (valuation_of numbers.now (index_of (terms_of table.now) (sum_of left.now)) ≡ valuation_of numbers.now (index_of (terms_of table.now) (sum_of right.now))) }
+{
+    is_equal(
+        &number_of(left, numbers, table),
+        &number_of(right, numbers, table),
+    )
+}
+
 // The class of an object, and 0 where none is given.
 fn class_of(object: &Term, classes: &IndexMap<Term, u64>) -> u64
     ensures { result ≡ unwrap_or (class_value classes.now.entries (sum_of object.now)) 0 }
@@ -131,10 +143,7 @@ fn values_agree(
     if class_of(left_object, classes) != class_of(right_object, classes) {
         return true;
     }
-    is_equal(
-        &number_of(left, numbers, table),
-        &number_of(right, numbers, table),
-    )
+    is_same_number(left, right, numbers, table)
 }
 
 fn are_zero(first: &Frac, second: &Frac) -> bool
@@ -176,4 +185,63 @@ fn arguments_agree(
         return Ok(true);
     }
     Ok(are_zero(&first, &second) && same_result)
+}
+
+// Whether two terms meet the condition on two applications of one function. Terms that apply none, or two
+// functions, meet it.
+fn agree(
+    alloc: Global,
+    left: &Term,
+    right: &Term,
+    numbers: &[Frac],
+    classes: &IndexMap<Term, u64>,
+    table: &mut TermTable,
+) -> Result<bool, PointError>
+    requires left { HasArguments (terms_of table.old) (sum_of left.now) }
+    requires right { HasArguments (terms_of table.old) (sum_of right.now) }
+    requires fits { All CanGather (pair_rows (sum_of left.now) (sum_of right.now)) }
+    requires one_each { length numbers.now ≡ length (terms_of table.old) }
+    ensures same { OnOk result (terms_of table.new ≡ terms_of table.old) }
+    ensures answer { IfOk result (λ answer. (flags : List (Symbol × Bool))
+        → IsTrue answer ↔ Agree (point_from (terms_of table.old) numbers.now flags classes.now.entries) (sum_of left.now) (sum_of right.now)) }
+    ensures past { IfErr result (λ e. (n : NumberPast) → e ≡ PointError.Past n → IsPast n) }
+    ensures step { IfErr result (λ e. (n : NumberPast) → e ≡ PointError.Past n
+        → IsStepOf (pair_rows (sum_of left.now) (sum_of right.now)) (terms_of table.old) numbers.now n) }
+{
+    match left {
+        Term::Mul(a, b) => match right {
+            Term::Mul(c, d) => {
+                let same = is_same_number(left, right, numbers, table);
+                arguments_agree(alloc, (a, b), (c, d), same, numbers, table)
+            }
+            _ => Ok(true),
+        },
+        Term::Div(a, b) => match right {
+            Term::Div(c, d) => {
+                let same = is_same_number(left, right, numbers, table);
+                arguments_agree(alloc, (a, b), (c, d), same, numbers, table)
+            }
+            _ => Ok(true),
+        },
+        Term::Mod(a, b) => match right {
+            Term::Mod(c, d) => {
+                let same = is_same_number(left, right, numbers, table);
+                arguments_agree(alloc, (a, b), (c, d), same, numbers, table)
+            }
+            _ => Ok(true),
+        },
+        Term::Length(a) => match right {
+            Term::Length(b) => Ok(values_agree(left, a, right, b, numbers, classes, table)),
+            _ => Ok(true),
+        },
+        Term::Measure(f, a) => match right {
+            Term::Measure(g, b) => {
+                Ok(*f != *g || values_agree(left, a, right, b, numbers, classes, table))
+            }
+            _ => Ok(true),
+        },
+        Term::Whole(_) | Term::Var(_) | Term::Neg(_) | Term::Add(_, _) | Term::Sub(_, _) => {
+            Ok(true)
+        }
+    }
 }
