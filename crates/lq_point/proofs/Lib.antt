@@ -6,3 +6,5 @@ pub mod Numbers
 pub mod Apart
 pub mod Agreement
 pub mod TwoArguments
+pub mod Walks
+pub mod Earlier

@@ -3,3 +3,4 @@ pub mod Evaluation
 pub mod Function
 pub mod Nearest
 pub mod Arguments
+pub mod Agreeing

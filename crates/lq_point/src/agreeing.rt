@@ -33,7 +33,7 @@ use std::cmp::Ordering;
 
 // A function that a term may apply.
 #[derive(Clone, Copy, PartialEq, Eq, Hash)]
-enum Function {
+pub(crate) enum Function {
     Product,
     Quotient,
     Remainder,
@@ -42,7 +42,7 @@ enum Function {
 }
 
 // The function that a term applies.
-fn function_of(term: &Term) -> Option<Function>
+pub(crate) fn function_of(term: &Term) -> Option<Function>
     ensures { result ≡ applied (sum_of term.now) }
 {
     match term {
@@ -189,7 +189,7 @@ fn arguments_agree(
 
 // Whether two terms meet the condition on two applications of one function. Terms that apply none, or two
 // functions, meet it.
-fn agree(
+pub(crate) fn agree(
     alloc: Global,
     left: &Term,
     right: &Term,

@@ -6,6 +6,7 @@ mod error;
 mod evaluating;
 mod holding;
 mod laws;
+mod pairs;
 mod point;
 mod values;
 
