@@ -8,3 +8,5 @@ pub mod Agreement
 pub mod TwoArguments
 pub mod Walks
 pub mod Earlier
+pub mod Covers
+pub mod Literal

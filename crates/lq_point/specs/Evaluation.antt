@@ -87,3 +87,7 @@ abbrev mutual
   pub IsStepInAny : Valuation → Readings Row → NumberPast → Type 0
   IsStepInAny v none e = ⊥
   IsStepInAny v (more r rs) e = IsStepIn v r e ⊎ IsStepInAny v rs e
+
+-- each comparison of the second list is in the first
+abbrev pub AreAmong : List Comparison → List Comparison → Type 0
+AreAmong literals xs = (c : Comparison) → Contains xs c → Contains literals c

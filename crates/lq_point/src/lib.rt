@@ -2,6 +2,7 @@
 #![tactic(auto)]
 
 mod agreeing;
+mod conditions;
 mod error;
 mod evaluating;
 mod holding;
