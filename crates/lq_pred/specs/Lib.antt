@@ -16,3 +16,7 @@ pub mod Truth
 pub mod Points
 pub mod Implication
 pub mod Literals
+pub mod RowMeaning
+pub mod Numbering
+pub mod Growing
+pub mod Again

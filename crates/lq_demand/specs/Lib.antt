@@ -1,0 +1,12 @@
+pub mod Straight
+pub mod LinesView
+pub mod Problem
+pub mod Halts
+pub mod Plain
+pub mod Solution
+pub mod Gathered
+pub mod Answer
+pub mod Staging
+pub mod Closed
+pub mod AskedView
+pub mod Deciding
