@@ -1,5 +1,5 @@
 -- Linear combinations of variables.
-use Rattle.std.specs.Prelude.{◌≡◌, ◌==◌, if◌then◌else◌, ℕ, suc, pos, ◌≤◌, List, [], ◌∷◌, ◌++◌, Some, slice_get, slice_index_or}
+use Rattle.std.specs.Prelude.{◌≡◌, ◌==◌, if◌then◌else◌, ℕ, zero, suc, pos, ◌≤◌, ◌<◌, List, [], ◌∷◌, ◌++◌, Option, Some, None, length, ◌≢◌, ◌+◌, slice_get, slice_index_or}
 use Rattle.lq_math.specs.Rational.{ℚ, whole, ◌+ℚ◌, ◌*ℚ◌}
 use Rattle.lq_num.specs.declared.frac.Frac.{Frac}
 use Rattle.lq_num.specs.Past.{IsPast}
@@ -31,11 +31,23 @@ IsLine es = AscendsFrom 0 es
 -- the variable at a place, and 0 past the last
 abbrev pub variable_at : List Entry → ℕ → ℕ
 variable_at [] i = 0
-variable_at (e ∷ es) 0 = e.variable
+variable_at (e ∷ es) zero = e.variable
 variable_at (e ∷ es) (suc i) = variable_at es i
 
-abbrev pub IsEntry : List Entry → ℕ → ℕ → Frac → Type 0
-IsEntry es at variable factor = slice_get es at ≡ Some (record { variable = variable; factor = factor })
+-- what stands at a place of this variable, and the place after it
+abbrev pub IsHead : List Entry → ℕ → ℕ → Option Frac → ℕ → Type 0
+IsHead es at variable None next = (next ≡ at) × (at < length es → variable_at es at ≢ variable)
+IsHead es at variable (Some factor) next = (next ≡ at + 1) × (slice_get es at ≡ Some (record { variable = variable; factor = factor }))
+
+-- one variable alone, once
+pub record IsOwnLine (variable : ℕ) (line : List Entry) : Type 0 where
+  pub factor : Frac
+  pub is : line ≡ (record { variable = variable; factor = factor }) ∷ []
+  pub one : value_of factor ≡ whole (pos 1)
+
+abbrev pub VariablesBelow : ℕ → List Entry → Type 0
+VariablesBelow n [] = Unit {0}
+VariablesBelow n (e ∷ es) = (e.variable < n) × VariablesBelow n es
 
 -- an entry was added, or its factor is 0
 pub data IsPut (old : List Entry) (variable : ℕ) (factor : Frac) (new : List Entry) : Type 0 where

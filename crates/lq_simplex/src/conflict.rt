@@ -1,3 +1,13 @@
+ghost use Rattle.std.specs.Prelude.{◌≡◌, pos, IfOk, IfErr};
+ghost use Rattle.std.specs.Int.Signed.{◌<ℤ◌};
+ghost use Rattle.lq_math.specs.Rational.{◌*ℚ◌};
+ghost use Rattle.lq_num.specs.Past.{IsPast};
+ghost use Rattle.lq_num.specs.Value.{value_of};
+ghost use Rattle.lq_linear.specs.Contradiction.{IsContradiction};
+ghost use Rattle.lq_simplex.specs.Lines.{IsStop};
+ghost use Rattle.lq_simplex.specs.Standing.{scale_of, standing_of, multipliers_of};
+ghost use Rattle.lq_simplex.specs.Conflicts.{toward, IsKept};
+
 use crate::limits::{Broken, Limits, Side, blocking, opposite};
 use crate::line::Entry;
 use crate::row::{Bound, Standing};
@@ -6,7 +16,11 @@ use lq_num::{Frac, NumberPast};
 use std::alloc::Global;
 
 /// The multiplier of a bound's row that makes it this factor times the variable, or for the upper side the factor negated.
-fn multiplier(factor: &Frac, bound: &Bound, side: Side) -> Result<Frac, NumberPast> {
+fn multiplier(factor: &Frac, bound: &Bound, side: Side) -> Result<Frac, NumberPast>
+    requires { pos 0 <ℤ bound.now.divisor }
+    ensures exact { IfOk result (λ f. value_of f *ℚ scale_of bound.now ≡ toward side (value_of factor.now)) }
+    ensures stop { IfErr result IsPast }
+{
     let quotient = factor.div(&Frac::whole(bound.divisor))?;
     if bound.turned == (side == Side::Lower) {
         quotient.neg()
@@ -22,7 +36,11 @@ pub(crate) fn explain(
     limits: &Limits,
     broken: &Broken,
     line: &[Entry],
-) -> Result<Vec<(u64, Frac)>, Stop> {
+) -> Result<Vec<(u64, Frac)>, Stop>
+    requires { IsKept rows.now limits.now broken.now line.now }
+    ensures contradicts { IfOk result (λ found. IsContradiction (standing_of rows.now) (multipliers_of found.items)) }
+    ensures stop { IfErr result IsStop }
+{
     let mut found = Vec::new(alloc);
     let own = multiplier(&Frac::whole(1), &broken.limit.bound, opposite(broken.side))?;
     found.push((rows[broken.limit.row].tag, own))?;

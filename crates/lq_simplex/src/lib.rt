@@ -12,5 +12,3 @@ mod tableau;
 
 pub use tableau::Tableau;
 
-#[cfg(test)]
-mod tests;

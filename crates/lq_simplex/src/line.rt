@@ -4,7 +4,7 @@ ghost use Rattle.lq_num.specs.Value.{value_of};
 ghost use Rattle.lq_linear.specs.Row.{Valuation};
 ghost use Rattle.lq_linear.specs.Steps.{value_or_zero};
 ghost use Rattle.lq_num.specs.Past.{IsPast};
-ghost use Rattle.lq_simplex.specs.Lines.{combine, factor_of, IsLine, IsEntry, IsPut, variable_at, IsStop};
+ghost use Rattle.lq_simplex.specs.Lines.{combine, factor_of, IsLine, IsHead, IsPut, variable_at, IsStop};
 
 use crate::stop::Stop;
 use lq_num::{Frac, NumberPast};
@@ -61,6 +61,14 @@ pub(crate) fn factor(entries: &[Entry], variable: usize) -> Option<Frac>
     None
 }
 
+/// The variable at a place.
+fn variable(entries: &[Entry], at: usize) -> usize
+    requires { at < length entries.now }
+    ensures { result ≡ variable_at entries.now at }
+{
+    entries[at].variable
+}
+
 /// The least variable at these places of two combinations, of which one isn't read to its end.
 fn least(left: &[Entry], i: usize, right: &[Entry], j: usize) -> usize
     requires { (i < length left.now) ⊎ (j < length right.now) }
@@ -69,23 +77,39 @@ fn least(left: &[Entry], i: usize, right: &[Entry], j: usize) -> usize
     ensures one { ((i < length left.now) × (result ≡ variable_at left.now i)) ⊎ ((j < length right.now) × (result ≡ variable_at right.now j)) }
 {
     if i >= left.len() {
-        right[j].variable
-    } else if j >= right.len() || left[i].variable <= right[j].variable {
-        left[i].variable
-    } else {
-        right[j].variable
+        return variable(right, j);
     }
+    let first = variable(left, i);
+    if j >= right.len() {
+        return first;
+    }
+    let second = variable(right, j);
+    if first <= second { first } else { second }
+}
+
+/// What a combination has of a variable at a place, and the place after it.
+#[derive(Clone, Copy)]
+struct Front {
+    factor: Option<Frac>,
+    next: usize,
 }
 
 /// The factor at this place, if it is that of the variable.
-fn factor_at(entries: &[Entry], at: usize, variable: usize) -> Option<Frac>
-    ensures some { IfSome result (λ f. (at < length entries.now) × (variable_at entries.now at ≡ variable) × IsEntry entries.now at variable f) }
-    ensures none { IfNone result (at < length entries.now → variable_at entries.now at ≢ variable) }
+fn head(entries: &[Entry], at: usize, sought: usize) -> Front
+    ensures { IsHead entries.now at sought result.factor result.next }
 {
-    if at < entries.len() && entries[at].variable == variable {
-        Some(entries[at].factor)
-    } else {
-        None
+    if at < entries.len() {
+        let entry = entries[at];
+        if entry.variable == sought {
+            return Front {
+                factor: Some(entry.factor),
+                next: at + 1,
+            };
+        }
+    }
+    Front {
+        factor: None,
+        next: at,
     }
 }
 
@@ -138,15 +162,11 @@ pub(crate) fn sum(
     let mut j = 0;
     while i < left.len() || j < right.len() {
         let variable = least(left, i, right, j);
-        let first = factor_at(left, i, variable);
-        let second = factor_at(right, j, variable);
-        if first.is_some() {
-            i += 1;
-        }
-        if second.is_some() {
-            j += 1;
-        }
-        let factor = joined(first, times, second)?;
+        let first = head(left, i, variable);
+        let second = head(right, j, variable);
+        i = first.next;
+        j = second.next;
+        let factor = joined(first.factor, times, second.factor)?;
         put(&mut entries, variable, factor)?;
     }
     Ok(Line::new(entries))

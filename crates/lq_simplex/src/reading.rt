@@ -1,3 +1,15 @@
+ghost use Rattle.std.specs.Prelude.{◌≡◌, ℕ, ℤ, pos, ◌<◌, Bool, false, List, length, IfOk, IfErr, neg_ℤ, unsigned_abs};
+ghost use Rattle.std.specs.Int.{IsGcd};
+ghost use Rattle.std.specs.Int.Signed.{◌<ℤ◌};
+ghost use Rattle.lq_math.specs.Rational.{whole, ◌*ℚ◌, neg_ℚ};
+ghost use Rattle.lq_num.specs.Past.{IsPast};
+ghost use Rattle.lq_num.specs.Value.{value_of};
+ghost use Rattle.lq_linear.specs.Row.{Valuation, sum_at};
+ghost use Rattle.lq_simplex.specs.Lines.{IsStop};
+ghost use Rattle.lq_simplex.specs.Systems.{TermsBelow, GoesOn};
+ghost use Rattle.lq_simplex.specs.Standing.{signed, ReadsBy};
+ghost use Rattle.lq_simplex.specs.Reading.{DividesAll, FirstAbove};
+
 use crate::basis::{Basis, Form};
 use crate::row::Bound;
 use crate::stop::Stop;
@@ -6,7 +18,9 @@ use lq_num::{Frac, NumOp, NumberPast};
 use std::alloc::{AllocError, Global};
 
 /// The greatest common divisor, by Euclid's steps.
-fn gcd(a: u128, b: u128) -> u128 {
+fn gcd(a: u128, b: u128) -> u128
+    ensures { IsGcd a b result }
+{
     let mut x = a;
     let mut y = b;
     while y != 0 {
@@ -18,7 +32,9 @@ fn gcd(a: u128, b: u128) -> u128 {
 }
 
 /// The greatest common divisor of the coefficients.
-fn divisor(parts: &[(u64, i128)]) -> u128 {
+fn divisor(parts: &[(u64, i128)]) -> u128
+    ensures { DividesAll result parts.now }
+{
     let mut shared = 0;
     for (_, coefficient) in parts {
         shared = gcd(shared, coefficient.unsigned_abs());
@@ -27,7 +43,10 @@ fn divisor(parts: &[(u64, i128)]) -> u128 {
 }
 
 /// The negation of a coefficient.
-fn negated(coefficient: i128) -> Result<i128, NumberPast> {
+fn negated(coefficient: i128) -> Result<i128, NumberPast>
+    ensures exact { IfOk result (λ n. n ≡ neg_ℤ coefficient) }
+    ensures stop { IfErr result IsPast }
+{
     let Some(negated) = coefficient.checked_neg() else {
         return Err(NumberPast {
             left: Frac::whole(coefficient),
@@ -39,7 +58,12 @@ fn negated(coefficient: i128) -> Result<i128, NumberPast> {
 }
 
 /// The parts, with their coefficients negated where they are turned.
-fn signed(alloc: Global, parts: &[(u64, i128)], turned: bool) -> Result<Vec<(u64, i128)>, Stop> {
+fn turn(alloc: Global, parts: &[(u64, i128)], turned: bool) -> Result<Vec<(u64, i128)>, Stop>
+    ensures sum { IfOk result (λ made. (v : Valuation) → sum_at v made.items ≡ signed turned (sum_at v parts.now)) }
+    ensures below { IfOk result (λ made. (n : ℕ) → TermsBelow n parts.now → TermsBelow n made.items) }
+    ensures first { IfOk result (λ made. FirstAbove turned parts.now → FirstAbove false made.items) }
+    ensures stop { IfErr result IsStop }
+{
     let mut signed = Vec::new(alloc);
     for (term, coefficient) in parts {
         let coefficient = if turned {
@@ -57,7 +81,12 @@ fn divided(
     alloc: Global,
     parts: &[(u64, i128)],
     by: i128,
-) -> Result<Vec<(u64, i128)>, AllocError> {
+) -> Result<Vec<(u64, i128)>, AllocError>
+    requires above { pos 0 <ℤ by }
+    requires divides { DividesAll (unsigned_abs by) parts.now }
+    ensures sum { IfOk result (λ made. (v : Valuation) → sum_at v parts.now ≡ whole by *ℚ sum_at v made.items) }
+    ensures below { IfOk result (λ made. (n : ℕ) → TermsBelow n parts.now → TermsBelow n made.items) }
+{
     let mut divided = Vec::new(alloc);
     for (term, coefficient) in parts {
         divided.push((*term, *coefficient / by))?;
@@ -66,7 +95,11 @@ fn divided(
 }
 
 /// The bound that a row gives: its constant, negated unless the row is turned, over the divisor.
-fn bound_value(constant: i128, divisor: i128, turned: bool) -> Result<Frac, NumberPast> {
+fn bound_value(constant: i128, divisor: i128, turned: bool) -> Result<Frac, NumberPast>
+    requires { pos 0 <ℤ divisor }
+    ensures exact { IfOk result (λ f. signed turned (whole divisor *ℚ value_of f) ≡ neg_ℚ (whole constant)) }
+    ensures stop { IfErr result IsPast }
+{
     let constant = Frac::whole(constant);
     let signed = if turned { constant } else { constant.neg()? };
     signed.div(&Frac::whole(divisor))
@@ -74,15 +107,25 @@ fn bound_value(constant: i128, divisor: i128, turned: bool) -> Result<Frac, Numb
 
 /// Reads a row as a bound of a variable of the basis, or as none where it has no terms. Its form is added to the basis where it
 /// isn't there yet.
-pub(crate) fn read(alloc: Global, basis: &mut Basis, row: &LinearRow) -> Result<Option<Bound>, Stop> {
+pub(crate) fn read(
+    alloc: Global,
+    basis: &mut Basis,
+    row: &LinearRow,
+) -> Result<Option<Bound>, Stop>
+    requires { TermsBelow basis.old.terms row.now.parts }
+    ensures reads { IfOk result (λ bound. ReadsBy basis.new.forms row.now bound) }
+    ensures terms { basis.new.terms ≡ basis.old.terms }
+    ensures forms { GoesOn basis.old.forms basis.new.forms }
+    ensures stop { IfErr result IsStop }
+{
     let parts = row.parts();
     let Some(first) = parts.first() else {
         return Ok(None);
     };
     let turned = first.1 < 0;
-    let signed = signed(alloc, parts, turned)?;
-    let divisor = divisor(&signed) as i128;
-    let form = Form::new(divided(alloc, &signed, divisor)?);
+    let made = turn(alloc, parts, turned)?;
+    let divisor = divisor(&made) as i128;
+    let form = Form::new(divided(alloc, &made, divisor)?);
     let value = bound_value(row.constant(), divisor, turned)?;
     let variable = basis.variable(alloc, form)?;
     Ok(Some(Bound {

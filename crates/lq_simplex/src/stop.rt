@@ -10,9 +10,10 @@ pub(crate) enum Stop {
 }
 
 impl From<NumberPast> for Stop {
+    ghost use Rattle.lq_simplex.specs.declared.stop.Stop.TheVariants.{Past};
     ghost use Rattle.std.specs.Prelude.{◌≡◌};
 
-    ghost from_gives = { λ past stop. stop ≡ Stop.Past past };
+    ghost from_gives = { λ past stop. stop ≡ Past past };
 
     fn from(past: NumberPast) -> Stop {
         Stop::Past(past)
@@ -20,9 +21,10 @@ impl From<NumberPast> for Stop {
 }
 
 impl From<AllocError> for Stop {
+    ghost use Rattle.lq_simplex.specs.declared.stop.Stop.TheVariants.{Memory};
     ghost use Rattle.std.specs.Prelude.{◌≡◌};
 
-    ghost from_gives = { λ _ stop. stop ≡ Stop.Memory };
+    ghost from_gives = { λ _ stop. stop ≡ Memory };
 
     fn from(_error: AllocError) -> Stop {
         Stop::Memory
@@ -30,9 +32,10 @@ impl From<AllocError> for Stop {
 }
 
 impl<T: Drop> From<AllocFailed<T>> for Stop {
+    ghost use Rattle.lq_simplex.specs.declared.stop.Stop.TheVariants.{Memory};
     ghost use Rattle.std.specs.Prelude.{◌≡◌};
 
-    ghost from_gives = { λ _ stop. stop ≡ Stop.Memory };
+    ghost from_gives = { λ _ stop. stop ≡ Memory };
 
     fn from(_error: AllocFailed<T>) -> Stop {
         Stop::Memory
