@@ -23,7 +23,7 @@ use Rattle.lq_simplex.specs.Lines.{combine, AscendsFrom, IsLine}
 use Rattle.lq_simplex.specs.Systems.{Parts, form_at, form_values}
 use Rattle.lq_simplex.specs.Standing.{standing_of, multiplier_of, multipliers_of, scale_of, ReadsAs, ReadsBy, Reads, AllRead, HasNoTag, TagsApart}
 use Rattle.lq_simplex.specs.Bounds.{other, Within, Beyond, IsOn, Tightest, limit_at, bound_value, IsLimit, Breaks, blocking_of, IsBlocked, AllBlocked}
-use Rattle.lq_simplex.specs.Conflicts.{toward, AllGiven, IsKept}
+use Rattle.lq_simplex.specs.Conflicts.{toward, AllGiven, Names, IsKept}
 use Rattle.lq_simplex.proofs.Combinations.{combine-more, entry_above}
 use Rattle.lq_simplex.proofs.Limiting.{blocked_at}
 use Rattle.lq_simplex.proofs.Signs.{fair, blocked, within_sum, within_same, not_both, gap_above, toward_more, toward_end, toward_nothing, blocking_one, other_other}
@@ -102,12 +102,6 @@ once-push [] m o n = (All-nil (λ other. other.0 ≢ m.0), tt)
 once-push (k ∷ ms) m o n = (other-push k.0 ms m o.0 n.0, once-push ms m o.1 n.1)
 
 -- ---- one row
-pub record Names (rows : List Standing) (tag : ℕ) (l : Limit) : Type 0 where
-  pub standing : Standing
-  pub stands : slice_get rows l.row ≡ Some standing
-  pub gives : standing.bound ≡ Some l.bound
-  pub is : standing.tag ≡ tag
-
 pub named_level : (rows : List Standing) (forms : List Parts) (on side : Side) (j : ℕ) (l : Limit) (f m : ℚ) (tag : ℕ) (v : Valuation) → TagsApart rows → AllRead forms rows
     → IsLimit rows on j l → Names rows tag l → m *ℚ scale_of l.bound ≡ toward side f → m *ℚ level_of v (tagged (standing_of rows) tag) ≡ toward side f *ℚ (form_values forms v j -ℚ bound_value l)
 named_level rows forms on side j l f m tag v apart read g n e =
@@ -147,7 +141,7 @@ pub record Explained (rows : List Standing) (limits : Tightest) (broken : Broken
   pub fair : AllFair (standing_of rows) (multipliers_of found)
   pub once : NamesOnce (multipliers_of found)
 
-given_some : (rows : List Standing) (limits : Tightest) (side : Side) (k : ℕ) (l : Limit) → AllGiven rows limits → limit_at limits side k ≡ Some l → IsLimit rows side k l
+pub given_some : (rows : List Standing) (limits : Tightest) (side : Side) (k : ℕ) (l : Limit) → AllGiven rows limits → limit_at limits side k ≡ Some l → IsLimit rows side k l
 given_some rows limits side k l a e = let h = subst (λ o. IfSome o (IsLimit rows side k)) e (a side k) in h
 
 pub explained_start : (rows : List Standing) (limits : Tightest) (broken : Broken) (line : List Entry) (kept : IsKept rows limits broken line) (one m : Frac) (tag : ℕ)
@@ -269,3 +263,13 @@ explained_end rows limits broken line kept i found h x =
           ∙ ap (λ t. toward (other broken.side) (whole (pos 1)) *ℚ (y broken.variable -ℚ bound_value broken.limit) +ℚ toward broken.side (t -ℚ x.total)) (sym (kept.sum v))
           ∙ toward_end broken.side (whole (pos 1)) (y broken.variable) (bound_value broken.limit) x.total refl;
     }
+
+-- the row of a limit
+pub limit_names : (rows : List Standing) (on : Side) (j : ℕ) (l : Limit) → (g : IsLimit rows on j l) → Names rows g.standing.tag l
+limit_names rows on j l g = record { standing = g.standing; stands = g.stands; gives = g.gives; is = refl }
+
+pub limit_divides : (rows : List Standing) (forms : List Parts) (on : Side) (j : ℕ) (l : Limit) → AllRead forms rows → IsLimit rows on j l → pos 0 <ℤ l.bound.divisor
+limit_divides rows forms on j l r g = (limit_read rows forms on j l r g).divides
+
+pub own_limit : (rows : List Standing) (limits : Tightest) (broken : Broken) (line : List Entry) → IsKept rows limits broken line → IsLimit rows broken.side broken.variable broken.limit
+own_limit rows limits broken line kept = given_some rows limits broken.side broken.variable broken.limit kept.given kept.breaks.limit

@@ -5,7 +5,7 @@ use Rattle.std.specs.Int.Signed.{◌≤ℤ◌, ◌<ℤ◌}
 use Rattle.std.proofs.lemmas.Int.{ints}
 use Rattle.lq_math.specs.Rational.{ℚ, whole, ◌+ℚ◌, ◌-ℚ◌, ◌*ℚ◌, neg_ℚ}
 use Rattle.lq_math.specs.RationalOrder.{◌≤ℚ◌, ◌<ℚ◌, NotNegative, ≤ℚ_refl}
-use Rattle.lq_math.specs.OrderLaws.{≤ℚ_trans, ≤ℚ_sum, ≤ℚ_from_below, ≤ℚ_from_same, ≤ℚ_product, ≤ℚ_product_turned, ≤ℚ_uncross, ≤ℚ_from_not_below, NotNegative_of, of_NotNegative, at_most_by, is_at_most, <ℚ-≤ℚ_trans, ≤ℚ-<ℚ_trans, difference_above_zero}
+use Rattle.lq_math.specs.OrderLaws.{≤ℚ_trans, ≤ℚ_sum, ≤ℚ_from_below, ≤ℚ_from_same, ≤ℚ_product, ≤ℚ_product_turned, ≤ℚ_uncross, ≤ℚ_from_not_below, NotNegative_of, of_NotNegative, at_most_by, is_at_most, <ℚ-≤ℚ_trans, ≤ℚ-<ℚ_trans, difference_above_zero, <ℚ_apart}
 use Rattle.lq_math.specs.Whole.{whole_below}
 use Rattle.lq_math.specs.Solver.{var, con, ◌⊕◌, ◌⊖◌, ◌⊗◌, solve}
 use Rattle.lq_num.specs.Value.{value_of}
@@ -14,7 +14,8 @@ use Rattle.lq_simplex.specs.declared.limits.Side.{Side}
 use Rattle.lq_simplex.specs.declared.limits.Side.TheVariants.{Lower, Upper}
 use Rattle.lq_simplex.specs.Standing.{signed, scale_of}
 use Rattle.lq_simplex.specs.Bounds.{other, Within, Beyond, IsOn, blocking_of}
-use Rattle.lq_simplex.specs.Conflicts.{toward}
+use Rattle.lq_simplex.specs.Conflicts.{toward, negates}
+use Rattle.lq_math.specs.RationalQuotient.{◌/ℚ◌, /ℚ_is}
 
 -- the two signs of a factor
 data Sign (side : Side) (f : ℚ) : Type 0 where
@@ -94,6 +95,22 @@ fair side f m b equal d on e = by equal refl
     by : (t : Bool) → equal ≡ t → MatchBool t (Unit {0}) (NotNegative m)
     by true q = tt
     by false q = fair_by side f m b equal d on e q (sign side f)
+
+-- ---- how a multiplier is made
+multiplier_by : (side : Side) (turned : Bool) (d q f : ℚ) → q *ℚ d ≡ f → signed (negates side turned) q *ℚ signed turned d ≡ toward side f
+multiplier_by Lower true d q f e = solve (q ∷ d ∷ []) ((con (pos 0) ⊖ var 0) ⊗ (con (pos 0) ⊖ var 1)) (var 0 ⊗ var 1) refl ∙ e
+multiplier_by Lower false d q f e = e
+multiplier_by Upper true d q f e = solve (q ∷ d ∷ []) (var 0 ⊗ (con (pos 0) ⊖ var 1)) (con (pos 0) ⊖ var 0 ⊗ var 1) refl ∙ ap neg_ℚ e
+multiplier_by Upper false d q f e = solve (q ∷ d ∷ []) ((con (pos 0) ⊖ var 0) ⊗ var 1) (con (pos 0) ⊖ var 0 ⊗ var 1) refl ∙ ap neg_ℚ e
+
+pub divisor_apart : (d : ℤ) (w : ℚ) → pos 0 <ℤ d → w ≡ whole d → ¬ (w ≡ whole (pos 0))
+divisor_apart d w h e z = <ℚ_apart (whole (pos 0)) (whole d) (whole_below (pos 0) d h) (sym z ∙ e)
+
+pub multiplier_is : (side : Side) (b : Bound) (negated : Bool) (w q f m : ℚ) → pos 0 <ℤ b.divisor → w ≡ whole b.divisor → q ≡ f /ℚ w → negated ≡ negates side b.turned → m ≡ signed negated q
+    → m *ℚ scale_of b ≡ toward side f
+multiplier_is side b negated w q f m h e d n s =
+    let product : q *ℚ whole b.divisor ≡ f = ap (λ t. q *ℚ t) (sym e) ∙ ap (λ t. t *ℚ w) d ∙ /ℚ_is f w (divisor_apart b.divisor w h e) in
+    ap (λ t. t *ℚ scale_of b) (s ∙ ap (λ x. signed x q) n) ∙ multiplier_by side b.turned (whole b.divisor) q f product
 
 -- ---- a blocked entry keeps the sum from the bound
 blocked_by : (side : Side) (f x b : ℚ) → Within (other (blocking_of side f)) x b → Sign side f → Within side (f *ℚ x) (f *ℚ b)

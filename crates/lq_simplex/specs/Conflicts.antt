@@ -1,5 +1,5 @@
 -- Why a variable can't be brought to its bound.
-use Rattle.std.specs.Prelude.{◌≡◌, ℕ, pos, List, Some, slice_get, IfSome, length, ◌<◌}
+use Rattle.std.specs.Prelude.{◌≡◌, ℕ, pos, Bool, not, List, Some, slice_get, IfSome, length, ◌<◌}
 use Rattle.lq_math.specs.Rational.{ℚ, whole, neg_ℚ}
 use Rattle.lq_num.specs.Value.{value_of}
 use Rattle.lq_linear.specs.Row.{Valuation, sum_at}
@@ -8,6 +8,7 @@ use Rattle.lq_simplex.specs.declared.row.Standing.{Standing}
 use Rattle.lq_simplex.specs.declared.limits.Side.{Side}
 use Rattle.lq_simplex.specs.declared.limits.Side.TheVariants.{Lower, Upper}
 use Rattle.lq_simplex.specs.declared.limits.Broken.{Broken}
+use Rattle.lq_simplex.specs.declared.limits.Limit.{Limit}
 use Rattle.lq_simplex.specs.Lines.{combine, IsLine}
 use Rattle.lq_simplex.specs.Systems.{Parts, form_at, form_values}
 use Rattle.lq_simplex.specs.Standing.{AllRead, TagsApart}
@@ -18,8 +19,20 @@ abbrev pub toward : Side → ℚ → ℚ
 toward Lower x = x
 toward Upper x = neg_ℚ x
 
+-- whether the multiplier of a row has the other sign than its factor
+abbrev pub negates : Side → Bool → Bool
+negates Lower turned = turned
+negates Upper turned = not turned
+
 abbrev pub AllGiven : List Standing → Tightest → Type 0
 AllGiven rows limits = (side : Side) (k : ℕ) → IfSome (limit_at limits side k) (IsLimit rows side k)
+
+-- the tag is that of the row that gives the limit
+pub record Names (rows : List Standing) (tag : ℕ) (l : Limit) : Type 0 where
+  pub standing : Standing
+  pub stands : slice_get rows l.row ≡ Some standing
+  pub gives : standing.bound ≡ Some l.bound
+  pub is : standing.tag ≡ tag
 
 -- the variable is the combination at every valuation, breaks its bound, and each entry keeps it from there
 pub record IsKept (rows : List Standing) (limits : Tightest) (broken : Broken) (line : List Entry) : Type 0 where

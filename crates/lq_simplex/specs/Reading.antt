@@ -1,5 +1,5 @@
 -- The parts of a row: their signs and their divisors.
-use Rattle.std.specs.Prelude.{ℕ, ℤ, pos, Bool, true, false, List, [], ◌∷◌, unsigned_abs}
+use Rattle.std.specs.Prelude.{◌≡◌, ◌*ℤ◌, neg_ℤ, ℕ, ℤ, pos, Bool, true, false, List, [], ◌∷◌, unsigned_abs}
 use Rattle.std.specs.Int.{◌∣◌}
 use Rattle.std.specs.Int.Signed.{◌<ℤ◌}
 use Rattle.lq_simplex.specs.Systems.{Parts}
@@ -17,3 +17,21 @@ IsAbove false n = pos 0 <ℤ n
 abbrev pub FirstAbove : Bool → Parts → Type 0
 FirstAbove turned [] = ⊥
 FirstAbove turned (part ∷ parts) = IsAbove turned part.1
+
+-- each coefficient as it is, or negated
+abbrev pub turned_by : Bool → ℤ → ℤ
+turned_by true n = neg_ℤ n
+turned_by false n = n
+
+abbrev pub IsTurned : Bool → Parts → Parts → Type 0
+IsTurned turned [] [] = Unit {0}
+IsTurned turned [] (new ∷ news) = ⊥
+IsTurned turned (old ∷ olds) [] = ⊥
+IsTurned turned (old ∷ olds) (new ∷ news) = (new.0 ≡ old.0) × (new.1 ≡ turned_by turned old.1) × IsTurned turned olds news
+
+-- each coefficient divided
+abbrev pub IsDivided : ℤ → Parts → Parts → Type 0
+IsDivided by [] [] = Unit {0}
+IsDivided by [] (new ∷ news) = ⊥
+IsDivided by (old ∷ olds) [] = ⊥
+IsDivided by (old ∷ olds) (new ∷ news) = (new.0 ≡ old.0) × (old.1 ≡ new.1 *ℤ by) × IsDivided by olds news

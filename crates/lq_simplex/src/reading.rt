@@ -1,14 +1,13 @@
-ghost use Rattle.std.specs.Prelude.{◌≡◌, ℕ, ℤ, pos, ◌<◌, Bool, false, List, length, IfOk, IfErr, neg_ℤ, unsigned_abs};
+ghost use Rattle.std.specs.Prelude.{◌≡◌, pos, IfOk, IfErr, unsigned_abs};
 ghost use Rattle.std.specs.Int.{IsGcd};
 ghost use Rattle.std.specs.Int.Signed.{◌<ℤ◌};
 ghost use Rattle.lq_math.specs.Rational.{whole, ◌*ℚ◌, neg_ℚ};
 ghost use Rattle.lq_num.specs.Past.{IsPast};
 ghost use Rattle.lq_num.specs.Value.{value_of};
-ghost use Rattle.lq_linear.specs.Row.{Valuation, sum_at};
 ghost use Rattle.lq_simplex.specs.Lines.{IsStop};
 ghost use Rattle.lq_simplex.specs.Systems.{TermsBelow, GoesOn};
 ghost use Rattle.lq_simplex.specs.Standing.{signed, ReadsBy};
-ghost use Rattle.lq_simplex.specs.Reading.{DividesAll, FirstAbove};
+ghost use Rattle.lq_simplex.specs.Reading.{DividesAll, turned_by, IsTurned, IsDivided};
 
 use crate::basis::{Basis, Form};
 use crate::row::Bound;
@@ -42,11 +41,14 @@ fn divisor(parts: &[(u64, i128)]) -> u128
     shared
 }
 
-/// The negation of a coefficient.
-fn negated(coefficient: i128) -> Result<i128, NumberPast>
-    ensures exact { IfOk result (λ n. n ≡ neg_ℤ coefficient) }
+/// A coefficient, negated where it is turned.
+fn turn_one(coefficient: i128, turned: bool) -> Result<i128, NumberPast>
+    ensures exact { IfOk result (λ n. n ≡ turned_by turned coefficient) }
     ensures stop { IfErr result IsPast }
 {
+    if !turned {
+        return Ok(coefficient);
+    }
     let Some(negated) = coefficient.checked_neg() else {
         return Err(NumberPast {
             left: Frac::whole(coefficient),
@@ -59,18 +61,12 @@ fn negated(coefficient: i128) -> Result<i128, NumberPast>
 
 /// The parts, with their coefficients negated where they are turned.
 fn turn(alloc: Global, parts: &[(u64, i128)], turned: bool) -> Result<Vec<(u64, i128)>, Stop>
-    ensures sum { IfOk result (λ made. (v : Valuation) → sum_at v made.items ≡ signed turned (sum_at v parts.now)) }
-    ensures below { IfOk result (λ made. (n : ℕ) → TermsBelow n parts.now → TermsBelow n made.items) }
-    ensures first { IfOk result (λ made. FirstAbove turned parts.now → FirstAbove false made.items) }
+    ensures turned { IfOk result (λ made. IsTurned turned parts.now made.items) }
     ensures stop { IfErr result IsStop }
 {
     let mut signed = Vec::new(alloc);
     for (term, coefficient) in parts {
-        let coefficient = if turned {
-            negated(*coefficient)?
-        } else {
-            *coefficient
-        };
+        let coefficient = turn_one(*coefficient, turned)?;
         signed.push((*term, coefficient))?;
     }
     Ok(signed)
@@ -84,8 +80,7 @@ fn divided(
 ) -> Result<Vec<(u64, i128)>, AllocError>
     requires above { pos 0 <ℤ by }
     requires divides { DividesAll (unsigned_abs by) parts.now }
-    ensures sum { IfOk result (λ made. (v : Valuation) → sum_at v parts.now ≡ whole by *ℚ sum_at v made.items) }
-    ensures below { IfOk result (λ made. (n : ℕ) → TermsBelow n parts.now → TermsBelow n made.items) }
+    ensures { IfOk result (λ made. IsDivided by parts.now made.items) }
 {
     let mut divided = Vec::new(alloc);
     for (term, coefficient) in parts {
