@@ -6,3 +6,4 @@ pub mod Forms
 pub mod Limiting
 pub mod Signs
 pub mod Explaining
+pub mod Readings

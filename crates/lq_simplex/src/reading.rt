@@ -1,13 +1,12 @@
-ghost use Rattle.std.specs.Prelude.{◌≡◌, pos, IfOk, IfErr, unsigned_abs};
+ghost use Rattle.std.specs.Prelude.{◌≡◌, ◌≢◌, pos, ◌<◌, ◌^◌, false, length, All, int_div, IfOk, IfErr};
 ghost use Rattle.std.specs.Int.{IsGcd};
-ghost use Rattle.std.specs.Int.Signed.{◌<ℤ◌};
 ghost use Rattle.lq_math.specs.Rational.{whole, ◌*ℚ◌, neg_ℚ};
 ghost use Rattle.lq_num.specs.Past.{IsPast};
 ghost use Rattle.lq_num.specs.Value.{value_of};
 ghost use Rattle.lq_simplex.specs.Lines.{IsStop};
 ghost use Rattle.lq_simplex.specs.Systems.{TermsBelow, GoesOn};
 ghost use Rattle.lq_simplex.specs.Standing.{signed, ReadsBy};
-ghost use Rattle.lq_simplex.specs.Reading.{DividesAll, turned_by, IsTurned, IsDivided};
+ghost use Rattle.lq_simplex.specs.Reading.{DividesAll, FirstAbove, turned_by, IsTurned, IsDivided};
 
 use crate::basis::{Basis, Form};
 use crate::row::Bound;
@@ -72,32 +71,71 @@ fn turn(alloc: Global, parts: &[(u64, i128)], turned: bool) -> Result<Vec<(u64, 
     Ok(signed)
 }
 
+/// The greatest common divisor of parts whose first coefficient is above 0.
+fn shared(parts: &[(u64, i128)]) -> u128
+    requires { FirstAbove false parts.now }
+    ensures divides { DividesAll result parts.now }
+    ensures some { 0 < result }
+    ensures small { result < 2 ^ 127 }
+{
+    gcd(parts[0].1.unsigned_abs(), divisor(parts))
+}
+
+/// An exact quotient.
+fn quotient(coefficient: i128, by: u128) -> i128
+    requires some { 0 < by }
+    requires small { by < 2 ^ 127 }
+    ensures { result ≡ int_div coefficient (pos by) }
+{
+    coefficient / by as i128
+}
+
 /// The parts, with their coefficients divided.
 fn divided(
     alloc: Global,
     parts: &[(u64, i128)],
-    by: i128,
+    by: u128,
 ) -> Result<Vec<(u64, i128)>, AllocError>
-    requires above { pos 0 <ℤ by }
-    requires divides { DividesAll (unsigned_abs by) parts.now }
-    ensures { IfOk result (λ made. IsDivided by parts.now made.items) }
+    requires some { 0 < by }
+    requires small { by < 2 ^ 127 }
+    requires divides { DividesAll by parts.now }
+    ensures { IfOk result (λ made. IsDivided (pos by) parts.now made.items) }
 {
     let mut divided = Vec::new(alloc);
     for (term, coefficient) in parts {
-        divided.push((*term, *coefficient / by))?;
+        let coefficient = quotient(*coefficient, by);
+        divided.push((*term, coefficient))?;
     }
     Ok(divided)
 }
 
-/// The bound that a row gives: its constant, negated unless the row is turned, over the divisor.
-fn bound_value(constant: i128, divisor: i128, turned: bool) -> Result<Frac, NumberPast>
-    requires { pos 0 <ℤ divisor }
-    ensures exact { IfOk result (λ f. signed turned (whole divisor *ℚ value_of f) ≡ neg_ℚ (whole constant)) }
+/// A row's constant, negated unless the row is turned.
+fn numerator(constant: i128, turned: bool) -> Result<Frac, NumberPast>
+    ensures exact { IfOk result (λ f. signed turned (value_of f) ≡ neg_ℚ (whole constant)) }
     ensures stop { IfErr result IsPast }
 {
     let constant = Frac::whole(constant);
-    let signed = if turned { constant } else { constant.neg()? };
-    signed.div(&Frac::whole(divisor))
+    if turned { Ok(constant) } else { constant.neg() }
+}
+
+/// The bound that a row gives: its constant, negated unless the row is turned, over the divisor.
+fn bound_value(constant: i128, divisor: u128, turned: bool) -> Result<Frac, NumberPast>
+    requires some { 0 < divisor }
+    requires small { divisor < 2 ^ 127 }
+    ensures exact { IfOk result (λ f. signed turned (whole (pos divisor) *ℚ value_of f) ≡ neg_ℚ (whole constant)) }
+    ensures stop { IfErr result IsPast }
+{
+    let numerator = numerator(constant, turned)?;
+    numerator.div(&Frac::whole(divisor as i128))
+}
+
+/// Whether the first coefficient is below 0.
+fn is_turned(parts: &[(u64, i128)]) -> bool
+    requires some { 0 < length parts.now }
+    requires nonzero { All (λ part. part.1 ≢ pos 0) parts.now }
+    ensures { FirstAbove result parts.now }
+{
+    parts[0].1 < 0
 }
 
 /// Reads a row as a bound of a variable of the basis, or as none where it has no terms. Its form is added to the basis where it
@@ -114,19 +152,19 @@ pub(crate) fn read(
     ensures stop { IfErr result IsStop }
 {
     let parts = row.parts();
-    let Some(first) = parts.first() else {
+    if parts.is_empty() {
         return Ok(None);
-    };
-    let turned = first.1 < 0;
+    }
+    let turned = is_turned(parts);
     let made = turn(alloc, parts, turned)?;
-    let divisor = divisor(&made) as i128;
-    let form = Form::new(divided(alloc, &made, divisor)?);
+    let divisor = shared(made.as_slice());
+    let form = Form::new(divided(alloc, made.as_slice(), divisor)?);
     let value = bound_value(row.constant(), divisor, turned)?;
     let variable = basis.variable(alloc, form)?;
     Ok(Some(Bound {
         variable,
         value,
-        divisor,
+        divisor: divisor as i128,
         turned,
     }))
 }
