@@ -7,3 +7,4 @@ pub mod Limiting
 pub mod Signs
 pub mod Explaining
 pub mod Readings
+pub mod Tables

@@ -3,6 +3,7 @@ use Rattle.std.specs.Prelude.{◌≡◌, ℕ, pos, Bool, not, List, Some, slice_
 use Rattle.lq_math.specs.Rational.{ℚ, whole, neg_ℚ}
 use Rattle.lq_num.specs.Value.{value_of}
 use Rattle.lq_linear.specs.Row.{Valuation, sum_at}
+use Rattle.lq_linear.specs.Steps.{valuation_of}
 use Rattle.lq_simplex.specs.declared.line.Entry.{Entry}
 use Rattle.lq_simplex.specs.declared.row.Standing.{Standing}
 use Rattle.lq_simplex.specs.declared.limits.Side.{Side}
@@ -10,9 +11,9 @@ use Rattle.lq_simplex.specs.declared.limits.Side.TheVariants.{Lower, Upper}
 use Rattle.lq_simplex.specs.declared.limits.Broken.{Broken}
 use Rattle.lq_simplex.specs.declared.limits.Limit.{Limit}
 use Rattle.lq_simplex.specs.Lines.{combine, IsLine}
-use Rattle.lq_simplex.specs.Systems.{Parts, form_at, form_values}
+use Rattle.lq_simplex.specs.Systems.{Parts, System, IsSystem, form_at, form_values}
 use Rattle.lq_simplex.specs.Standing.{AllRead, TagsApart}
-use Rattle.lq_simplex.specs.Bounds.{Tightest, limit_at, bound_value, IsLimit, Breaks, AllBlocked}
+use Rattle.lq_simplex.specs.Bounds.{Tightest, limit_at, bound_value, Keeps, IsLimit, Breaks, AllBlocked}
 
 -- a number for the lower side, its negation for the upper
 abbrev pub toward : Side → ℚ → ℚ
@@ -26,6 +27,11 @@ negates Upper turned = not turned
 
 abbrev pub AllGiven : List Standing → Tightest → Type 0
 AllGiven rows limits = (side : Side) (k : ℕ) → IfSome (limit_at limits side k) (IsLimit rows side k)
+
+-- each variable of a system keeps to its bounds
+pub record AllKeep (limits : Tightest) (s : System) : Type 0 where
+  pub system : IsSystem s
+  pub keeps : (k : ℕ) → k < length s.forms → (side : Side) → Keeps side (valuation_of s.values k) (limit_at limits side k)
 
 -- the tag is that of the row that gives the limit
 pub record Names (rows : List Standing) (tag : ℕ) (l : Limit) : Type 0 where

@@ -1,4 +1,4 @@
-ghost use Rattle.std.specs.Prelude.{◌≡◌, ℕ, List, [], ◌∷◌, ◌++◌, ◌<◌, length, Option, pos, MatchBool, true, false, IfOk, IfErr, IfSome, IfNone, IsNone, OnOk, OnErr};
+ghost use Rattle.std.specs.Prelude.{◌≡◌, List, [], ◌∷◌, ◌++◌, pos, MatchBool, true, false, IfOk, IfErr, IfSome, IfNone, IsNone, OnOk, OnErr};
 ghost use Rattle.lq_math.specs.Rational.{whole, ◌*ℚ◌};
 ghost use Rattle.lq_math.specs.RationalOrder.{◌≤ℚ◌, ◌<ℚ◌, NotNegative};
 ghost use Rattle.lq_num.specs.Value.{value_of};
@@ -7,10 +7,9 @@ ghost use Rattle.lq_linear.specs.Steps.{valuation_of};
 ghost use Rattle.lq_simplex.specs.Lines.{IsStop};
 ghost use Rattle.lq_simplex.specs.Systems.{Parts, TermsBelow};
 ghost use Rattle.lq_simplex.specs.Standing.{standing_of, multipliers_of, AllRead, TagsApart, AllBare};
-ghost use Rattle.lq_simplex.specs.Bounds.{limit_at, Keeps};
+ghost use Rattle.lq_simplex.specs.Conflicts.{AllKeep};
 ghost use Rattle.lq_simplex.specs.Conflicts.{AllGiven};
 ghost use Rattle.lq_simplex.specs.Table.{StopsAt};
-ghost use Rattle.lq_simplex.specs.declared.limits.Side.{Side};
 
 use crate::basis::Basis;
 use crate::conflict::explain;
@@ -69,6 +68,15 @@ fn refuting(constant: i128, equal: bool) -> Option<Frac>
     }
 }
 
+/// One tag and its multiplier.
+fn single(alloc: Global, tag: u64, multiplier: Frac) -> Result<Vec<(u64, Frac)>, AllocError>
+    ensures { IfOk result (λ found. found.items ≡ (tag, multiplier) ∷ []) }
+{
+    let mut found = Vec::new(alloc);
+    found.push((tag, multiplier))?;
+    Ok(found)
+}
+
 /// The tag and the multiplier of the first row without terms that doesn't hold.
 fn refuted(alloc: Global, rows: &[Standing]) -> Result<Option<Vec<(u64, Frac)>>, AllocError>
     requires read { (forms : List Parts) × AllRead forms rows.now }
@@ -79,7 +87,7 @@ fn refuted(alloc: Global, rows: &[Standing]) -> Result<Option<Vec<(u64, Frac)>>,
     for standing in rows {
         if standing.bound.is_none() {
             if let Some(multiplier) = refuting(standing.row.constant(), standing.row.equal()) {
-                return Ok(Some(vec![in alloc; (standing.tag, multiplier); 1]?));
+                return Ok(Some(single(alloc, standing.tag, multiplier)?));
             }
         }
     }
@@ -116,7 +124,7 @@ fn pivots(
     requires read { AllRead basis.old.forms rows.now }
     requires apart { TagsApart rows.now }
     requires given { AllGiven rows.now limits.now }
-    ensures solved { IfOk result (λ found. IfNone found ((k : ℕ) → k < length basis.new.forms → (side : Side) → Keeps side (valuation_of basis.new.values k) (limit_at limits.now side k))) }
+    ensures solved { IfOk result (λ found. IfNone found (AllKeep limits.now basis.new)) }
     ensures contradicted { IfOk result (λ found. IfSome found (λ ms. IsContradiction (standing_of rows.now) (multipliers_of ms.items))) }
     ensures terms { basis.new.terms ≡ basis.old.terms }
     ensures forms { basis.new.forms ≡ basis.old.forms }
