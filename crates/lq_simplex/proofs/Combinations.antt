@@ -113,7 +113,7 @@ combine-plus x g d [] = solve (d ∷ []) (con (pos 0)) (con (pos 0) ⊕ con (pos
 combine-plus x g d (e ∷ es) =
     ap (λ t. value_of e.factor *ℚ (x e.variable +ℚ g e.variable *ℚ d) +ℚ t) (combine-plus x g d es)
     ∙ solve (value_of e.factor ∷ x e.variable ∷ g e.variable ∷ d ∷ combine x es ∷ combine g es ∷ [])
-        (var 0 ⊗ (var 1 ⊕ var 2 ⊗ var 3) ⊕ (var 4 ⊕ var 5 ⊗ var 3)) (var 0 ⊗ var 1 ⊕ var 4 ⊕ (var 0 ⊗ var 2 ⊕ var 5) ⊗ var 3) refl
+    (var 0 ⊗ (var 1 ⊕ var 2 ⊗ var 3) ⊕ (var 4 ⊕ var 5 ⊗ var 3)) (var 0 ⊗ var 1 ⊕ var 4 ⊕ (var 0 ⊗ var 2 ⊕ var 5) ⊗ var 3) refl
 
 pub found_factor : (es : List Entry) (i k : ℕ) (e : Entry) → IsLine es → slice_get es i ≡ Some e → e.variable ≡ k
     → (value_of e.factor ≡ factor_of es k) × ¬ (value_of e.factor ≡ whole (pos 0))

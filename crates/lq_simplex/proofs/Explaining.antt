@@ -79,7 +79,7 @@ weighted-push v rows [] m = solve ((value_of m.1 *ℚ level_of v (tagged rows m.
 weighted-push v rows (n ∷ ms) m =
     ap (λ t. value_of n.1 *ℚ level_of v (tagged rows n.0) +ℚ t) (weighted-push v rows ms m)
     ∙ solve ((value_of n.1 *ℚ level_of v (tagged rows n.0)) ∷ weighted v rows (multipliers_of ms) ∷ (value_of m.1 *ℚ level_of v (tagged rows m.0)) ∷ [])
-        (var 0 ⊕ (var 1 ⊕ var 2)) (var 0 ⊕ var 1 ⊕ var 2) refl
+    (var 0 ⊕ (var 1 ⊕ var 2)) (var 0 ⊕ var 1 ⊕ var 2) refl
 
 fair-push : (rows : Tagged) (ms : List (ℕ × Frac)) (m : ℕ × Frac) → AllFair rows (multipliers_of ms) → IsFair (tagged rows m.0) (value_of m.1) → AllFair rows (multipliers_of (ms ++ m ∷ []))
 fair-push rows [] m a f = (f, tt)
@@ -161,8 +161,11 @@ explained_start rows limits broken line kept one m tag names o e =
       sum = λ v.
           ap (λ t. t +ℚ whole (pos 0)) (named_level rows kept.forms broken.side (other broken.side) broken.variable broken.limit (whole (pos 1)) (value_of m) tag v kept.apart kept.read g names e1)
           ∙ ap (λ t. toward (other broken.side) (whole (pos 1)) *ℚ (form_values kept.forms v broken.variable -ℚ bound_value broken.limit) +ℚ t) (sym (toward_nothing broken.side));
-      fair = (named_fair rows kept.forms broken.side (other broken.side) broken.variable broken.limit (whole (pos 1)) (value_of m) tag kept.apart kept.read g names e1
-          (sym (blocking_one (other broken.side) (whole (pos 1)) refl ∙ other_other broken.side)), tt);
+      fair = (
+        named_fair rows kept.forms broken.side (other broken.side) broken.variable broken.limit (whole (pos 1)) (value_of m) tag kept.apart kept.read g names e1
+            (sym (blocking_one (other broken.side) (whole (pos 1)) refl ∙ other_other broken.side)),
+        tt,
+      );
       once = (All-nil (λ other. other.0 ≢ tag), tt);
     }
 
@@ -183,13 +186,14 @@ line_below (x ∷ line) low (suc k) (suc i) e f a g h l = line_below line (suc x
 rest_apart : (rows : List Standing) (line : List Entry) (i : ℕ) (e : Entry) (l : Limit) (tag : ℕ) (rest : List (ℕ × Frac)) → TagsApart rows → IsLine line → slice_get line i ≡ Some e
     → Names rows tag l → l.bound.variable ≡ e.variable → AllOf rows line i rest → NotNamed tag rest
 rest_apart rows line i e l tag [] apart il g n b a = tt
-rest_apart rows line i e l tag (m ∷ rest) apart il g n b a =
-    ((λ q. let p = a.0 in
-        let same = same_bound rows tag m.0 l p.2 apart n p.5 q in
-        let lt = line_below line 0 p.0 i p.1 e il p.4 g p.3 in
-        let v : e.variable ≡ p.1.variable = sym b ∙ ap (λ (c : Bound). c.variable) same ∙ p.6 in
-        absurd (omega arith)),
-    rest_apart rows line i e l tag rest apart il g n b a.1)
+rest_apart rows line i e l tag (m ∷ rest) apart il g n b a = (
+  (λ q. let p = a.0 in
+      let same = same_bound rows tag m.0 l p.2 apart n p.5 q in
+      let lt = line_below line 0 p.0 i p.1 e il p.4 g p.3 in
+      let v : e.variable ≡ p.1.variable = sym b ∙ ap (λ (c : Bound). c.variable) same ∙ p.6 in
+      absurd (omega arith)),
+  rest_apart rows line i e l tag rest apart il g n b a.1,
+)
 
 own_apart : (rows : List Standing) (limits : Tightest) (broken : Broken) (line : List Entry) (kept : IsKept rows limits broken line) (i : ℕ) (e : Entry) (l : Limit) (tag own : ℕ)
     → slice_get line i ≡ Some e → Names rows tag l → l.bound.variable ≡ e.variable → Within (other (blocking_of broken.side (value_of e.factor))) (kept.values e.variable) (bound_value l)
@@ -243,9 +247,10 @@ explained_step rows limits broken line kept i found e l m tag x g at names q =
           ∙ ap (λ t. a +ℚ t) (toward_more side (combine y (take i line)) x.total f (y e.variable) (bound_value l) ∙ ap (λ t. toward side (t -ℚ (x.total +ℚ f *ℚ bound_value l))) (sym (more y)));
       fair = fair-push S found (tag, m) x.fair (named_fair rows kept.forms (blocking_of side f) side e.variable l f (value_of m) tag kept.apart kept.read given names q refl);
       once = once-push found (tag, m) x.once
-          (subst (NotNamed tag) (sym x.is)
-          (own_apart rows limits broken line kept i e l tag x.own.0 g names given.bounds past x.own_names,
-          rest_apart rows line i e l tag x.rest kept.apart kept.ascends g names given.bounds x.of_entries));
+          (subst (NotNamed tag) (sym x.is) (
+            own_apart rows limits broken line kept i e l tag x.own.0 g names given.bounds past x.own_names,
+            rest_apart rows line i e l tag x.rest kept.apart kept.ascends g names given.bounds x.of_entries,
+          ));
     }
 
 pub explained_end : (rows : List Standing) (limits : Tightest) (broken : Broken) (line : List Entry) (kept : IsKept rows limits broken line) (i : ℕ) (found : List (ℕ × Frac)) → length line ≤ i

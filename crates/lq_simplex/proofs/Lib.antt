@@ -8,3 +8,4 @@ pub mod Signs
 pub mod Explaining
 pub mod Readings
 pub mod Tables
+pub mod Rows

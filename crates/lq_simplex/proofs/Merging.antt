@@ -92,8 +92,8 @@ merge_step left right t i j v ni nj es new f g s m al ar least l r hf hg e put =
       sum = λ x.
           put_sum x es new v s put ∙ ap₂ (λ a b. a +ℚ b *ℚ x v) (m.sum x) e
           ∙ solve (combine x (take i left) ∷ combine x (take j right) ∷ t ∷ value_or_zero f ∷ value_or_zero g ∷ x v ∷ [])
-              (var 0 ⊕ var 2 ⊗ var 1 ⊕ (var 3 ⊕ var 2 ⊗ var 4) ⊗ var 5)
-              (var 0 ⊕ var 3 ⊗ var 5 ⊕ var 2 ⊗ (var 1 ⊕ var 4 ⊗ var 5)) refl
+          (var 0 ⊕ var 2 ⊗ var 1 ⊕ (var 3 ⊕ var 2 ⊗ var 4) ⊗ var 5)
+          (var 0 ⊕ var 3 ⊗ var 5 ⊕ var 2 ⊗ (var 1 ⊕ var 4 ⊗ var 5)) refl
           ∙ sym (ap₂ (λ a b. a +ℚ t *ℚ b) (head_sum x left i v f ni hf) (head_sum x right j v g nj hg));
       ascends = put_ascends es new v s put m.ascends u;
       left_under = λ n. put_under es new v (variable_at left ni) s put u (head_next left i v f ni hf al l n);

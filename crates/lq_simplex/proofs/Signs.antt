@@ -146,7 +146,7 @@ pub toward_more : (side : Side) (c total f y b : ℚ) → toward side (c -ℚ to
 toward_more Lower c total f y b = solve (c ∷ total ∷ f ∷ y ∷ b ∷ []) ((var 0 ⊖ var 1) ⊕ var 2 ⊗ (var 3 ⊖ var 4)) ((var 0 ⊕ var 2 ⊗ var 3) ⊖ (var 1 ⊕ var 2 ⊗ var 4)) refl
 toward_more Upper c total f y b =
     solve (c ∷ total ∷ f ∷ y ∷ b ∷ []) ((con (pos 0) ⊖ (var 0 ⊖ var 1)) ⊕ (con (pos 0) ⊖ var 2) ⊗ (var 3 ⊖ var 4))
-        (con (pos 0) ⊖ ((var 0 ⊕ var 2 ⊗ var 3) ⊖ (var 1 ⊕ var 2 ⊗ var 4))) refl
+    (con (pos 0) ⊖ ((var 0 ⊕ var 2 ⊗ var 3) ⊖ (var 1 ⊕ var 2 ⊗ var 4))) refl
 
 pub toward_end : (side : Side) (one y b total : ℚ) → one ≡ whole (pos 1) → toward (other side) one *ℚ (y -ℚ b) +ℚ toward side (y -ℚ total) ≡ toward side (b -ℚ total)
 toward_end Lower one y b total e =

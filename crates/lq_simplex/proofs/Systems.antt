@@ -31,7 +31,7 @@ shift_meets forms lines x y v d a m shift k h =
     shift k h ∙ ap (λ t. t +ℚ factor_of (line_at lines k) v *ℚ d) (m k h)
     ∙ sym (combine-plus x (unit v) d (line_at lines k))
     ∙ combine-same (λ j. x j +ℚ unit v j *ℚ d) y (line_at lines k)
-        (λ i e at. let f = entry_free forms lines k i e a at in sym (shift e.variable f.inside ∙ ap (λ t. x e.variable +ℚ t *ℚ d) (f.own v)))
+    (λ i e at. let f = entry_free forms lines k i e a at in sym (shift e.variable f.inside ∙ ap (λ t. x e.variable +ℚ t *ℚ d) (f.own v)))
 
 pub shifted_system : (s : System) (values : List Frac) (v : ℕ) (d : ℚ) → IsSystem s → IsShifted s.lines s.values v d values
     → IsSystem (record { terms = s.terms; forms = s.forms; lines = s.lines; values = values })

@@ -248,10 +248,11 @@ kept s rows limits b i r a g inside breaks blocked =
       ascends = lines.line b.variable;
       sum = λ v. form_is_line s.terms s.forms s.lines v b.variable i.are_forms lines form_in;
       own = λ k e at q.
-          let free = entry_free s.forms s.lines b.variable k e lines at in
-          (sym (entry_is (line_at s.lines b.variable) 0 k e (lines.line b.variable) at)
-          ∙ ap (λ n. factor_of (line_at s.lines n) e.variable) (sym q) ∙ free.own e.variable ∙ unit_here e.variable,
-          sym meets ∙ ap (valuation_of s.values) (sym q));
+          let free = entry_free s.forms s.lines b.variable k e lines at in (
+            sym (entry_is (line_at s.lines b.variable) 0 k e (lines.line b.variable) at)
+                ∙ ap (λ n. factor_of (line_at s.lines n) e.variable) (sym q) ∙ free.own e.variable ∙ unit_here e.variable,
+            sym meets ∙ ap (valuation_of s.values) (sym q),
+          );
     }
 
 one_entry : (k : ℕ) (x e : Entry) → slice_get (x ∷ []) k ≡ Some e → x ≡ e

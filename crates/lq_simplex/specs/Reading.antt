@@ -1,8 +1,9 @@
 -- The parts of a row: their signs and their divisors.
-use Rattle.std.specs.Prelude.{◌≡◌, ◌*ℤ◌, neg_ℤ, ℕ, ℤ, pos, Bool, true, false, List, [], ◌∷◌, unsigned_abs}
+use Rattle.std.specs.Prelude.{◌≡◌, ◌≢◌, ◌*ℤ◌, All, neg_ℤ, ℕ, ℤ, pos, Bool, true, false, List, [], ◌∷◌, unsigned_abs}
 use Rattle.std.specs.Int.{◌∣◌}
 use Rattle.std.specs.Int.Signed.{◌<ℤ◌}
-use Rattle.lq_simplex.specs.Systems.{Parts}
+use Rattle.lq_linear.specs.Row.{AscendsFrom}
+use Rattle.lq_simplex.specs.Systems.{Parts, TermsBelow}
 
 -- the number divides each coefficient
 abbrev pub DividesAll : ℕ → Parts → Type 0
@@ -35,3 +36,9 @@ IsDivided by [] [] = Unit {0}
 IsDivided by [] (new ∷ news) = ⊥
 IsDivided by (old ∷ olds) [] = ⊥
 IsDivided by (old ∷ olds) (new ∷ news) = (new.0 ≡ old.0) × (old.1 ≡ new.1 *ℤ by) × IsDivided by olds news
+
+-- the parts of a row over the terms below n
+pub record IsRowBelow (n : ℕ) (parts : Parts) : Type 0 where
+  pub ascending : AscendsFrom 0 parts
+  pub nonzero : All (λ part. part.1 ≢ pos 0) parts
+  pub below : TermsBelow n parts

@@ -383,7 +383,12 @@ impl Basis {
         ensures stop { IfErr result IsStop }
     {
         let values = shifted(alloc, &self.lines, &self.values, entering.variable, by)?;
-        let zero = relation(alloc, self.lines[leaving].entries(), leaving, &entering.factor)?;
+        let zero = relation(
+            alloc,
+            self.lines[leaving].entries(),
+            leaving,
+            &entering.factor,
+        )?;
         let changed = changed(alloc, &self.lines, entering.variable, zero.entries())?;
         install(&mut self.lines, changed);
         self.values = values;

@@ -12,3 +12,5 @@ mod tableau;
 
 pub use tableau::Tableau;
 
+#[cfg(test)]
+mod tests;

@@ -1,4 +1,4 @@
-ghost use Rattle.std.specs.Prelude.{◌≡◌, ℕ, ◌<◌, ◌≤◌, Bool, true, false, List, length, Option, Some, slice_get, IfOk, IfSome, IfNone};
+ghost use Rattle.std.specs.Prelude.{◌≡◌, ℕ, ◌<◌, ◌≤◌, Bool, true, false, List, length, take, Option, Some, slice_get, IfOk, IfSome, IfNone};
 ghost use Rattle.lq_math.specs.Rational.{whole};
 ghost use Rattle.lq_math.specs.RationalOrder.{◌≤ℚ◌, ◌<ℚ◌};
 ghost use Rattle.lq_num.specs.Value.{value_of};
@@ -18,7 +18,7 @@ use std::cmp::Ordering;
 use std::marker::Model;
 
 /// The side from which a bound limits.
-#[derive(Clone, Copy, PartialEq, Eq)]
+#[derive(Clone, Copy)]
 pub(crate) enum Side {
     Lower,
     Upper,
@@ -98,13 +98,7 @@ fn bounds(side: Side, equal: bool, turned: bool) -> bool
 }
 
 /// The limit after a row's bound has come: the tighter of the two, where the row bounds its variable on this side.
-fn admitted(
-    side: Side,
-    old: Option<Limit>,
-    row: usize,
-    equal: bool,
-    bound: Bound,
-) -> Option<Limit>
+fn admitted(side: Side, old: Option<Limit>, row: usize, equal: bool, bound: Bound) -> Option<Limit>
     ensures { IsAdmitted side old row equal bound result }
 {
     if !bounds(side, equal, bound.turned) {
@@ -241,7 +235,7 @@ impl Limits {
     /// The first entry of a line whose variable can move so that the line's variable gets nearer to its bound on this side.
     pub(crate) fn entering(&self, line: &[Entry], side: Side, values: &[Frac]) -> Option<Entry>
         requires { VariablesBelow (length values.now) line.now }
-        ensures some { IfSome result (λ e. (at : ℕ) × (slice_get line.now at ≡ Some e)) }
+        ensures some { IfSome result (λ e. (at : ℕ) × (slice_get line.now at ≡ Some e) × AllBlocked self.now side (valuation_of values.now) (take at line.now)) }
         ensures none { IfNone result (AllBlocked self.now side (valuation_of values.now) line.now) }
     {
         for entry in line {

@@ -91,11 +91,7 @@ fn quotient(coefficient: i128, by: u128) -> i128
 }
 
 /// The parts, with their coefficients divided.
-fn divided(
-    alloc: Global,
-    parts: &[(u64, i128)],
-    by: u128,
-) -> Result<Vec<(u64, i128)>, AllocError>
+fn divided(alloc: Global, parts: &[(u64, i128)], by: u128) -> Result<Vec<(u64, i128)>, AllocError>
     requires some { 0 < by }
     requires small { by < 2 ^ 127 }
     requires divides { DividesAll by parts.now }
@@ -140,11 +136,7 @@ fn is_turned(parts: &[(u64, i128)]) -> bool
 
 /// Reads a row as a bound of a variable of the basis, or as none where it has no terms. Its form is added to the basis where it
 /// isn't there yet.
-pub(crate) fn read(
-    alloc: Global,
-    basis: &mut Basis,
-    row: &LinearRow,
-) -> Result<Option<Bound>, Stop>
+pub(crate) fn read(alloc: Global, basis: &mut Basis, row: &LinearRow) -> Result<Option<Bound>, Stop>
     requires { TermsBelow basis.old.terms row.now.parts }
     ensures reads { IfOk result (λ bound. ReadsBy basis.new.forms row.now bound) }
     ensures terms { basis.new.terms ≡ basis.old.terms }

@@ -35,7 +35,7 @@ loop-term-preserved c =
       sum = λ x.
           c.in_ok-line.ensures.sum x
           ∙ ap₂ (λ s t. s +ℚ t) (ap (combine x) c.entries.ensures ∙ c.loop-term.invariant.sum x)
-              (ap₂ (λ s t. s *ℚ t) (c.whole.ensures.value ∙ ap whole (to_z-of_z w128 p.1 fits)) (ap (combine x) right))
+          (ap₂ (λ s t. s *ℚ t) (c.whole.ensures.value ∙ ap whole (to_z-of_z w128 p.1 fits)) (ap (combine x) right))
           ∙ sym (sum_at-more (λ t. combine x (line_at lines t)) items i (0, pos 0) c.loop-term-test.true);
       ascends = c.in_ok-line.ensures.line;
     }

@@ -33,6 +33,6 @@ returns-clause-reads c =
       divides = subst (λ z. pos 0 <ℤ z) (sym same) (let s = c.shared-divisor.ensures.some in omega (arith, ints));
       level = λ v.
           row_reads c.is_turned-turned.result v parts made form c.args.row.now.constant d (value_of c.in_ok-value.value) t q
-              (c.in_ok-value.ensures.exact ∙ ap (λ z. neg_ℚ (whole z)) is)
+          (c.in_ok-value.ensures.exact ∙ ap (λ z. neg_ℚ (whole z)) is)
           ∙ ap₂ (λ z (f : Parts). signed c.is_turned-turned.result (whole z) *ℚ (sum_at v f -ℚ value_of c.in_ok-value.value)) (sym same) (sym (c.in_ok-variable.ensures.found.1 ∙ c.new-form.ensures));
     }

@@ -17,3 +17,7 @@ explain-requires c =
     rw c.line-line.ensures.line
     (kept c.loop-broken.basis c.args.rows.now c.args.limits.now c.in-Some.broken c.line-line.ensures.system
     (subst (λ (forms : List Parts). AllRead forms c.args.rows.now) (sym c.loop-broken.invariant.forms) c.requires.read) c.requires.apart c.requires.given some.0 some.1 blocked)
+
+pub bring-requires-clause-entry : goal.bring-requires-clause-entry
+bring-requires-clause-entry c =
+    let e = rw c.line-line.ensures.line at c.in-Some-entering.ensures.some in (e.0, e.1)

@@ -20,7 +20,7 @@ bounds-values-entry c =
     variables_below (length c.args.values.now) c.args.line.now c.loop-entry.entry-index c.entry-item.result c.requires (there c.args.line.now c.loop-entry.entry-index c.entry-item.result c.loop-entry-test.true c.entry-item.is)
 
 pub returns-then-not-is_stuck-clause-some : goal.returns-then-not-is_stuck-clause-some
-returns-then-not-is_stuck-clause-some c = (c.loop-entry.entry-index, there c.args.line.now c.loop-entry.entry-index c.entry-item.result c.loop-entry-test.true c.entry-item.is)
+returns-then-not-is_stuck-clause-some c = (c.loop-entry.entry-index, there c.args.line.now c.loop-entry.entry-index c.entry-item.result c.loop-entry-test.true c.entry-item.is, c.loop-entry.invariant)
 
 pub loop-entry-preserved : goal.loop-entry-preserved
 loop-entry-preserved c =
