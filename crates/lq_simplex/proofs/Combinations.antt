@@ -1,14 +1,13 @@
 -- Linear combinations: their sums, their entries, and what a change of values does to them.
-use Rattle.std.proofs.Common.{◌≡◌, ◌≢◌, ℕ, zero, suc, pos, ◌+◌, ◌<◌, ◌≤◌, ◌⊎◌, inl, inr, arith, refl, sym, ap, ap₂, subst, ◌∙◌, List, [], ◌∷◌, ◌++◌, Option, Some, None, length, take, get_or, slice_get, Bool, true, false, ◌==◌, if◌then◌else◌}
-use Rattle.std.proofs.lemmas.List.{take_more, append_assoc}
-use Rattle.lq_math.specs.Rational.{ℚ, whole, ◌+ℚ◌, ◌-ℚ◌, ◌*ℚ◌}
+use Rattle.std.proofs.Common.{◌≡◌, ◌≢◌, ℕ, zero, suc, pos, ◌+◌, ◌<◌, ◌≤◌, ◌⊎◌, inl, inr, arith, refl, sym, ap, ap₂, subst, ◌∙◌, List, [], ◌∷◌, ◌++◌, Some, length, take, get_or, slice_get, Bool, true, false, ◌==◌, if◌then◌else◌}
+use Rattle.std.proofs.lemmas.List.{take_more}
+use Rattle.lq_math.specs.Rational.{ℚ, whole, ◌+ℚ◌, ◌*ℚ◌}
 use Rattle.lq_math.specs.Whole.{whole_once}
-use Rattle.lq_math.specs.Solver.{var, con, ◌⊕◌, ◌⊖◌, ◌⊗◌, solve}
-use Rattle.lq_num.specs.declared.frac.Frac.{Frac}
+use Rattle.lq_math.specs.Solver.{var, con, ◌⊕◌, ◌⊗◌, solve}
 use Rattle.lq_num.specs.Value.{value_of}
 use Rattle.lq_linear.specs.Row.{Valuation}
 use Rattle.lq_simplex.specs.declared.line.Entry.{Entry}
-use Rattle.lq_simplex.specs.Lines.{combine, unit, factor_of, AscendsFrom, IsLine, variable_at, VariablesBelow, IsPut, added, left_out}
+use Rattle.lq_simplex.specs.Lines.{combine, unit, factor_of, AscendsFrom, IsLine, variable_at, VariablesBelow}
 
 pub combine-append : (x : Valuation) (es fs : List Entry) → combine x (es ++ fs) ≡ combine x es +ℚ combine x fs
 combine-append x [] fs = solve (combine x fs ∷ []) (var 0) (con (pos 0) ⊕ var 0) refl

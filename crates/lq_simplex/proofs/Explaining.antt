@@ -1,17 +1,15 @@
 -- The rows that keep a variable from its bound sum to a contradiction.
-use Rattle.std.proofs.Common.{◌≡◌, ◌≢◌, ℕ, zero, suc, pos, ◌+◌, ◌<◌, ◌≤◌, ◌==◌, if◌then◌else◌, ◌⊎◌, inl, inr, arith, refl, sym, ap, ap₂, subst, ◌∙◌, Bool, true, false, List, [], ◌∷◌, ◌++◌, Option, Some, None, All, IfSome, length, take, get_or, slice_get}
+use Rattle.std.proofs.Common.{◌≡◌, ◌≢◌, ℕ, zero, suc, pos, ◌+◌, ◌<◌, ◌≤◌, ◌==◌, if◌then◌else◌, arith, refl, sym, ap, ap₂, subst, ◌∙◌, Bool, true, false, List, [], ◌∷◌, ◌++◌, Some, All, IfSome, length, take, get_or, slice_get}
 use Rattle.std.proofs.lemmas.List.Elements.{All-nil, All-cons, All-head, All-tail}
 use Rattle.std.proofs.lemmas.Option.{slice_get_within, get_or_from_slice_get}
 use Rattle.std.proofs.lemmas.List.{take_all}
-use Rattle.std.proofs.Math.IntN.{ℤ}
 use Rattle.std.specs.Int.Signed.{◌<ℤ◌}
-use Rattle.lq_math.specs.Rational.{ℚ, whole, ◌+ℚ◌, ◌-ℚ◌, ◌*ℚ◌, neg_ℚ}
-use Rattle.lq_math.specs.RationalOrder.{◌<ℚ◌, NotNegative}
+use Rattle.lq_math.specs.Rational.{ℚ, whole, ◌+ℚ◌, ◌-ℚ◌, ◌*ℚ◌}
 use Rattle.lq_math.specs.RationalRing.{*ℚ_assoc}
-use Rattle.lq_math.specs.Solver.{var, con, ◌⊕◌, ◌⊖◌, ◌⊗◌, solve}
+use Rattle.lq_math.specs.Solver.{var, con, ◌⊕◌, solve}
 use Rattle.lq_num.specs.declared.frac.Frac.{Frac}
 use Rattle.lq_num.specs.Value.{value_of}
-use Rattle.lq_linear.specs.Row.{Row, Valuation, level, sum_at}
+use Rattle.lq_linear.specs.Row.{Valuation, sum_at}
 use Rattle.lq_linear.specs.Contradiction.{Tagged, tagged, IsFair, AllFair, NamesOnce, level_of, weighted, IsContradiction}
 use Rattle.lq_simplex.specs.declared.line.Entry.{Entry}
 use Rattle.lq_simplex.specs.declared.row.Bound.{Bound}
@@ -22,7 +20,7 @@ use Rattle.lq_simplex.specs.declared.limits.Broken.{Broken}
 use Rattle.lq_simplex.specs.Lines.{combine, AscendsFrom, IsLine}
 use Rattle.lq_simplex.specs.Systems.{Parts, form_at, form_values}
 use Rattle.lq_simplex.specs.Standing.{standing_of, multiplier_of, multipliers_of, scale_of, ReadsAs, ReadsBy, Reads, AllRead, HasNoTag, TagsApart}
-use Rattle.lq_simplex.specs.Bounds.{other, Within, Beyond, IsOn, Tightest, limit_at, bound_value, IsLimit, Breaks, blocking_of, IsBlocked, AllBlocked}
+use Rattle.lq_simplex.specs.Bounds.{other, Within, IsOn, Tightest, limit_at, bound_value, IsLimit, blocking_of}
 use Rattle.lq_simplex.specs.Conflicts.{toward, AllGiven, Names, IsKept}
 use Rattle.lq_simplex.proofs.Combinations.{combine-more, entry_above}
 use Rattle.lq_simplex.proofs.Limiting.{blocked_at}

@@ -1,6 +1,5 @@
 -- Forms: their parts, their values, and what a further form leaves as it was.
-use Rattle.std.proofs.Common.{◌≡◌, ◌≢◌, ℕ, ℤ, zero, suc, pos, ◌+◌, ◌<◌, ◌≤◌, ◌⊎◌, inl, inr, arith, refl, sym, ap, ap₂, subst, ◌∙◌, List, [], ◌∷◌, ◌++◌, Option, Some, None, length, take, get_or, slice_get}
-use Rattle.std.proofs.lemmas.Option.{slice_get-get_or}
+use Rattle.std.proofs.Common.{◌≡◌, ℕ, ℤ, zero, suc, pos, ◌+◌, ◌<◌, ◌≤◌, ◌⊎◌, inl, inr, arith, refl, sym, ap, ap₂, subst, ◌∙◌, List, [], ◌∷◌, ◌++◌, length, take, get_or}
 use Rattle.std.proofs.lemmas.List.{take_more, get_or_past, get_or_push, get_or_append_left, length_push}
 use Rattle.std.proofs.lemmas.Bool.{cases_lt}
 use Rattle.std.proofs.lemmas.Bool.Decides.{Decides-int_eq}
@@ -8,8 +7,8 @@ use Rattle.std.specs.Ordering.{int_eq}
 use Rattle.std.proofs.Common.{Bool, true, false, ◌&&◌, nat_eq, eqb-true, IsTrue}
 use mathlib.Core.Bool.{true≢false}
 use lib.Pointwise.{pointwise}
-use Rattle.lq_math.specs.Rational.{ℚ, whole, ◌+ℚ◌, ◌-ℚ◌, ◌*ℚ◌}
-use Rattle.lq_math.specs.Solver.{var, con, ◌⊕◌, ◌⊖◌, ◌⊗◌, solve}
+use Rattle.lq_math.specs.Rational.{whole, ◌+ℚ◌, ◌*ℚ◌}
+use Rattle.lq_math.specs.Solver.{var, con, ◌⊕◌, ◌⊗◌, solve}
 use Rattle.lq_num.specs.declared.frac.Frac.{Frac}
 use Rattle.lq_num.specs.Value.{value_of}
 use Rattle.lq_linear.specs.Row.{Valuation, sum_at}

@@ -1,10 +1,9 @@
 -- The tightest bounds, row by row.
-use Rattle.std.proofs.Common.{◌≡◌, ◌≢◌, ℕ, zero, suc, pos, ◌+◌, ◌<◌, ◌≤◌, ◌⊎◌, inl, inr, arith, refl, sym, ap, subst, ◌∙◌, Bool, true, false, not, List, [], ◌∷◌, ◌++◌, Option, Some, None, IfSome, length, take, get_or, set, slice_get}
-use Rattle.std.proofs.lemmas.Option.{slice_get_within, slice_get_past}
-use Rattle.std.proofs.lemmas.Bool.{cases_lt}
-use Rattle.std.proofs.lemmas.List.{get_or-set_same, get_or-set_other, length_push}
+use Rattle.std.proofs.Common.{◌≡◌, ◌≢◌, ℕ, zero, suc, ◌<◌, ◌⊎◌, inl, inr, refl, sym, ap, subst, ◌∙◌, Bool, true, false, not, List, [], ◌∷◌, ◌++◌, Option, Some, None, IfSome, length, set, slice_get}
+use Rattle.std.proofs.lemmas.Option.{slice_get_within}
+use Rattle.std.proofs.lemmas.List.{get_or-set_same, get_or-set_other}
 use Rattle.lq_math.specs.Rational.{ℚ}
-use Rattle.lq_math.specs.RationalOrder.{◌≤ℚ◌, ◌<ℚ◌, ≤ℚ_refl}
+use Rattle.lq_math.specs.RationalOrder.{≤ℚ_refl}
 use Rattle.lq_math.specs.OrderLaws.{≤ℚ_trans, ≤ℚ_from_below}
 use Rattle.lq_num.specs.Value.{value_of}
 use Rattle.lq_linear.specs.Row.{Valuation}
@@ -16,8 +15,8 @@ use Rattle.lq_simplex.specs.declared.limits.Side.TheVariants.{Lower, Upper}
 use Rattle.lq_simplex.specs.declared.limits.Limit.{Limit}
 use Rattle.lq_simplex.specs.Lines.{VariablesBelow}
 use Rattle.lq_simplex.specs.Standing.{BoundsBelow, BoundBelow}
-use Rattle.lq_simplex.specs.Bounds.{other, Within, Beyond, IsOn, Tightest, limit_in, limit_at, bound_value, IsLimit, Covers, IsAdmitted, AreTightest, Keeps, blocking_of, IsBlocked, AllBlocked}
-use Rattle.lq_simplex.proofs.Values.{get_push_old, get_push_here, last_or_before}
+use Rattle.lq_simplex.specs.Bounds.{Within, Beyond, IsOn, Tightest, limit_in, bound_value, IsLimit, Covers, IsAdmitted, AreTightest, IsBlocked, AllBlocked}
+use Rattle.lq_simplex.proofs.Values.{get_push_old, get_push_here}
 use Rattle.lq_simplex.proofs.Combinations.{eq_or}
 
 pub within_refl : (side : Side) (v : ℚ) → Within side v v

@@ -1,15 +1,15 @@
 -- The sum of two combinations, read side by side.
-use Rattle.std.proofs.Common.{◌≡◌, ◌≢◌, ℕ, zero, suc, pos, ◌+◌, ◌-◌, ◌<◌, ◌≤◌, ◌⊎◌, inl, inr, arith, refl, sym, ap, ap₂, subst, ◌∙◌, List, [], ◌∷◌, ◌++◌, Option, Some, None, length, take, get_or, slice_get}
-use Rattle.std.proofs.lemmas.List.{take_more, take_all}
+use Rattle.std.proofs.Common.{◌≡◌, ◌≢◌, ℕ, suc, pos, ◌+◌, ◌-◌, ◌<◌, ◌≤◌, ◌⊎◌, inl, inr, arith, refl, sym, ap, ap₂, subst, ◌∙◌, List, [], ◌∷◌, Option, Some, None, length, take, get_or}
+use Rattle.std.proofs.lemmas.List.{take_all}
 use Rattle.std.proofs.lemmas.Option.{slice_get_within, get_or_from_slice_get}
-use Rattle.lq_math.specs.Rational.{ℚ, whole, ◌+ℚ◌, ◌-ℚ◌, ◌*ℚ◌}
-use Rattle.lq_math.specs.Solver.{var, con, ◌⊕◌, ◌⊖◌, ◌⊗◌, solve}
+use Rattle.lq_math.specs.Rational.{ℚ, ◌+ℚ◌, ◌*ℚ◌}
+use Rattle.lq_math.specs.Solver.{var, con, ◌⊕◌, ◌⊗◌, solve}
 use Rattle.lq_num.specs.declared.frac.Frac.{Frac}
 use Rattle.lq_num.specs.Value.{value_of}
 use Rattle.lq_linear.specs.Row.{Valuation}
 use Rattle.lq_linear.specs.Steps.{value_or_zero}
 use Rattle.lq_simplex.specs.declared.line.Entry.{Entry}
-use Rattle.lq_simplex.specs.Lines.{combine, AscendsFrom, IsLine, variable_at, IsHead, IsPut, added, left_out}
+use Rattle.lq_simplex.specs.Lines.{combine, IsLine, variable_at, IsHead, IsPut, added, left_out}
 use Rattle.lq_simplex.proofs.Combinations.{combine-more, combine-push, Under, under_push, under_more, ascends_push, ascends_next, variable_of}
 
 pub head_sum : (x : Valuation) (es : List Entry) (i v : ℕ) (f : Option Frac) (next : ℕ) → IsHead es i v f next

@@ -1,21 +1,20 @@
 -- How a row is read as a bound of a form.
-use Rattle.std.proofs.Common.{◌≡◌, ◌≢◌, ℕ, zero, suc, pos, ◌+◌, ◌<◌, ◌≤◌, ◌^◌, arith, refl, sym, ap, ap₂, subst, ◌∙◌, Bool, true, false, List, [], ◌∷◌, ◌++◌, All, length, take, get_or, unsigned_abs, int_div, FitsSigned, to_z, of_z}
-use Rattle.std.proofs.Math.IntN.{ℤ, ◌+ℤ◌, ◌*ℤ◌, neg_ℤ}
-use Rattle.std.specs.Int.{w128, IsGcd, ◌∣◌}
-use Rattle.std.specs.Int.Signed.{◌≤ℤ◌, ◌<ℤ◌}
+use Rattle.std.proofs.Common.{◌≡◌, ◌≢◌, ℕ, zero, suc, pos, ◌<◌, ◌^◌, arith, refl, sym, ap, ap₂, subst, ◌∙◌, Bool, true, false, [], ◌∷◌, ◌++◌, All, length, get_or, unsigned_abs, FitsSigned}
+use Rattle.std.proofs.Math.IntN.{ℤ, ◌*ℤ◌, neg_ℤ}
+use Rattle.std.specs.Int.{w128, ◌∣◌}
+use Rattle.std.specs.Int.Signed.{◌<ℤ◌}
 use Rattle.std.proofs.lemmas.Int.{ints}
 use Rattle.std.proofs.lemmas.List.Elements.{All-head}
 use Rattle.std.proofs.lemmas.Nat.Gcd.{dvd_trans, le_of_dvd}
 use Rattle.std.proofs.Math.Nat.{pos_of_dvd_of_pos, eq-one_of_dvd-one}
-use Rattle.lq_math.specs.Reduction.{quotient-mul}
 use Rattle.lq_math.specs.Rational.{ℚ, whole, ◌+ℚ◌, ◌-ℚ◌, ◌*ℚ◌, neg_ℚ}
 use Rattle.lq_math.specs.Whole.{whole-product, whole-negation, whole_below}
 use Rattle.lq_math.specs.OrderLaws.{<ℚ_apart}
 use Rattle.lq_math.specs.RationalQuotient.{◌/ℚ◌, /ℚ_is}
 use Rattle.lq_math.specs.Forms.{HasNoForm, HasNoForm-from}
 use Rattle.lq_math.specs.Solver.{var, con, ◌⊕◌, ◌⊖◌, ◌⊗◌, solve}
-use Rattle.lq_linear.specs.Row.{Row, Valuation, level, sum_at}
-use Rattle.lq_simplex.specs.Systems.{Parts, form_at, TermsBelow}
+use Rattle.lq_linear.specs.Row.{Valuation, sum_at}
+use Rattle.lq_simplex.specs.Systems.{Parts, TermsBelow}
 use Rattle.lq_simplex.specs.Standing.{signed}
 use Rattle.lq_simplex.specs.Reading.{DividesAll, IsAbove, FirstAbove, turned_by, IsTurned, IsDivided}
 

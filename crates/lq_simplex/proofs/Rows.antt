@@ -1,5 +1,5 @@
 -- Rows that are made term by term, and tags that none of the rows has.
-use Rattle.std.proofs.Common.{◌≡◌, ◌≢◌, ℕ, zero, suc, pos, ◌+◌, ◌<◌, ◌≤◌, ◌==◌, if◌then◌else◌, arith, refl, sym, subst, Bool, true, false, List, [], ◌∷◌, ◌++◌, All, Some, None, IsNone}
+use Rattle.std.proofs.Common.{◌≡◌, ◌≢◌, ℕ, suc, pos, ◌+◌, ◌≤◌, ◌==◌, if◌then◌else◌, arith, refl, sym, subst, Bool, true, false, [], ◌∷◌, ◌++◌, Some, None, IsNone}
 use Rattle.std.proofs.Math.IntN.{ℤ}
 use Rattle.std.proofs.lemmas.List.Elements.{All-nil, All-cons, All-append}
 use Rattle.lq_linear.specs.Row.{Row, AscendsFrom}

@@ -1,14 +1,13 @@
 -- Signs: which multipliers are fair, and what a blocked entry gives.
-use Rattle.std.proofs.Common.{◌≡◌, ◌≢◌, ℕ, pos, ◌⊎◌, inl, inr, arith, refl, sym, ap, ap₂, subst, ◌∙◌, Bool, true, false, if◌then◌else◌, List, [], ◌∷◌, MatchBool}
+use Rattle.std.proofs.Common.{◌≡◌, pos, inl, inr, arith, refl, sym, ap, subst, ◌∙◌, Bool, true, false, if◌then◌else◌, [], ◌∷◌, MatchBool}
 use Rattle.std.proofs.Math.IntN.{ℤ}
-use Rattle.std.specs.Int.Signed.{◌≤ℤ◌, ◌<ℤ◌}
+use Rattle.std.specs.Int.Signed.{◌<ℤ◌}
 use Rattle.std.proofs.lemmas.Int.{ints}
 use Rattle.lq_math.specs.Rational.{ℚ, whole, ◌+ℚ◌, ◌-ℚ◌, ◌*ℚ◌, neg_ℚ}
-use Rattle.lq_math.specs.RationalOrder.{◌≤ℚ◌, ◌<ℚ◌, NotNegative, ≤ℚ_refl}
-use Rattle.lq_math.specs.OrderLaws.{≤ℚ_trans, ≤ℚ_sum, ≤ℚ_from_below, ≤ℚ_from_same, ≤ℚ_product, ≤ℚ_product_turned, ≤ℚ_uncross, ≤ℚ_from_not_below, NotNegative_of, of_NotNegative, at_most_by, is_at_most, <ℚ-≤ℚ_trans, ≤ℚ-<ℚ_trans, difference_above_zero, <ℚ_apart}
+use Rattle.lq_math.specs.RationalOrder.{◌≤ℚ◌, ◌<ℚ◌, NotNegative}
+use Rattle.lq_math.specs.OrderLaws.{≤ℚ_sum, ≤ℚ_from_below, ≤ℚ_from_same, ≤ℚ_product, ≤ℚ_product_turned, ≤ℚ_uncross, NotNegative_of, of_NotNegative, is_at_most, <ℚ-≤ℚ_trans, ≤ℚ-<ℚ_trans, difference_above_zero, <ℚ_apart}
 use Rattle.lq_math.specs.Whole.{whole_below}
 use Rattle.lq_math.specs.Solver.{var, con, ◌⊕◌, ◌⊖◌, ◌⊗◌, solve}
-use Rattle.lq_num.specs.Value.{value_of}
 use Rattle.lq_simplex.specs.declared.row.Bound.{Bound}
 use Rattle.lq_simplex.specs.declared.limits.Side.{Side}
 use Rattle.lq_simplex.specs.declared.limits.Side.TheVariants.{Lower, Upper}

@@ -1,6 +1,5 @@
 -- What keeps a system one: a shift, a pivot and a further form.
-use Rattle.std.proofs.Common.{◌≡◌, ◌≢◌, ℕ, ℤ, pos, ◌+◌, ◌<◌, ◌≤◌, ◌⊎◌, inl, inr, arith, refl, sym, ap, ap₂, subst, ◌∙◌, List, [], ◌∷◌, ◌++◌, Option, Some, None, length, get_or, slice_get, Bool, true, false, ◌==◌}
-use Rattle.std.proofs.lemmas.Option.{slice_get-get_or}
+use Rattle.std.proofs.Common.{◌≡◌, ◌≢◌, ℕ, pos, ◌+◌, ◌<◌, ◌≤◌, ◌⊎◌, inl, inr, arith, refl, sym, ap, ap₂, subst, ◌∙◌, List, [], ◌∷◌, ◌++◌, Option, Some, None, length, slice_get}
 use Rattle.std.proofs.lemmas.Bool.{cases_lt}
 use Rattle.std.proofs.lemmas.List.{get_or_past, get_or_push, get_or_append_left, length_push}
 use Rattle.lq_math.specs.Rational.{ℚ, whole, ◌+ℚ◌, ◌-ℚ◌, ◌*ℚ◌, neg_ℚ}
@@ -8,11 +7,11 @@ use Rattle.lq_math.specs.RationalQuotient.{*ℚ_cancel, ◌/ℚ◌, /ℚ_is}
 use Rattle.lq_math.specs.Solver.{var, con, ◌⊕◌, ◌⊖◌, ◌⊗◌, solve}
 use Rattle.lq_num.specs.declared.frac.Frac.{Frac}
 use Rattle.lq_num.specs.Value.{value_of}
-use Rattle.lq_linear.specs.Row.{Valuation, sum_at}
-use Rattle.lq_linear.specs.Steps.{valuation_of, value_or_zero}
+use Rattle.lq_linear.specs.Row.{Valuation}
+use Rattle.lq_linear.specs.Steps.{valuation_of}
 use Rattle.lq_simplex.specs.declared.line.Entry.{Entry}
-use Rattle.lq_simplex.specs.Lines.{combine, unit, factor_of, AscendsFrom, IsLine}
-use Rattle.lq_simplex.specs.Systems.{Parts, System, form_at, line_at, TermsBelow, Fits, Meets, IsFree, form_values, AreForms, AreLines, IsSystem, GoesOn, after, change_at, IsChange, IsAdded, IsShifted}
+use Rattle.lq_simplex.specs.Lines.{combine, unit, factor_of, IsLine}
+use Rattle.lq_simplex.specs.Systems.{Parts, System, line_at, Meets, IsFree, AreLines, IsSystem, after, change_at, IsChange, IsAdded, IsShifted}
 use Rattle.lq_simplex.proofs.Values.{last_or_before}
 use Rattle.lq_simplex.proofs.Combinations.{one_apart, eq_or, combine-same, combine-plus, entry_is, entry_apart, unit_here, unit_elsewhere, own_combination}
 

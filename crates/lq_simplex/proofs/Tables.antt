@@ -1,5 +1,5 @@
 -- The rows that stand, and what the values and the bounds say of them.
-use Rattle.std.proofs.Common.{◌≡◌, ◌≢◌, ℕ, zero, suc, pos, ◌+◌, ◌<◌, ◌≤◌, ◌==◌, if◌then◌else◌, ◌⊎◌, inl, inr, arith, refl, sym, ap, ap₂, subst, ◌∙◌, Bool, true, false, List, [], ◌∷◌, ◌++◌, Option, Some, None, All, IfSome, IfNone, IsNone, MatchBool, not, FitsSigned, to_z, of_z, length, take, get_or, slice_get}
+use Rattle.std.proofs.Common.{◌≡◌, ◌≢◌, ℕ, zero, suc, pos, ◌<◌, ◌==◌, if◌then◌else◌, inl, inr, arith, refl, sym, ap, subst, ◌∙◌, Bool, true, false, List, [], ◌∷◌, ◌++◌, Option, Some, None, IfNone, IsNone, MatchBool, not, FitsSigned, to_z, of_z, length, take, slice_get}
 use Rattle.std.proofs.lemmas.List.Elements.{All-nil}
 use Rattle.std.specs.Option.{is_some}
 use mathlib.Core.Bool.{true≢false}
@@ -9,7 +9,7 @@ use Rattle.std.specs.Int.Signed.{◌≤ℤ◌, ◌<ℤ◌, lt_z}
 use Rattle.std.proofs.lemmas.Int.{ints}
 use Rattle.lq_math.specs.Rational.{ℚ, whole, ◌+ℚ◌, ◌-ℚ◌, ◌*ℚ◌, neg_ℚ}
 use Rattle.lq_math.specs.RationalOrder.{◌≤ℚ◌, ◌<ℚ◌, NotNegative, NotNegative-whole, ≤ℚ_refl}
-use Rattle.lq_math.specs.OrderLaws.{≤ℚ_antisym, ≤ℚ_from_same, ≤ℚ_product, ≤ℚ_product_turned, ≤ℚ_sum, NotNegative_of, ≤ℚ_from_below}
+use Rattle.lq_math.specs.OrderLaws.{≤ℚ_antisym, ≤ℚ_product, ≤ℚ_sum, NotNegative_of}
 use Rattle.lq_math.specs.Whole.{whole_at_most, whole_below, whole-negation}
 use Rattle.lq_math.specs.Solver.{var, con, ◌⊕◌, ◌⊖◌, ◌⊗◌, solve}
 use Rattle.lq_num.specs.declared.frac.Frac.{Frac}
@@ -24,10 +24,10 @@ use Rattle.lq_simplex.specs.declared.limits.Side.{Side}
 use Rattle.lq_simplex.specs.declared.limits.Side.TheVariants.{Lower, Upper}
 use Rattle.lq_simplex.specs.declared.limits.Limit.{Limit}
 use Rattle.lq_simplex.specs.declared.limits.Broken.{Broken}
-use Rattle.lq_simplex.specs.Lines.{combine, factor_of, unit, IsLine, VariablesBelow}
-use Rattle.lq_simplex.specs.Systems.{Parts, System, form_at, line_at, form_values, Fits, Meets, AreForms, AreLines, IsSystem, GoesOn}
-use Rattle.lq_simplex.specs.Standing.{standing_of, multiplier_of, multipliers_of, signed, scale_of, ReadsAs, ReadsBy, Reads, AllRead, HasNoTag, TagsApart, BareHolds, AllBare, BoundBelow, BoundsBelow}
-use Rattle.lq_simplex.specs.Bounds.{other, Within, Beyond, IsOn, Tightest, limit_in, limit_at, bound_value, Covers, Keeps, AreTightest, Breaks, blocking_of, IsBlocked, AllBlocked}
+use Rattle.lq_simplex.specs.Lines.{combine, factor_of, VariablesBelow}
+use Rattle.lq_simplex.specs.Systems.{Parts, System, form_at, line_at, Fits, IsSystem, GoesOn}
+use Rattle.lq_simplex.specs.Standing.{standing_of, multipliers_of, signed, scale_of, ReadsAs, ReadsBy, Reads, AllRead, HasNoTag, TagsApart, BareHolds, AllBare, BoundBelow, BoundsBelow}
+use Rattle.lq_simplex.specs.Bounds.{other, Within, IsOn, Tightest, limit_at, bound_value, Covers, Keeps, AreTightest, Breaks, blocking_of, AllBlocked}
 use Rattle.lq_simplex.specs.Conflicts.{AllGiven, AllKeep, IsKept}
 use Rattle.lq_simplex.proofs.Combinations.{entry_is, unit_here, one_apart}
 use Rattle.lq_simplex.proofs.Systems.{entry_free}

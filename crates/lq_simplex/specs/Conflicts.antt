@@ -13,7 +13,7 @@ use Rattle.lq_simplex.specs.declared.limits.Limit.{Limit}
 use Rattle.lq_simplex.specs.Lines.{combine, IsLine}
 use Rattle.lq_simplex.specs.Systems.{Parts, System, IsSystem, form_at, form_values}
 use Rattle.lq_simplex.specs.Standing.{AllRead, TagsApart}
-use Rattle.lq_simplex.specs.Bounds.{Tightest, limit_at, bound_value, Keeps, IsLimit, Breaks, AllBlocked}
+use Rattle.lq_simplex.specs.Bounds.{Tightest, limit_at, Keeps, IsLimit, Breaks, AllBlocked}
 
 -- a number for the lower side, its negation for the upper
 abbrev pub toward : Side → ℚ → ℚ

@@ -1,5 +1,5 @@
 -- The parts of a row: their signs and their divisors.
-use Rattle.std.specs.Prelude.{◌≡◌, ◌≢◌, ◌*ℤ◌, All, neg_ℤ, ℕ, ℤ, pos, Bool, true, false, List, [], ◌∷◌, unsigned_abs}
+use Rattle.std.specs.Prelude.{◌≡◌, ◌≢◌, ◌*ℤ◌, All, neg_ℤ, ℕ, ℤ, pos, Bool, true, false, [], ◌∷◌, unsigned_abs}
 use Rattle.std.specs.Int.{◌∣◌}
 use Rattle.std.specs.Int.Signed.{◌<ℤ◌}
 use Rattle.lq_linear.specs.Row.{AscendsFrom}

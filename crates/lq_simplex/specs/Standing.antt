@@ -1,5 +1,5 @@
 -- The rows that stand, and what each says of its variable.
-use Rattle.std.specs.Prelude.{◌≡◌, ◌≢◌, ◌==◌, if◌then◌else◌, ℕ, ℤ, pos, ◌<◌, Bool, true, false, List, [], ◌∷◌, Option, Some, None, All, length, slice_get, IfSome, MatchBool}
+use Rattle.std.specs.Prelude.{◌≡◌, ◌≢◌, ℕ, pos, ◌<◌, Bool, true, false, List, [], ◌∷◌, Option, Some, None, length, MatchBool}
 use Rattle.lq_math.specs.RationalOrder.{◌≤ℚ◌}
 use Rattle.std.specs.Int.Signed.{◌<ℤ◌}
 use Rattle.lq_math.specs.Rational.{ℚ, whole, ◌-ℚ◌, ◌*ℚ◌, neg_ℚ}

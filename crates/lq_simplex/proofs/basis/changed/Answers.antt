@@ -1,8 +1,7 @@
-use Rattle.std.proofs.Common.{◌≡◌, ◌+◌, ◌∙◌, sym, ap, subst, arith, [], List, length}
+use Rattle.std.proofs.Common.{◌≡◌, ◌∙◌, sym, subst, arith, [], List}
 use Rattle.lq_simplex.specs.declared.line.Entry.{Entry}
-use Rattle.lq_simplex.specs.Lines.{IsLine}
 use Rattle.lq_simplex.specs.Systems.{line_at, IsChange}
-use Rattle.lq_simplex.proofs.Systems.{AddedSoFar, added_step, added_all}
+use Rattle.lq_simplex.proofs.Systems.{added_step, added_all}
 use Rattle.lq_simplex.proofs.Values.{element}
 use Rattle.lq_simplex.proofs.basis.changed.Goals as goal
 

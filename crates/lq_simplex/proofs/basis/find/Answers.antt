@@ -1,5 +1,4 @@
-use Rattle.std.proofs.Common.{◌≡◌, ◌∙◌, sym, ap, [], List, ℕ, ℤ}
-use Rattle.lq_simplex.specs.Systems.{form_at}
+use Rattle.std.proofs.Common.{◌∙◌, sym, []}
 use Rattle.lq_simplex.proofs.Values.{element}
 use Rattle.lq_simplex.proofs.Forms.{same_parts}
 use Rattle.lq_simplex.proofs.basis.find.Goals as goal

@@ -1,4 +1,4 @@
-use Rattle.std.proofs.Common.{◌≡◌, ◌∙◌, ◌<◌, length, ap, ap₂, sym, rules, get_or, FitsSigned, ℕ, ℤ, pos, arith}
+use Rattle.std.proofs.Common.{◌∙◌, ◌<◌, length, ap, ap₂, sym, rules, get_or, FitsSigned, ℕ, ℤ, pos}
 use Rattle.std.specs.Int.{w128}
 use Rattle.std.proofs.lemmas.Int.{to_z-of_z}
 use Rattle.lq_math.specs.Rational.{whole, ◌+ℚ◌, ◌*ℚ◌}

@@ -1,9 +1,7 @@
-use Rattle.std.proofs.Common.{◌≡◌, ◌∙◌, ◌<◌, length, ap, ap₂, sym, subst, rules, get_or, FitsSigned, ℕ, ℤ, pos, arith, [], List}
+use Rattle.std.proofs.Common.{◌≡◌, ◌∙◌, ◌<◌, length, ap, ap₂, sym, subst, rules, get_or, FitsSigned, ℕ, ℤ, pos, []}
 use Rattle.std.specs.Int.{w128}
 use Rattle.std.proofs.lemmas.Int.{to_z-of_z}
 use Rattle.lq_math.specs.Rational.{whole, ◌+ℚ◌, ◌*ℚ◌}
-use Rattle.lq_linear.specs.Row.{Valuation, sum_at}
-use Rattle.lq_simplex.specs.declared.line.Entry.{Entry}
 use Rattle.lq_simplex.specs.Lines.{combine, IsLine}
 use Rattle.lq_simplex.specs.Systems.{line_at}
 use Rattle.lq_simplex.proofs.Forms.{sum_at-more, term_below}

@@ -1,5 +1,5 @@
 use Rattle.std.proofs.Common.{pos, refl, sym, ap, ◌∙◌, [], ◌∷◌}
-use Rattle.lq_math.specs.Rational.{whole, ◌+ℚ◌, ◌*ℚ◌}
+use Rattle.lq_math.specs.Rational.{◌+ℚ◌, ◌*ℚ◌}
 use Rattle.lq_math.specs.Solver.{var, con, ◌⊕◌, ◌⊗◌, solve}
 use Rattle.lq_num.specs.Value.{value_of}
 use Rattle.lq_simplex.proofs.basis.moved.Goals as goal

@@ -1,6 +1,6 @@
-use Rattle.std.proofs.Common.{◌≡◌, ◌∙◌, ap, sym, refl, pos, arith, [], ◌∷◌}
+use Rattle.std.proofs.Common.{◌≡◌, ◌∙◌, ap, pos, arith}
 use Rattle.std.proofs.lemmas.Result.{IfOk-weaker}
-use Rattle.lq_math.specs.Rational.{ℚ, whole, ◌*ℚ◌}
+use Rattle.lq_math.specs.Rational.{whole, ◌*ℚ◌}
 use Rattle.lq_num.specs.Value.{value_of}
 use Rattle.lq_simplex.specs.Lines.{combine}
 use Rattle.lq_simplex.proofs.Systems.{inverse_times, inverse_apart, relation_is}

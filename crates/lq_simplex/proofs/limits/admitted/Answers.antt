@@ -1,6 +1,3 @@
-use Rattle.std.proofs.Common.{◌≡◌, sym, subst, Option, Some}
-use Rattle.lq_simplex.specs.declared.limits.Limit.{Limit}
-use Rattle.lq_simplex.specs.Bounds.{IsAdmitted}
 use Rattle.lq_simplex.proofs.Limiting.{admit_first, admit_tighter}
 use Rattle.lq_simplex.proofs.limits.admitted.Goals as goal
 

@@ -1,9 +1,9 @@
-use Rattle.std.proofs.Common.{◌≡◌, ◌∙◌, ◌<◌, ◌+◌, ◌++◌, ◌∷◌, [], sym, ap, subst, Some, None, Option, List, slice_get, take, set, length, arith, get_or, Vec, Global}
+use Rattle.std.proofs.Common.{◌≡◌, ◌∙◌, ◌<◌, ◌+◌, ◌++◌, ◌∷◌, [], sym, ap, None, Option, take, set, length, arith, Vec, Global}
 use Rattle.std.proofs.lemmas.List.{take_more, length-take-le, length-set}
 use Rattle.lq_simplex.specs.declared.row.Standing.{Standing}
 use Rattle.lq_simplex.specs.declared.limits.Limit.{Limit}
-use Rattle.lq_simplex.specs.Bounds.{AreTightest, limit_in}
-use Rattle.lq_simplex.proofs.Limiting.{tightest_step, tightest_skip, tightest_none, bound_below}
+use Rattle.lq_simplex.specs.Bounds.{limit_in}
+use Rattle.lq_simplex.proofs.Limiting.{tightest_step, tightest_skip, bound_below}
 use Rattle.lq_simplex.proofs.Values.{there, element}
 use Rattle.lq_simplex.proofs.limits.tightest.Goals as goal
 use Rattle.lq_simplex.proofs.limits.tightest.Goals.{in-Some, in_default}

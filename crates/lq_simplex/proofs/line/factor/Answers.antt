@@ -1,7 +1,6 @@
-use Rattle.std.proofs.Common.{◌≡◌, sym, ap, ◌∙◌, Some, slice_get, below_more, arith}
+use Rattle.std.proofs.Common.{sym, ap, ◌∙◌, Some, below_more, arith}
 use Rattle.std.proofs.lemmas.Option.{slice_get-get_or}
 use Rattle.lq_simplex.specs.declared.line.Entry.{Entry}
-use Rattle.lq_simplex.specs.Lines.{variable_at}
 use Rattle.lq_simplex.proofs.Combinations.{variable_of, found_factor, factor_absent}
 use Rattle.lq_simplex.proofs.line.factor.Goals as goal
 

@@ -1,4 +1,4 @@
-use Rattle.std.proofs.Common.{◌≡◌, ◌≢◌, ℕ, ◌<◌}
+use Rattle.std.proofs.Common.{◌≢◌, ℕ, ◌<◌}
 use Rattle.lq_simplex.specs.Lines.{variable_at}
 use Rattle.lq_simplex.proofs.line.factor.Given as goal
 

@@ -1,6 +1,5 @@
-use Rattle.std.proofs.Common.{◌≡◌, refl, sym, ap, ◌∙◌}
+use Rattle.std.proofs.Common.{refl, sym, ap, ◌∙◌}
 use Rattle.lq_simplex.specs.declared.line.Entry.{Entry}
-use Rattle.lq_simplex.specs.Lines.{variable_at}
 use Rattle.lq_simplex.proofs.Combinations.{variable_of}
 use Rattle.lq_simplex.proofs.line.head.Goals as goal
 

@@ -1,8 +1,6 @@
-use Rattle.std.proofs.Common.{◌≡◌, pos, refl, sym, ap, ap₂, ◌∙◌, [], ◌∷◌}
-use Rattle.lq_math.specs.Rational.{whole, ◌+ℚ◌, ◌*ℚ◌}
-use Rattle.lq_math.specs.Solver.{var, con, ◌⊕◌, ◌⊖◌, ◌⊗◌, solve}
+use Rattle.std.proofs.Common.{pos, refl, ◌∙◌, [], ◌∷◌}
+use Rattle.lq_math.specs.Solver.{var, con, ◌⊕◌, ◌⊗◌, solve}
 use Rattle.lq_num.specs.Value.{value_of}
-use Rattle.lq_linear.specs.Steps.{value_or_zero}
 use Rattle.lq_simplex.proofs.line.joined.Goals as goal
 
 pub returns-in-None-left-clause-exact : goal.returns-in-None-left-clause-exact

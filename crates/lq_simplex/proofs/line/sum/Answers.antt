@@ -1,8 +1,6 @@
-use Rattle.std.proofs.Common.{◌≡◌, pos, refl, sym, ap, ◌∙◌, [], ◌∷◌, arith, subst}
-use Rattle.lq_math.specs.Rational.{whole, ◌+ℚ◌, ◌*ℚ◌}
-use Rattle.lq_math.specs.Solver.{var, con, ◌⊕◌, ◌⊖◌, ◌⊗◌, solve}
+use Rattle.std.proofs.Common.{sym, subst}
 use Rattle.lq_num.specs.Value.{value_of}
-use Rattle.lq_simplex.proofs.Merging.{Merged, merge_step, merge_falls, merge_start, merge_end}
+use Rattle.lq_simplex.proofs.Merging.{Merged, merge_step, merge_falls, merge_start}
 use Rattle.lq_simplex.proofs.line.sum.Goals as goal
 
 pub loop-i-init : goal.loop-i-init

@@ -1,9 +1,8 @@
-use Rattle.std.proofs.Common.{◌≡◌, ◌+◌, ◌∙◌, ◌*ℤ◌, refl, sym, ap, subst, rules, pos, get_or, take, ℕ, ℤ, FitsSigned, List, int_div, to_z, of_z}
+use Rattle.std.proofs.Common.{◌≡◌, ◌∙◌, ◌*ℤ◌, refl, sym, ap, rules, pos, get_or, take, ℕ, ℤ, FitsSigned, int_div, to_z, of_z}
 use Rattle.std.specs.Int.{w128}
 use Rattle.std.proofs.lemmas.Int.{to_z-of_z}
 use Rattle.std.proofs.lemmas.List.{take_more}
 use Rattle.lq_math.specs.Reduction.{quotient-mul}
-use Rattle.lq_simplex.specs.Reading.{IsDivided}
 use Rattle.lq_simplex.proofs.Readings.{divided_push, divides_at}
 use Rattle.lq_simplex.proofs.reading.divided.Goals as goal
 

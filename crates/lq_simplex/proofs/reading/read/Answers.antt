@@ -1,11 +1,11 @@
-use Rattle.std.proofs.Common.{◌≡◌, ◌∙◌, ◌<◌, sym, ap, ap₂, subst, rules, FitsSigned, pos, ℕ, ℤ, List, length, arith, to_z, of_z}
+use Rattle.std.proofs.Common.{◌≡◌, ◌∙◌, sym, ap, ap₂, subst, rules, FitsSigned, pos, arith, to_z, of_z}
 use Rattle.std.specs.Int.{w128}
 use Rattle.std.specs.Int.Signed.{◌<ℤ◌}
 use Rattle.std.proofs.lemmas.Int.{to_z-of_z, ints}
-use Rattle.lq_math.specs.Rational.{whole, ◌+ℚ◌, ◌-ℚ◌, ◌*ℚ◌, neg_ℚ}
+use Rattle.lq_math.specs.Rational.{whole, ◌-ℚ◌, ◌*ℚ◌, neg_ℚ}
 use Rattle.lq_num.specs.Value.{value_of}
-use Rattle.lq_linear.specs.Row.{Valuation, sum_at}
-use Rattle.lq_simplex.specs.Systems.{Parts, TermsBelow, form_at}
+use Rattle.lq_linear.specs.Row.{sum_at}
+use Rattle.lq_simplex.specs.Systems.{Parts}
 use Rattle.lq_simplex.specs.Standing.{signed}
 use Rattle.lq_simplex.specs.Reading.{IsTurned, IsDivided}
 use Rattle.lq_simplex.proofs.Readings.{turned_below, divided_below, row_reads}

@@ -1,4 +1,4 @@
-use Rattle.std.proofs.Common.{◌≡◌, ◌∙◌, ◌<◌, ◌^◌, ap, subst, rules, pos, get_or, ℕ, ℤ, FitsSigned, unsigned_abs}
+use Rattle.std.proofs.Common.{◌≡◌, ◌∙◌, ap, subst, rules, pos, get_or, ℕ, ℤ, FitsSigned, unsigned_abs}
 use Rattle.std.specs.Int.{w128, ◌∣◌}
 use Rattle.std.proofs.lemmas.Int.{to_z-of_z}
 use Rattle.lq_simplex.proofs.Readings.{shared_bounds, divides_more}

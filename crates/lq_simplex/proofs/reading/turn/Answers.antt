@@ -1,8 +1,8 @@
-use Rattle.std.proofs.Common.{◌≡◌, ◌+◌, ◌∙◌, refl, sym, ap, subst, rules, pos, get_or, take, ℕ, ℤ, FitsSigned, List, to_z, of_z}
+use Rattle.std.proofs.Common.{◌∙◌, refl, ap, rules, pos, get_or, take, ℕ, ℤ, FitsSigned, to_z, of_z}
 use Rattle.std.specs.Int.{w128}
 use Rattle.std.proofs.lemmas.Int.{to_z-of_z}
 use Rattle.std.proofs.lemmas.List.{take_more}
-use Rattle.lq_simplex.specs.Reading.{turned_by, IsTurned}
+use Rattle.lq_simplex.specs.Reading.{turned_by}
 use Rattle.lq_simplex.proofs.Readings.{turned_push}
 use Rattle.lq_simplex.proofs.reading.turn.Goals as goal
 

@@ -1,7 +1,4 @@
-use Rattle.std.proofs.Common.{◌≡◌, ℕ, take, false}
-use Rattle.lq_linear.specs.Row.{Valuation, sum_at}
-use Rattle.lq_simplex.specs.Systems.{TermsBelow}
-use Rattle.lq_simplex.specs.Standing.{signed}
+use Rattle.std.proofs.Common.{take}
 use Rattle.lq_simplex.specs.Reading.{IsTurned}
 use Rattle.lq_simplex.proofs.reading.turn.Given as goal
 

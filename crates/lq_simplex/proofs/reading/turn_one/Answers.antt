@@ -1,4 +1,4 @@
-use Rattle.std.proofs.Common.{◌≡◌, ◌∙◌, sym, subst, ap, rules, FitsSigned, neg_ℤ}
+use Rattle.std.proofs.Common.{◌∙◌, sym, subst, ap, rules, FitsSigned, neg_ℤ}
 use Rattle.std.specs.Int.{w128}
 use Rattle.std.proofs.lemmas.Int.{to_z-of_z}
 use Rattle.lq_math.specs.Rational.{whole}

@@ -1,6 +1,4 @@
-use Rattle.std.proofs.Common.{◌≡◌, ◌∙◌, ◌<◌, sym, ap, subst, length, List}
-use Rattle.lq_num.specs.declared.frac.Frac.{Frac}
-use Rattle.lq_linear.specs.Steps.{valuation_of}
+use Rattle.std.proofs.Common.{sym, subst, List}
 use Rattle.lq_simplex.specs.Systems.{Parts}
 use Rattle.lq_simplex.specs.Standing.{AllRead}
 use Rattle.lq_simplex.proofs.Tables.{line_variables, kept}

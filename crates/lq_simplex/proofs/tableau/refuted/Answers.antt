@@ -1,13 +1,13 @@
-use Rattle.std.proofs.Common.{◌≡◌, ◌∙◌, ◌+◌, ◌++◌, ◌∷◌, [], sym, ap, subst, take, List, Some, None, slice_get, Option, rules, FitsSigned, MatchBool, pos, to_z, of_z, Bool}
+use Rattle.std.proofs.Common.{◌≡◌, ◌∙◌, ◌+◌, ◌++◌, ◌∷◌, [], sym, ap, subst, take, rules, FitsSigned, MatchBool, pos, to_z, of_z, Bool}
 use Rattle.std.specs.Int.{w128}
 use Rattle.std.proofs.lemmas.Int.{to_z-of_z}
 use Rattle.std.proofs.lemmas.List.{take_more}
 use Rattle.std.proofs.Math.IntN.{ℤ}
-use Rattle.lq_math.specs.Rational.{ℚ, whole, ◌*ℚ◌}
+use Rattle.lq_math.specs.Rational.{whole, ◌*ℚ◌}
 use Rattle.lq_math.specs.RationalOrder.{◌<ℚ◌, ◌≤ℚ◌, NotNegative}
 use Rattle.lq_num.specs.Value.{value_of}
 use Rattle.lq_simplex.specs.declared.row.Standing.{Standing}
-use Rattle.lq_simplex.specs.Standing.{AllBare, BareHolds}
+use Rattle.lq_simplex.specs.Standing.{AllBare}
 use Rattle.lq_simplex.proofs.Tables.{bare_contradicts, bare_push, bare_none, bare_read, is_none_read}
 use Rattle.lq_simplex.proofs.Values.{there}
 use Rattle.lq_simplex.proofs.tableau.refuted.Goals as goal

@@ -1,4 +1,3 @@
-use Rattle.std.proofs.Common.{◌≡◌, ◌∙◌, sym, ap, pos}
 use Rattle.lq_num.specs.Value.{value_of}
 use Rattle.lq_simplex.proofs.Tables.{refuting_above, refuting_below, one_fair, bare_equal, bare_at_most, above_read, below_read, not_above_read, not_below_read}
 use Rattle.lq_simplex.proofs.tableau.refuting.Goals as goal

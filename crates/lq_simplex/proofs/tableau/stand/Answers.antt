@@ -1,7 +1,6 @@
-use Rattle.std.proofs.Common.{◌≡◌, ◌∙◌, ◌++◌, ◌∷◌, [], sym, ap, subst, List, ℕ}
+use Rattle.std.proofs.Common.{◌∙◌, ◌++◌, ◌∷◌, [], sym, ap, subst}
 use Rattle.lq_linear.specs.Row.{Row}
-use Rattle.lq_simplex.specs.declared.row.Standing.{Standing}
-use Rattle.lq_simplex.specs.Standing.{standing_of, AllRead, TagsApart, ReadsBy}
+use Rattle.lq_simplex.specs.Standing.{standing_of, ReadsBy}
 use Rattle.lq_simplex.proofs.Tables.{standing_push, read_on, read_push, apart_push}
 use Rattle.lq_simplex.proofs.tableau.stand.Goals as goal
 

@@ -1,7 +1,6 @@
-use Rattle.std.proofs.Common.{◌≡◌, ◌++◌, ◌∷◌, [], ◌≤◌, ◌+◌, ℕ, List, IsNone, sym, subst, arith}
-use Rattle.lq_linear.specs.Row.{Row}
+use Rattle.std.proofs.Common.{IsNone, sym, subst, arith}
 use Rattle.lq_linear.specs.Contradiction.{Tagged, tagged}
-use Rattle.lq_simplex.specs.Table.{table_rows, TakesRow}
+use Rattle.lq_simplex.specs.Table.{table_rows}
 use Rattle.lq_simplex.proofs.Rows.{apart_after, none_more}
 use Rattle.lq_simplex.proofs.tests.add.Goals as goal
 

@@ -1,6 +1,6 @@
-use Rattle.std.proofs.Common.{◌≡◌, ap, sym, subst, arith}
+use Rattle.std.proofs.Common.{◌≡◌, subst, arith}
 use Rattle.lq_simplex.specs.Systems.{IsSystem}
-use Rattle.lq_simplex.proofs.Forms.{Start, start_step, start_system}
+use Rattle.lq_simplex.proofs.Forms.{start_step, start_system}
 use Rattle.lq_simplex.proofs.basis.Basis.new.Goals as goal
 
 pub loop-term-preserved : goal.loop-term-preserved

@@ -1,8 +1,7 @@
-use Rattle.std.proofs.Common.{◌≡◌, sym, ap, subst, ◌∙◌, length, arith, [], Some, slice_get, take, drop, ◌++◌, List, ℕ, ◌<◌}
+use Rattle.std.proofs.Common.{◌≡◌, sym, ap, ◌∙◌, length, arith, [], drop, ◌<◌}
 use Rattle.std.proofs.lemmas.List.{take_at}
 use Rattle.lq_num.specs.Value.{value_of}
-use Rattle.lq_simplex.specs.declared.line.Entry.{Entry}
-use Rattle.lq_simplex.specs.Systems.{System, line_at, IsShifted, IsAdded, IsSystem}
+use Rattle.lq_simplex.specs.Systems.{System, line_at}
 use Rattle.lq_simplex.proofs.Systems.{pivoted_system}
 use Rattle.lq_simplex.proofs.Combinations.{entry_apart}
 use Rattle.lq_simplex.proofs.Values.{element}

@@ -1,7 +1,7 @@
-use Rattle.std.proofs.Common.{◌≡◌, sym, ap, ap₂, subst, length}
+use Rattle.std.proofs.Common.{sym}
 use Rattle.lq_num.specs.Value.{value_of}
-use Rattle.lq_simplex.specs.Systems.{System, IsShifted}
-use Rattle.lq_simplex.proofs.Systems.{shifted_system, pivot_lines}
+use Rattle.lq_simplex.specs.Systems.{System}
+use Rattle.lq_simplex.proofs.Systems.{shifted_system}
 use Rattle.lq_simplex.proofs.basis.Basis.shift.Goals as goal
 
 pub invariant_of-self : goal.invariant_of-self

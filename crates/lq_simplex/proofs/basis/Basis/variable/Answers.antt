@@ -1,4 +1,4 @@
-use Rattle.std.proofs.Common.{◌≡◌, sym, subst, arith, length, List, ℕ, ℤ}
+use Rattle.std.proofs.Common.{sym, subst, arith, length}
 use Rattle.lq_simplex.specs.Systems.{System, TermsBelow}
 use Rattle.lq_simplex.proofs.Forms.{terms_below}
 use Rattle.lq_simplex.proofs.basis.Basis.variable.Goals as goal

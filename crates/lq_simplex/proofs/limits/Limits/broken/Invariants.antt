@@ -1,4 +1,4 @@
-use Rattle.std.proofs.Common.{◌≡◌, ℕ, ◌<◌}
+use Rattle.std.proofs.Common.{ℕ, ◌<◌}
 use Rattle.lq_linear.specs.Steps.{valuation_of}
 use Rattle.lq_simplex.specs.declared.limits.Side.{Side}
 use Rattle.lq_simplex.specs.Bounds.{Keeps, limit_at}

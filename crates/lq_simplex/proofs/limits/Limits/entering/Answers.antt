@@ -1,10 +1,9 @@
-use Rattle.std.proofs.Common.{◌≡◌, ◌∙◌, ◌<◌, ◌+◌, ◌++◌, ◌∷◌, [], sym, ap, subst, Some, slice_get, take, length, true, get_or, rules, arith, List}
+use Rattle.std.proofs.Common.{◌≡◌, ◌∙◌, ◌<◌, ◌+◌, ◌++◌, ◌∷◌, [], sym, ap, subst, take, length, rules}
 use Rattle.std.proofs.lemmas.List.{take_more}
-use Rattle.lq_num.specs.Value.{value_of}
 use Rattle.lq_linear.specs.Steps.{valuation_of}
 use Rattle.lq_simplex.specs.declared.line.Entry.{Entry}
 use Rattle.lq_simplex.specs.declared.limits.Side.{Side}
-use Rattle.lq_simplex.specs.Bounds.{limit_at, Within, other, bound_value, blocking_of, IsBlocked, AllBlocked}
+use Rattle.lq_simplex.specs.Bounds.{limit_at, AllBlocked}
 use Rattle.lq_simplex.proofs.Limiting.{variables_below, blocked_push}
 use Rattle.lq_simplex.proofs.Values.{there, value_there}
 use Rattle.lq_simplex.proofs.limits.Limits.entering.Goals as goal

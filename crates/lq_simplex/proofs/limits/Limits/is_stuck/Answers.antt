@@ -1,7 +1,4 @@
-use Rattle.std.proofs.Common.{◌≡◌, ◌∙◌, sym, ap, Some, not, true, false, Bool}
-use Rattle.lq_num.specs.Value.{value_of}
-use Rattle.lq_simplex.specs.declared.limits.Side.{Side}
-use Rattle.lq_simplex.specs.Bounds.{limit_at, Within, bound_value}
+use Rattle.std.proofs.Common.{◌≡◌, sym, ap, not, true, false, Bool}
 use Rattle.lq_simplex.proofs.limits.Limits.is_stuck.Goals as goal
 
 abbrev falsity : (b : Bool) → not b ≡ true → b ≡ false

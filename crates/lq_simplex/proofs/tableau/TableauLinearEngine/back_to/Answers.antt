@@ -1,5 +1,4 @@
-use Rattle.std.proofs.Common.{◌≡◌, ◌∙◌, sym, ap, take, List}
-use Rattle.lq_simplex.specs.declared.row.Standing.{Standing}
+use Rattle.std.proofs.Common.{◌∙◌, ap, take}
 use Rattle.lq_simplex.specs.Standing.{standing_of}
 use Rattle.lq_simplex.specs.Table.{Table, table_rows}
 use Rattle.lq_simplex.proofs.Tables.{standing_take, apart_take, read_take}

@@ -1,5 +1,4 @@
-use Rattle.std.proofs.Common.{◌≡◌, ◌∙◌, sym, ap, length, arith}
-use Rattle.lq_simplex.specs.Table.{Table, table_rows}
+use Rattle.std.proofs.Common.{sym, arith}
 use Rattle.lq_simplex.proofs.Tables.{standing_length}
 use Rattle.lq_simplex.proofs.tableau.TableauLinearEngine.mark.Goals as goal
 

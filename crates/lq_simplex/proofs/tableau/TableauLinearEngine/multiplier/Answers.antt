@@ -1,4 +1,4 @@
-use Rattle.std.proofs.Common.{◌≡◌, ◌∙◌, sym, ap, subst, refl, Some, None, IsNone, slice_get, List, ℕ}
+use Rattle.std.proofs.Common.{◌≡◌, sym, subst, refl, Some, None, IsNone, slice_get, List, ℕ}
 use Rattle.std.proofs.lemmas.Option.{slice_get_past, slice_get_read}
 use Rattle.lq_num.specs.declared.frac.Frac.{Frac}
 use Rattle.lq_simplex.proofs.Tables.{multiplier_get, multiplier_past}
