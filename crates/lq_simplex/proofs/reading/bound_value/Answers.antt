@@ -1,0 +1,22 @@
+use Rattle.std.proofs.Common.{◌∙◌, ap, rules, FitsSigned, pos}
+use Rattle.std.specs.Int.{w128}
+use Rattle.std.proofs.lemmas.Int.{to_z-of_z}
+use Rattle.std.proofs.lemmas.Result.{IfOk-weaker}
+use Rattle.lq_math.specs.Rational.{whole, neg_ℚ}
+use Rattle.lq_num.specs.Value.{value_of}
+use Rattle.lq_simplex.proofs.Readings.{whole_apart, bound_is}
+use Rattle.lq_simplex.proofs.reading.bound_value.Goals as goal
+
+pub div-requires : goal.div-requires
+div-requires c =
+    let fits : FitsSigned w128 (pos c.args.divisor) = search rules in
+    whole_apart c.args.divisor (value_of c.whole.result) c.requires.some (c.whole.ensures.value ∙ ap whole (to_z-of_z w128 (pos c.args.divisor) fits))
+
+pub returns-clause-exact : goal.returns-clause-exact
+returns-clause-exact c =
+    let fits : FitsSigned w128 (pos c.args.divisor) = search rules in
+    IfOk-weaker c.div.result _ _
+    (λ q h. bound_is c.args.turned c.args.divisor (value_of c.whole.result) (value_of c.in_ok-numerator.numerator) (value_of q) (neg_ℚ (whole c.args.constant)) c.requires.some
+    (c.whole.ensures.value ∙ ap whole (to_z-of_z w128 (pos c.args.divisor) fits)) h
+    (c.in_ok-numerator.ensures.exact ∙ ap (λ z. neg_ℚ (whole z)) (to_z-of_z w128 c.args.constant c.ranges.constant)))
+    c.div.ensures.exact

@@ -1,0 +1,38 @@
+use Rattle.std.proofs.Common.{◌≡◌, ◌∙◌, sym, ap, ap₂, subst, rules, FitsSigned, pos, arith, to_z, of_z}
+use Rattle.std.specs.Int.{w128}
+use Rattle.std.specs.Int.Signed.{◌<ℤ◌}
+use Rattle.std.proofs.lemmas.Int.{to_z-of_z, ints}
+use Rattle.lq_math.specs.Rational.{whole, ◌-ℚ◌, ◌*ℚ◌, neg_ℚ}
+use Rattle.lq_num.specs.Value.{value_of}
+use Rattle.lq_linear.specs.Row.{sum_at}
+use Rattle.lq_simplex.specs.Systems.{Parts}
+use Rattle.lq_simplex.specs.Standing.{signed}
+use Rattle.lq_simplex.specs.Reading.{IsTurned, IsDivided}
+use Rattle.lq_simplex.proofs.Readings.{turned_below, divided_below, row_reads}
+use Rattle.lq_simplex.proofs.reading.read.Goals as goal
+
+pub variable-requires : goal.variable-requires
+variable-requires c =
+    let parts = c.args.row.now.parts in let made = c.in_ok-made.made.items in let form = c.in_ok-divided.field-0.items in let n = c.args.basis.now.terms in
+    let t : IsTurned c.is_turned-turned.result parts made = rw (sym c.parts-parts.ensures.value) c.in_ok-made.ensures.turned in
+    let d : IsDivided (pos c.shared-divisor.result) made form = rw (sym c.as_slice-2.ensures.value) c.in_ok-divided.ensures in
+    rw c.new-form.ensures (divided_below (pos c.shared-divisor.result) n made form d (turned_below c.is_turned-turned.result n parts made t c.requires))
+
+pub returns-clause-reads : goal.returns-clause-reads
+returns-clause-reads c =
+    let parts = c.args.row.now.parts in let made = c.in_ok-made.made.items in let form = c.in_ok-divided.field-0.items in let d = c.shared-divisor.result in
+    let t : IsTurned c.is_turned-turned.result parts made = rw (sym c.parts-parts.ensures.value) c.in_ok-made.ensures.turned in
+    let q : IsDivided (pos d) made form = rw (sym c.as_slice-2.ensures.value) c.in_ok-divided.ensures in
+    let small = c.shared-divisor.ensures.small in
+    let fits : FitsSigned w128 (pos d) = search rules in
+    let same : to_z w128 d ≡ pos d = to_z-of_z w128 (pos d) fits in
+    let constant : FitsSigned w128 c.constant.result = search rules in
+    let is : to_z w128 (of_z w128 c.constant.result) ≡ c.args.row.now.constant = to_z-of_z w128 c.constant.result constant ∙ c.constant.ensures in
+    record {
+      inside = c.in_ok-variable.ensures.found.0;
+      divides = subst (λ z. pos 0 <ℤ z) (sym same) (let s = c.shared-divisor.ensures.some in omega (arith, ints));
+      level = λ v.
+          row_reads c.is_turned-turned.result v parts made form c.args.row.now.constant d (value_of c.in_ok-value.value) t q
+          (c.in_ok-value.ensures.exact ∙ ap (λ z. neg_ℚ (whole z)) is)
+          ∙ ap₂ (λ z (f : Parts). signed c.is_turned-turned.result (whole z) *ℚ (sum_at v f -ℚ value_of c.in_ok-value.value)) (sym same) (sym (c.in_ok-variable.ensures.found.1 ∙ c.new-form.ensures));
+    }

@@ -1,0 +1,25 @@
+use Rattle.std.proofs.Common.{◌≡◌, ◌∙◌, sym, subst, List}
+use Rattle.std.proofs.lemmas.Result.{IfOk-weaker}
+use Rattle.lq_simplex.specs.Systems.{Parts, System}
+use Rattle.lq_simplex.specs.Standing.{AllRead, AllBare}
+use Rattle.lq_simplex.proofs.Tables.{bounds_below, BothTight, both_given, crossed_kept, all_solved, none_weaker}
+use Rattle.lq_simplex.proofs.tableau.decide.Goals as goal
+
+pub new-requires : goal.new-requires
+new-requires c = rw c.len.ensures (bounds_below c.args.basis.now.forms c.args.rows.now c.requires.read)
+
+pub explain-requires : goal.explain-requires
+explain-requires c =
+    let tight : BothTight c.args.rows.now c.in_ok-limits.limits = record { lower = c.in_ok-limits.ensures.lower; upper = c.in_ok-limits.ensures.upper } in
+    let e = c.in-Some-crossed.ensures in
+    crossed_kept c.args.basis.now.forms c.args.rows.now c.in_ok-limits.limits c.in-Some-crossed.broken c.whole.result e.0 c.requires.read c.requires.apart (both_given c.args.rows.now c.in_ok-limits.limits tight)
+    c.whole.ensures.value e.1 e.2 e.3
+
+pub returns-clause-solved : goal.returns-clause-solved
+returns-clause-solved c =
+    let rows = c.args.rows.now in let s : System = c.pivots.new.basis in
+    let tight : BothTight rows c.in_ok-limits.limits = record { lower = c.in_ok-limits.ensures.lower; upper = c.in_ok-limits.ensures.upper } in
+    let bare : AllBare rows = rw c.in_default.is at c.in_ok-found.ensures.none in
+    let forms : s.forms ≡ c.args.basis.now.forms = c.pivots.ensures.forms ∙ c.in_ok-settle.ensures.forms in
+    let read : AllRead s.forms rows = subst (λ (f : List Parts). AllRead f rows) (sym forms) c.requires.read in
+    IfOk-weaker c.pivots.result _ _ (λ found. none_weaker found (λ all. all_solved s rows c.in_ok-limits.limits read bare tight all)) c.pivots.ensures.solved

@@ -1,0 +1,11 @@
+use Rattle.std.proofs.Common.{◌≡◌}
+use Rattle.lq_simplex.proofs.tableau.pivots.Given as goal
+
+abbrev pub invariant-loop-broken : goal.invariant-loop-broken
+invariant-loop-broken l = record {
+  terms : l.basis.terms ≡ l.fn.basis.terms;
+  forms : l.basis.forms ≡ l.fn.basis.forms;
+}
+
+abbrev pub decreases-loop-broken : goal.decreases-loop-broken
+decreases-loop-broken l = l.left

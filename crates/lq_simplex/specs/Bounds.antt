@@ -1,0 +1,98 @@
+-- The tightest bounds of variables.
+use Rattle.std.specs.Prelude.{◌≡◌, if◌then◌else◌, ℕ, pos, ◌⊎◌, Bool, true, false, List, [], ◌∷◌, Option, Some, None, slice_get, slice_index_or, IfSome}
+use Rattle.lq_math.specs.Rational.{ℚ, whole}
+use Rattle.lq_math.specs.RationalOrder.{◌≤ℚ◌, ◌<ℚ◌}
+use Rattle.lq_math.specs.OrderLaws.{is_at_most}
+use Rattle.lq_num.specs.Value.{value_of}
+use Rattle.lq_linear.specs.Row.{Valuation}
+use Rattle.lq_simplex.specs.declared.line.Entry.{Entry}
+use Rattle.lq_simplex.specs.declared.row.Bound.{Bound}
+use Rattle.lq_simplex.specs.declared.row.Standing.{Standing}
+use Rattle.lq_simplex.specs.declared.limits.Side.{Side}
+use Rattle.lq_simplex.specs.declared.limits.Side.TheVariants.{Lower, Upper}
+use Rattle.lq_simplex.specs.declared.limits.Limit.{Limit}
+use Rattle.lq_simplex.specs.declared.limits.Broken.{Broken}
+
+abbrev pub other : Side → Side
+other Lower = Upper
+other Upper = Lower
+
+-- a value keeps to a bound, or breaks it
+abbrev pub Within : Side → ℚ → ℚ → Type 0
+Within Lower value bound = bound ≤ℚ value
+Within Upper value bound = value ≤ℚ bound
+
+abbrev pub Beyond : Side → ℚ → ℚ → Type 0
+Beyond Lower value bound = value <ℚ bound
+Beyond Upper value bound = bound <ℚ value
+
+-- a row bounds its variable on this side
+abbrev pub IsOn : Side → Bool → Bool → Type 0
+IsOn Lower equal turned = (equal ≡ true) ⊎ (turned ≡ true)
+IsOn Upper equal turned = (equal ≡ true) ⊎ (turned ≡ false)
+
+-- the tightest bounds from below and from above
+pub record Tightest : Type 0 where
+  pub lower : List (Option Limit)
+  pub upper : List (Option Limit)
+
+abbrev pub limit_in : List (Option Limit) → ℕ → Option Limit
+limit_in limits k = slice_index_or limits k None
+
+abbrev pub side_of : Tightest → Side → List (Option Limit)
+side_of limits Lower = limits.lower
+side_of limits Upper = limits.upper
+
+abbrev pub limit_at : Tightest → Side → ℕ → Option Limit
+limit_at limits side k = limit_in (side_of limits side) k
+
+abbrev pub bound_value : Limit → ℚ
+bound_value l = value_of l.bound.value
+
+-- the limit is the bound that a row that stands gives the variable on this side
+pub record IsLimit (rows : List Standing) (side : Side) (variable : ℕ) (l : Limit) : Type 0 where
+  pub standing : Standing
+  pub stands : slice_get rows l.row ≡ Some standing
+  pub gives : standing.bound ≡ Some l.bound
+  pub bounds : l.bound.variable ≡ variable
+  pub on : IsOn side standing.row.equal l.bound.turned
+
+abbrev pub Covers : Side → Option Limit → ℚ → Type 0
+Covers side None bound = ⊥
+Covers side (Some l) bound = Within side (bound_value l) bound
+
+-- a limit, after a row's bound has come
+pub record IsAdmitted (side : Side) (old : Option Limit) (row : ℕ) (equal : Bool) (b : Bound) (new : Option Limit) : Type 0 where
+  pub given : (l : Limit) → new ≡ Some l → (old ≡ Some l) ⊎ ((l ≡ record { row = row; bound = b }) × IsOn side equal b.turned)
+  pub covers : IsOn side equal b.turned → Covers side new (value_of b.value)
+  pub kept : (v : ℚ) → Covers side old v → Covers side new v
+
+-- each limit is given by a row, and each row's bound on this side is no tighter than the limit
+pub record AreTightest (rows : List Standing) (side : Side) (limits : List (Option Limit)) : Type 0 where
+  pub given : (k : ℕ) → IfSome (limit_in limits k) (IsLimit rows side k)
+  pub tight : (j : ℕ) (s : Standing) (b : Bound) → slice_get rows j ≡ Some s → s.bound ≡ Some b → IsOn side s.row.equal b.turned
+      → Covers side (limit_in limits b.variable) (value_of b.value)
+
+-- the value keeps to the limit
+abbrev pub Keeps : Side → ℚ → Option Limit → Type 0
+Keeps side value None = Unit {0}
+Keeps side value (Some l) = Within side value (bound_value l)
+
+-- the variable breaks its limit
+pub record Breaks (limits : Tightest) (value : ℚ) (b : Broken) : Type 0 where
+  pub limit : limit_at limits b.side b.variable ≡ Some b.limit
+  pub beyond : Beyond b.side value (bound_value b.limit)
+
+-- on which side an entry's variable has to have a bound to keep the sum from its bound on the given side
+abbrev pub blocking_of : Side → ℚ → Side
+blocking_of side factor = if is_at_most factor (whole (pos 0)) then side else other side
+
+-- the entry's variable is at its limit on that side, or past it
+pub record IsBlocked (limits : Tightest) (side : Side) (x : Valuation) (e : Entry) : Type 0 where
+  pub limit : Limit
+  pub is : limit_at limits (blocking_of side (value_of e.factor)) e.variable ≡ Some limit
+  pub past : Within (other (blocking_of side (value_of e.factor))) (x e.variable) (bound_value limit)
+
+abbrev pub AllBlocked : Tightest → Side → Valuation → List Entry → Type 0
+AllBlocked limits side x [] = Unit {0}
+AllBlocked limits side x (e ∷ line) = IsBlocked limits side x e × AllBlocked limits side x line

@@ -1,0 +1,61 @@
+-- Linear combinations of variables.
+use Rattle.std.specs.Prelude.{◌≡◌, ◌==◌, if◌then◌else◌, ℕ, zero, suc, pos, ◌≤◌, ◌<◌, List, [], ◌∷◌, ◌++◌, Option, Some, None, length, ◌≢◌, ◌+◌, slice_get}
+use Rattle.lq_math.specs.Rational.{ℚ, whole, ◌+ℚ◌, ◌*ℚ◌}
+use Rattle.lq_num.specs.declared.frac.Frac.{Frac}
+use Rattle.lq_num.specs.Past.{IsPast}
+use Rattle.lq_num.specs.Value.{value_of}
+use Rattle.lq_linear.specs.Row.{Valuation}
+use Rattle.lq_simplex.specs.declared.line.Entry.{Entry}
+use Rattle.lq_simplex.specs.declared.stop.Stop.{Stop}
+use Rattle.lq_simplex.specs.declared.stop.Stop.TheVariants.{Past, Spent, Memory}
+
+abbrev pub combine : Valuation → List Entry → ℚ
+combine x [] = whole (pos 0)
+combine x (e ∷ es) = value_of e.factor *ℚ x e.variable +ℚ combine x es
+
+-- 1 at one variable, 0 elsewhere
+abbrev pub unit : ℕ → Valuation
+unit k j = if k == j then whole (pos 1) else whole (pos 0)
+
+abbrev pub factor_of : List Entry → ℕ → ℚ
+factor_of es k = combine (unit k) es
+
+-- the variables ascend, each at least `low`, and no factor is 0
+abbrev pub AscendsFrom : ℕ → List Entry → Type 0
+AscendsFrom low [] = Unit {0}
+AscendsFrom low (e ∷ es) = (low ≤ e.variable) × (¬ (value_of e.factor ≡ whole (pos 0))) × AscendsFrom (suc e.variable) es
+
+abbrev pub IsLine : List Entry → Type 0
+IsLine es = AscendsFrom 0 es
+
+-- the variable at a place, and 0 past the last
+abbrev pub variable_at : List Entry → ℕ → ℕ
+variable_at [] i = 0
+variable_at (e ∷ es) zero = e.variable
+variable_at (e ∷ es) (suc i) = variable_at es i
+
+-- what stands at a place of this variable, and the place after it
+abbrev pub IsHead : List Entry → ℕ → ℕ → Option Frac → ℕ → Type 0
+IsHead es at variable None next = (next ≡ at) × (at < length es → variable_at es at ≢ variable)
+IsHead es at variable (Some factor) next = (next ≡ at + 1) × (slice_get es at ≡ Some (record { variable = variable; factor = factor }))
+
+-- one variable alone, once
+pub record IsOwnLine (variable : ℕ) (line : List Entry) : Type 0 where
+  pub factor : Frac
+  pub is : line ≡ (record { variable = variable; factor = factor }) ∷ []
+  pub one : value_of factor ≡ whole (pos 1)
+
+abbrev pub VariablesBelow : ℕ → List Entry → Type 0
+VariablesBelow n [] = Unit {0}
+VariablesBelow n (e ∷ es) = (e.variable < n) × VariablesBelow n es
+
+-- an entry was added, or its factor is 0
+pub data IsPut (old : List Entry) (variable : ℕ) (factor : Frac) (new : List Entry) : Type 0 where
+  added : ¬ (value_of factor ≡ whole (pos 0)) → new ≡ old ++ (record { variable = variable; factor = factor }) ∷ [] → IsPut old variable factor new
+  left_out : value_of factor ≡ whole (pos 0) → new ≡ old → IsPut old variable factor new
+
+-- an operation on two fractions that has no result within 128 bits, a spent limit, or want of memory
+abbrev pub IsStop : Stop → Type 0
+IsStop (Past e) = IsPast e
+IsStop Spent = Unit {0}
+IsStop Memory = Unit {0}

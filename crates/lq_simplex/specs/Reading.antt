@@ -1,0 +1,44 @@
+-- The parts of a row: their signs and their divisors.
+use Rattle.std.specs.Prelude.{◌≡◌, ◌≢◌, ◌*ℤ◌, All, neg_ℤ, ℕ, ℤ, pos, Bool, true, false, [], ◌∷◌, unsigned_abs}
+use Rattle.std.specs.Int.{◌∣◌}
+use Rattle.std.specs.Int.Signed.{◌<ℤ◌}
+use Rattle.lq_linear.specs.Row.{AscendsFrom}
+use Rattle.lq_simplex.specs.Systems.{Parts, TermsBelow}
+
+-- the number divides each coefficient
+abbrev pub DividesAll : ℕ → Parts → Type 0
+DividesAll d [] = Unit {0}
+DividesAll d (part ∷ parts) = (d ∣ unsigned_abs part.1) × DividesAll d parts
+
+-- the first coefficient is above 0, or, where it is turned, below
+abbrev pub IsAbove : Bool → ℤ → Type 0
+IsAbove true n = n <ℤ pos 0
+IsAbove false n = pos 0 <ℤ n
+
+abbrev pub FirstAbove : Bool → Parts → Type 0
+FirstAbove turned [] = ⊥
+FirstAbove turned (part ∷ parts) = IsAbove turned part.1
+
+-- each coefficient as it is, or negated
+abbrev pub turned_by : Bool → ℤ → ℤ
+turned_by true n = neg_ℤ n
+turned_by false n = n
+
+abbrev pub IsTurned : Bool → Parts → Parts → Type 0
+IsTurned turned [] [] = Unit {0}
+IsTurned turned [] (new ∷ news) = ⊥
+IsTurned turned (old ∷ olds) [] = ⊥
+IsTurned turned (old ∷ olds) (new ∷ news) = (new.0 ≡ old.0) × (new.1 ≡ turned_by turned old.1) × IsTurned turned olds news
+
+-- each coefficient divided
+abbrev pub IsDivided : ℤ → Parts → Parts → Type 0
+IsDivided by [] [] = Unit {0}
+IsDivided by [] (new ∷ news) = ⊥
+IsDivided by (old ∷ olds) [] = ⊥
+IsDivided by (old ∷ olds) (new ∷ news) = (new.0 ≡ old.0) × (old.1 ≡ new.1 *ℤ by) × IsDivided by olds news
+
+-- the parts of a row over the terms below n
+pub record IsRowBelow (n : ℕ) (parts : Parts) : Type 0 where
+  pub ascending : AscendsFrom 0 parts
+  pub nonzero : All (λ part. part.1 ≢ pos 0) parts
+  pub below : TermsBelow n parts

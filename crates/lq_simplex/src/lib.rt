@@ -1,0 +1,16 @@
+//! All rows: a tableau that decides them by pivots, after Dutertre and de Moura (2006).
+#![tactic(auto)]
+
+mod basis;
+mod conflict;
+mod limits;
+mod line;
+mod reading;
+mod row;
+mod stop;
+mod tableau;
+
+pub use tableau::Tableau;
+
+#[cfg(test)]
+mod tests;

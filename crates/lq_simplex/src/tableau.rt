@@ -1,0 +1,311 @@
+ghost use Rattle.std.specs.Prelude.{◌≡◌, List, [], ◌∷◌, ◌++◌, pos, MatchBool, true, false, IfOk, IfErr, IfSome, IfNone, IsNone, OnOk, OnErr};
+ghost use Rattle.lq_math.specs.Rational.{whole, ◌*ℚ◌};
+ghost use Rattle.lq_math.specs.RationalOrder.{◌≤ℚ◌, ◌<ℚ◌, NotNegative};
+ghost use Rattle.lq_num.specs.Value.{value_of};
+ghost use Rattle.lq_linear.specs.Contradiction.{tagged, Solves, IsContradiction};
+ghost use Rattle.lq_linear.specs.Steps.{valuation_of};
+ghost use Rattle.lq_simplex.specs.Lines.{IsStop};
+ghost use Rattle.lq_simplex.specs.Systems.{Parts, TermsBelow};
+ghost use Rattle.lq_simplex.specs.Standing.{standing_of, multipliers_of, AllRead, TagsApart, AllBare};
+ghost use Rattle.lq_simplex.specs.Conflicts.{AllKeep};
+ghost use Rattle.lq_simplex.specs.Conflicts.{AllGiven};
+ghost use Rattle.lq_simplex.specs.Table.{StopsAt};
+
+use crate::basis::Basis;
+use crate::conflict::explain;
+use crate::limits::Limits;
+use crate::line::Entry;
+use crate::reading::read;
+use crate::row::{Standing, copy};
+use crate::stop::Stop;
+use lq_linear::{LinearEngine, LinearRow, LinearStop, Mark, Verdict};
+use lq_num::Frac;
+use std::alloc::{AllocError, Global};
+use std::marker::Model;
+
+/// The last answer of a tableau.
+#[derive(Clone, Copy)]
+pub(crate) enum Answer {
+    Unasked,
+    Solved,
+    Contradicted,
+    GaveUp,
+}
+
+/// All rows over the terms below a number, decided by pivots.
+#[derive(Drop)]
+pub struct Tableau {
+    alloc: Global,
+    limit: u64,
+    basis: Basis,
+    rows: Vec<Standing>,
+    found: Vec<(u64, Frac)>,
+    answer: Answer,
+}
+
+impl Model for Tableau {
+    ghost use Rattle.lq_simplex.specs.Table.{Table, IsTable};
+
+    ghost Value = { Table };
+
+    ghost view = { λ t. record { system = t.basis; rows = t.rows.items; found = t.found.items; answer = t.answer; limit = t.limit } };
+
+    ghost invariant = { λ t. IsTable (record { system = t.basis; rows = t.rows.items; found = t.found.items; answer = t.answer; limit = t.limit }) };
+}
+
+/// The multiplier of a row without terms that doesn't hold.
+fn refuting(constant: i128, equal: bool) -> Option<Frac>
+    ensures above { IfSome result (λ m. whole (pos 0) <ℚ (value_of m *ℚ whole constant)) }
+    ensures fair { IfSome result (λ m. MatchBool equal (Unit {0}) (NotNegative (value_of m))) }
+    ensures none { IfNone result (MatchBool equal (whole constant ≡ whole (pos 0)) (whole constant ≤ℚ whole (pos 0))) }
+{
+    if constant > 0 {
+        Some(Frac::whole(1))
+    } else if equal && constant < 0 {
+        Some(Frac::whole(-1))
+    } else {
+        None
+    }
+}
+
+/// One tag and its multiplier.
+fn single(alloc: Global, tag: u64, multiplier: Frac) -> Result<Vec<(u64, Frac)>, AllocError>
+    ensures { IfOk result (λ found. found.items ≡ (tag, multiplier) ∷ []) }
+{
+    let mut found = Vec::new(alloc);
+    found.push((tag, multiplier))?;
+    Ok(found)
+}
+
+/// The tag and the multiplier of the first row without terms that doesn't hold.
+fn refuted(alloc: Global, rows: &[Standing]) -> Result<Option<Vec<(u64, Frac)>>, AllocError>
+    requires read { (forms : List Parts) × AllRead forms rows.now }
+    requires apart { TagsApart rows.now }
+    ensures contradicted { IfOk result (λ found. IfSome found (λ ms. IsContradiction (standing_of rows.now) (multipliers_of ms.items))) }
+    ensures none { IfOk result (λ found. IfNone found (AllBare rows.now)) }
+{
+    for standing in rows {
+        if standing.bound.is_none() {
+            if let Some(multiplier) = refuting(standing.row.constant(), standing.row.equal()) {
+                return Ok(Some(single(alloc, standing.tag, multiplier)?));
+            }
+        }
+    }
+    Ok(None)
+}
+
+/// Brings the free variables to the bounds that they break.
+fn settle(alloc: Global, basis: &mut Basis, limits: &Limits) -> Result<(), Stop>
+    ensures terms { basis.new.terms ≡ basis.old.terms }
+    ensures forms { basis.new.forms ≡ basis.old.forms }
+    ensures stop { IfErr result IsStop }
+{
+    for variable in 0..basis.len() {
+        let value = basis.values()[variable];
+        if basis.is_free(variable) {
+            if let Some(broken) = limits.broken_at(variable, &value) {
+                let way = broken.limit.bound.value.sub(&value)?;
+                basis.shift(alloc, variable, &way)?;
+            }
+        }
+    }
+    Ok(())
+}
+
+/// Pivots until no variable breaks a bound, or until one can't be brought to its bound: the answer is then the rows that keep it
+/// from there, and their multipliers.
+fn pivots(
+    alloc: Global,
+    basis: &mut Basis,
+    rows: &[Standing],
+    limits: &Limits,
+    limit: u64,
+) -> Result<Option<Vec<(u64, Frac)>>, Stop>
+    requires read { AllRead basis.old.forms rows.now }
+    requires apart { TagsApart rows.now }
+    requires given { AllGiven rows.now limits.now }
+    ensures solved { IfOk result (λ found. IfNone found (AllKeep limits.now basis.new)) }
+    ensures contradicted { IfOk result (λ found. IfSome found (λ ms. IsContradiction (standing_of rows.now) (multipliers_of ms.items))) }
+    ensures terms { basis.new.terms ≡ basis.old.terms }
+    ensures forms { basis.new.forms ≡ basis.old.forms }
+    ensures stop { IfErr result IsStop }
+{
+    let mut left = limit;
+    loop {
+        let Some(broken) = limits.broken(basis.values()) else {
+            return Ok(None);
+        };
+        let line = basis.line(broken.variable);
+        let Some(entry) = limits.entering(line, broken.side, basis.values()) else {
+            return Ok(Some(explain(alloc, rows, limits, &broken, line)?));
+        };
+        if left == 0 {
+            return Err(Stop::Spent);
+        }
+        left -= 1;
+        basis.bring(alloc, broken.variable, entry, &broken.limit.bound.value)?;
+    }
+}
+
+/// Decides the rows: values that solve them, or tags and multipliers of rows that sum to a contradiction.
+fn decide(
+    alloc: Global,
+    basis: &mut Basis,
+    rows: &[Standing],
+    limit: u64,
+) -> Result<Option<Vec<(u64, Frac)>>, Stop>
+    requires read { AllRead basis.old.forms rows.now }
+    requires apart { TagsApart rows.now }
+    ensures solved { IfOk result (λ found. IfNone found (Solves (valuation_of basis.new.values) (standing_of rows.now))) }
+    ensures contradicted { IfOk result (λ found. IfSome found (λ ms. IsContradiction (standing_of rows.now) (multipliers_of ms.items))) }
+    ensures terms { basis.new.terms ≡ basis.old.terms }
+    ensures forms { basis.new.forms ≡ basis.old.forms }
+    ensures stop { IfErr result IsStop }
+{
+    if let Some(found) = refuted(alloc, rows)? {
+        return Ok(Some(found));
+    }
+    let limits = Limits::new(alloc, rows, basis.len())?;
+    if let Some(broken) = limits.crossed(basis.len()) {
+        let own = [Entry {
+            variable: broken.variable,
+            factor: Frac::whole(1),
+        }];
+        return Ok(Some(explain(alloc, rows, &limits, &broken, &own)?));
+    }
+    settle(alloc, basis, &limits)?;
+    pivots(alloc, basis, rows, &limits, limit)
+}
+
+/// Adds a row that stands.
+fn stand(
+    alloc: Global,
+    basis: &mut Basis,
+    rows: &mut Vec<Standing>,
+    row: &LinearRow,
+    tag: u64,
+) -> Result<(), Stop>
+    requires below { TermsBelow basis.old.terms row.now.parts }
+    requires read { AllRead basis.old.forms rows.old.items }
+    requires apart { TagsApart rows.old.items }
+    requires fresh { IsNone (tagged (standing_of rows.old.items) tag) }
+    ensures added { OnOk result (standing_of rows.new.items ≡ standing_of rows.old.items ++ (tag, row.now) ∷ []) }
+    ensures kept { OnErr result (rows.new.items ≡ rows.old.items) }
+    ensures read { AllRead basis.new.forms rows.new.items }
+    ensures apart { TagsApart rows.new.items }
+    ensures terms { basis.new.terms ≡ basis.old.terms }
+    ensures stop { IfErr result IsStop }
+{
+    let bound = read(alloc, basis, row)?;
+    let row = copy(alloc, row)?;
+    rows.push(Standing { tag, row, bound })?;
+    Ok(())
+}
+
+/// What the engine answers.
+fn stop_of(stop: Stop, limit: u64) -> LinearStop
+    requires { IsStop stop }
+    ensures { StopsAt limit result }
+{
+    match stop {
+        Stop::Past(past) => LinearStop::Number(past),
+        Stop::Spent => LinearStop::Pivots(limit),
+        Stop::Memory => LinearStop::Memory,
+    }
+}
+
+impl Tableau {
+    ghost use Rattle.lq_linear.specs.Answers.{Nothing};
+    ghost use Rattle.lq_simplex.specs.Table.{table_rows, table_last, table_limits};
+
+    /// An empty tableau for rows over the terms below `terms`, whose checks make at most `limit` pivots each.
+    pub fn new(alloc: Global, terms: u64, limit: u64) -> Result<Tableau, AllocError>
+        ensures rows { IfOk result (λ tableau. table_rows tableau ≡ []) }
+        ensures last { IfOk result (λ tableau. table_last tableau ≡ Nothing) }
+        ensures limits { IfOk result (λ tableau. table_limits tableau ≡ terms ∷ limit ∷ []) }
+    {
+        let basis = Basis::new(alloc, terms)?;
+        Ok(Tableau {
+            alloc,
+            limit,
+            basis,
+            rows: Vec::new(alloc),
+            found: Vec::new(alloc),
+            answer: Answer::Unasked,
+        })
+    }
+}
+
+impl LinearEngine for Tableau {
+    ghost use Rattle.lq_simplex.specs.Table.{table_rows, table_last, table_limits, table_point, table_multipliers, TakesRow, MayStop};
+
+    ghost standing = { table_rows };
+
+    ghost handed = { λ tableau rows. Unit {0} };
+
+    ghost last = { table_last };
+
+    ghost limits = { table_limits };
+
+    ghost takes = { TakesRow };
+
+    ghost may_stop = { MayStop };
+
+    ghost point = { table_point };
+
+    ghost multipliers = { table_multipliers };
+
+    fn assert_row(&mut self, row: &LinearRow, tag: u64) -> Result<(), LinearStop> {
+        match stand(self.alloc, &mut self.basis, &mut self.rows, row, tag) {
+            Ok(()) => {
+                self.answer = Answer::Unasked;
+                Ok(())
+            }
+            Err(stop) => {
+                self.answer = Answer::GaveUp;
+                Err(stop_of(stop, self.limit))
+            }
+        }
+    }
+
+    fn mark(&self) -> Mark {
+        Mark(self.rows.len() as u64)
+    }
+
+    fn back_to(&mut self, mark: Mark) {
+        self.rows.truncate(mark.0 as usize);
+        self.answer = Answer::Unasked;
+    }
+
+    fn check(&mut self) -> Result<Verdict, LinearStop> {
+        match decide(self.alloc, &mut self.basis, &self.rows, self.limit) {
+            Ok(None) => {
+                self.answer = Answer::Solved;
+                Ok(Verdict::Holds)
+            }
+            Ok(Some(found)) => {
+                self.found = found;
+                self.answer = Answer::Contradicted;
+                Ok(Verdict::Conflict)
+            }
+            Err(stop) => {
+                self.answer = Answer::GaveUp;
+                Err(stop_of(stop, self.limit))
+            }
+        }
+    }
+
+    fn value(&self, term: u64) -> Frac {
+        match self.basis.values().get(term as usize) {
+            Some(value) => *value,
+            None => Frac::whole(0),
+        }
+    }
+
+    fn multiplier(&self, at: usize) -> Option<(u64, Frac)> {
+        match self.found.as_slice().get(at) {
+            Some(pair) => Some(*pair),
+            None => None,
+        }
+    }
+}
