@@ -49,6 +49,11 @@ cond_small : (b : Bool) → cond b 0 40 ≤ 40
 cond_small true = omega arith
 cond_small false = omega arith
 
+-- the part that is to be read first
+abbrev pub opening : List Symbol → Rule
+opening (Part x ∷ ss) = x
+opening _ = start_of text.Program
+
 -- a text as a whole
 pub starts_sound : (text : TextKind) → Sound (Part (start_of text) ∷ [])
 starts_sound text.Program = refl
