@@ -7,3 +7,4 @@ pub mod Plainly
 pub mod Runs
 pub mod States
 pub mod Unique
+pub mod Limits

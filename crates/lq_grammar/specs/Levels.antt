@@ -78,3 +78,12 @@ IsSyntax start limit ks at = (at ≤ length ks) × Begins start (take at ks) × 
 -- the first token with a level above the limit, and what is before it begins a text
 abbrev pub IsTooDeep : Rule → ℕ → List Kind → ℕ → Type 0
 IsTooDeep start limit ks at = Begins start (take at ks) × IsShallow start limit ks at × ((k : Kind) × (l : ℕ) × (kind_at ks at ≡ Some k) × IsLevel start (take at ks) k l × (limit < l))
+
+-- The tokens are all read as these symbols, by these steps, and no token has a level above the limit.
+pub data Within (limit : ℕ) : List Symbol → List Kind → List Event → Type 0 where
+  over : Within limit [] [] []
+  word : {ss : List Symbol} {ks : List Kind} {es : List Event} (k : Kind) → depth ss ≤ limit → Within limit ss ks es → Within limit (Word k ∷ ss) (k ∷ ks) (event.Take ∷ es)
+  takes_one : {x : Rule} {ss : List Symbol} {k : Kind} {ks : List Kind} {es : List Event} (b : List Symbol) → way (Some k) (alternatives x) ≡ takes b → depth (b ++ ss) ≤ limit → Within limit (b ++ ss) ks es → Within limit (Part x ∷ ss) (k ∷ ks) (event.Take ∷ es)
+  passes_on : {x : Rule} {ss : List Symbol} {ks : List Kind} {es : List Event} (b : List Symbol) → way (next ks None) (alternatives x) ≡ passes b → Within limit (b ++ ss) ks es → Within limit (Part x ∷ ss) ks es
+  makes : {a : Action} {ss : List Symbol} {ks : List Kind} {es : List Event} → Within limit ss ks es → Within limit (Make a ∷ ss) ks (event.Make a ∷ es)
+  leaves : {ss : List Symbol} {ks : List Kind} {es : List Event} → Within limit ss ks es → Within limit (Leave ∷ ss) ks es

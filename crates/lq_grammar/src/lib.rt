@@ -11,7 +11,7 @@ mod table;
 
 pub use error::ReadError;
 pub use kind::Kind;
-pub use law::{one_level, one_reading};
+pub use law::{one_level, one_reading, within_limit};
 pub use reader::read;
 pub use rule::{
     BindingPart, EntryPart, ExpressionPart, PatternPart, PredPart, ProgramPart, Rule, TypePart,
@@ -20,3 +20,6 @@ pub use symbol::{
     Action, BlockAction, EntryAction, Event, ItemAction, OperandAction, PatternAction, PredAction,
     Symbol, TypingAction,
 };
+
+#[cfg(test)]
+mod tests;
