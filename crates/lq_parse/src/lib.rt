@@ -1,8 +1,10 @@
-//! The three grammars read with places, and the trees of what they read.
+//! The three grammars read with places.
 #![tactic(auto)]
 
+mod check;
 mod error;
 mod steps;
 mod terminals;
 
+pub use check::check_text;
 pub use error::ParseError;

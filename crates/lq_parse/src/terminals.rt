@@ -1,7 +1,8 @@
 // Tokens as the grammars see them.
 ghost use Rattle.std.specs.Prelude.{◌≡◌, IfOk};
+ghost use Rattle.lq_grammar.specs.declared.kind.Kind.TheVariants as kind;
 ghost use Rattle.lq_lex.specs.Reading.{tokens_of};
-ghost use Rattle.lq_parse.specs.Terminals.{bytes_of, kind_among, keywords, symbols, terminal, kind_of, kinds_of};
+ghost use Rattle.lq_parse.specs.Terminals.{bytes_of, kind_among, operator_words, binding_words, branch_words, heading_words, keyword_kind, symbols, terminal, kind_of, kinds_of};
 
 use lq_grammar::Kind;
 use lq_lex::{Token, TokenKind, Tokens};
@@ -17,36 +18,74 @@ pub(crate) fn bytes_of<'a>(text: &'a [u8], token: &Token) -> &'a [u8]
     &rest[..len]
 }
 
-fn keyword_kind(word: &[u8]) -> Kind
-    ensures { result ≡ kind_among keywords word.now }
+fn operator_kind(word: &[u8], other: Kind) -> Kind
+    ensures { result ≡ kind_among operator_words other word.now }
 {
-    match word {
-        b"assert" => Kind::Assert,
-        b"begin" => Kind::Begin,
-        b"else" => Kind::Else,
-        b"end" => Kind::End,
-        b"false" => Kind::False,
-        b"fun" => Kind::Fun,
-        b"if" => Kind::If,
-        b"in" => Kind::In,
-        b"let" => Kind::Let,
-        b"match" => Kind::Match,
-        b"mod" => Kind::Mod,
-        b"not" => Kind::Not,
-        b"of" => Kind::Of,
-        b"rec" => Kind::Rec,
-        b"then" => Kind::Then,
-        b"true" => Kind::True,
-        b"type" => Kind::Type,
-        b"with" => Kind::With,
-        b"measure" => Kind::Measure,
-        b"qualif" => Kind::Qualif,
-        _ => Kind::Reserved,
+    if word == b"assert".as_slice() {
+        Kind::Assert
+    } else if word == b"false".as_slice() {
+        Kind::False
+    } else if word == b"mod".as_slice() {
+        Kind::Mod
+    } else if word == b"not".as_slice() {
+        Kind::Not
+    } else if word == b"true".as_slice() {
+        Kind::True
+    } else {
+        other
     }
 }
 
+fn binding_kind(word: &[u8], other: Kind) -> Kind
+    ensures { result ≡ kind_among binding_words other word.now }
+{
+    match word {
+        b"fun" => Kind::Fun,
+        b"in" => Kind::In,
+        b"let" => Kind::Let,
+        b"of" => Kind::Of,
+        b"rec" => Kind::Rec,
+        b"type" => Kind::Type,
+        _ => other,
+    }
+}
+
+fn branch_kind(word: &[u8], other: Kind) -> Kind
+    ensures { result ≡ kind_among branch_words other word.now }
+{
+    match word {
+        b"begin" => Kind::Begin,
+        b"else" => Kind::Else,
+        b"end" => Kind::End,
+        b"if" => Kind::If,
+        b"match" => Kind::Match,
+        b"then" => Kind::Then,
+        b"with" => Kind::With,
+        _ => other,
+    }
+}
+
+fn heading_kind(word: &[u8], other: Kind) -> Kind
+    ensures { result ≡ kind_among heading_words other word.now }
+{
+    if word == b"measure".as_slice() {
+        Kind::Measure
+    } else if word == b"qualif".as_slice() {
+        Kind::Qualif
+    } else {
+        other
+    }
+}
+
+fn keyword_kind(word: &[u8]) -> Kind
+    ensures { result ≡ keyword_kind word.now }
+{
+    let heading = heading_kind(word, Kind::Reserved);
+    operator_kind(word, binding_kind(word, branch_kind(word, heading)))
+}
+
 fn symbol_kind(word: &[u8]) -> Kind
-    ensures { result ≡ kind_among symbols word.now }
+    ensures { result ≡ kind_among symbols kind.Reserved word.now }
 {
     match word {
         b"<=>" => Kind::Equivalence,

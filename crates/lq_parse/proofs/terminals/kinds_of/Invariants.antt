@@ -1,4 +1,4 @@
-use Rattle.std.proofs.Common.{◌≡◌, ◌×◌, ◌≤◌, ◌-◌, length, take}
+use Rattle.std.proofs.Common.{◌≡◌, ◌≤◌, ◌-◌, length, take}
 use Rattle.lq_lex.specs.Reading.{tokens_of}
 use Rattle.lq_parse.specs.Terminals.{kinds_of}
 use Rattle.lq_parse.proofs.terminals.kinds_of.Given as goal
