@@ -8,3 +8,6 @@ mod terminals;
 
 pub use check::check_text;
 pub use error::ParseError;
+
+#[cfg(test)]
+mod tests;
