@@ -29,7 +29,7 @@ use Rattle.lq_grammar.specs.declared.symbol.ItemAction.TheVariants.{NoItems, Add
 use Rattle.lq_grammar.specs.declared.symbol.TypingAction.TheVariants.{NoTypes, TwoTypes, AppendType, VariableType, NamedType, ApplyType, ApplyTypes, ProductType, ArrowType, TypeInside}
 use Rattle.lq_grammar.specs.declared.symbol.PatternAction.TheVariants.{Bind, Any, UnitPattern, NilPattern, ConsPattern, NoPatterns, TwoPatterns, AppendPattern, TuplePattern, TupleHere, BuildPattern, PatternInside}
 use Rattle.lq_grammar.specs.declared.symbol.BlockAction.TheVariants.{Function, FunctionHere, Recursive, RecursiveHere, LetIn, LetRecIn, NoArms, AppendArm, MatchOf, IfElse, IfOnly, AssertOf, NotOf, ChainOf, TupleOf, ListLiteral, NoTrees, TwoTrees, AppendTree}
-use Rattle.lq_grammar.specs.declared.symbol.OperandAction.TheVariants.{Literal, NegativeLiteral, Truth, Untruth, UseOf, QualifiedOf, ConstantOf, BuildOf, UnitHere, Enclosed, BlockOf, FetchOf, StoreOf, CallOf, NegateOf, ConsOf, AndOf, OrOf, ArithOf, CompareOf}
+use Rattle.lq_grammar.specs.declared.symbol.OperandAction.TheVariants.{Literal, NegativeLiteral, Truth, Untruth, UseOf, QualifiedOf, ConstantOf, BuildOf, UnitHere, Enclosed, BlockOf, ElementOf, FetchOf, StoreOf, CallOf, NegateOf, ConsOf, AndOf, OrOf, ArithOf, CompareOf}
 use Rattle.lq_grammar.specs.declared.symbol.PredAction.TheVariants.{PredLiteral, PredNegative, PredTruth, PredUntruth, PredUse, PredPlaceholder, PredApply, PredQualified, PredNegate, PredNot, PredAnd, PredOr, IffOf, PredInside, PredArith, PredCompare}
 use Rattle.lq_grammar.specs.declared.symbol.EntryAction.TheVariants.{NoQualifiers, AddQualifier, NoMeasures, AddMeasure, NoEquations, AppendEquation}
 use Rattle.lq_grammar.specs.declared.symbol.Action.TheVariants.{Mark, Named, Item, Typing, Pattern, Block, Operand, Pred, Entry}
@@ -310,16 +310,16 @@ expression_alternatives ElsePart =
     ∷ []
 expression_alternatives UpperHead =
     begins kind.Dot (Word kind.LowerName ∷ Make (Operand QualifiedOf) ∷ Part (InExpression HeadMore) ∷ [])
-    ∷ begins kind.OpenIndex (Make (Operand ConstantOf) ∷ Part (InExpression Seq) ∷ Word kind.Close ∷ Leave ∷ Part (InExpression IndexTail) ∷ Leave ∷ Part (InExpression AfterIndexed) ∷ [])
+    ∷ begins kind.OpenIndex (Make (Operand ConstantOf) ∷ Part (InExpression Seq) ∷ Word kind.Close ∷ Leave ∷ Make (Operand ElementOf) ∷ Part (InExpression IndexTail) ∷ Leave ∷ Part (InExpression AfterIndexed) ∷ [])
     ∷ before begin_operand (Part (InExpression Postfix) ∷ Make (Operand BuildOf) ∷ Leave ∷ Part (InExpression OperandRest) ∷ [])
     ∷ otherwise (Make (Operand ConstantOf) ∷ Part (InExpression OperandRest) ∷ [])
     ∷ []
 expression_alternatives HeadMore =
-    begins kind.OpenIndex (Part (InExpression Seq) ∷ Word kind.Close ∷ Leave ∷ Part (InExpression IndexTail) ∷ Leave ∷ Part (InExpression AfterIndexed) ∷ [])
+    begins kind.OpenIndex (Part (InExpression Seq) ∷ Word kind.Close ∷ Leave ∷ Make (Operand ElementOf) ∷ Part (InExpression IndexTail) ∷ Leave ∷ Part (InExpression AfterIndexed) ∷ [])
     ∷ otherwise (Part (InExpression CallRest) ∷ [])
     ∷ []
 expression_alternatives IndexTail =
-    begins kind.OpenIndex (Make (Operand FetchOf) ∷ Part (InExpression Seq) ∷ Word kind.Close ∷ Leave ∷ Part (InExpression IndexTail) ∷ Leave ∷ [])
+    begins kind.OpenIndex (Make (Operand FetchOf) ∷ Part (InExpression Seq) ∷ Word kind.Close ∷ Leave ∷ Make (Operand ElementOf) ∷ Part (InExpression IndexTail) ∷ Leave ∷ [])
     ∷ otherwise []
     ∷ []
 expression_alternatives AfterIndexed =
@@ -421,7 +421,7 @@ expression_alternatives Application =
     ∷ []
 expression_alternatives UpperMore =
     begins kind.Dot (Word kind.LowerName ∷ Make (Operand QualifiedOf) ∷ Part (InExpression PostfixMore) ∷ Part (InExpression ArgumentsMore) ∷ [])
-    ∷ begins kind.OpenIndex (Make (Operand ConstantOf) ∷ Part (InExpression Seq) ∷ Word kind.Close ∷ Leave ∷ Make (Operand FetchOf) ∷ Part (InExpression PostfixMore) ∷ Leave ∷ Part (InExpression ArgumentsMore) ∷ [])
+    ∷ begins kind.OpenIndex (Make (Operand ConstantOf) ∷ Part (InExpression Seq) ∷ Word kind.Close ∷ Leave ∷ Make (Operand ElementOf) ∷ Make (Operand FetchOf) ∷ Part (InExpression PostfixMore) ∷ Leave ∷ Part (InExpression ArgumentsMore) ∷ [])
     ∷ before begin_operand (Part (InExpression Postfix) ∷ Make (Operand BuildOf) ∷ Leave ∷ [])
     ∷ otherwise (Make (Operand ConstantOf) ∷ [])
     ∷ []
@@ -434,7 +434,7 @@ expression_alternatives Postfix =
     otherwise (Part (InExpression Atom) ∷ Part (InExpression PostfixMore) ∷ [])
     ∷ []
 expression_alternatives PostfixMore =
-    begins kind.OpenIndex (Part (InExpression Seq) ∷ Word kind.Close ∷ Leave ∷ Make (Operand FetchOf) ∷ Part (InExpression PostfixMore) ∷ Leave ∷ [])
+    begins kind.OpenIndex (Part (InExpression Seq) ∷ Word kind.Close ∷ Leave ∷ Make (Operand ElementOf) ∷ Make (Operand FetchOf) ∷ Part (InExpression PostfixMore) ∷ Leave ∷ [])
     ∷ otherwise []
     ∷ []
 -- atom = number | "true" | "false" | lid | uid "." lid | "(" ")" | "[" [ expr { ";" expr } [";"] ] "]"

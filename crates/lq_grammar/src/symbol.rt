@@ -87,6 +87,7 @@ pub enum OperandAction {
     UnitHere,
     Enclosed,
     BlockOf,
+    ElementOf,
     FetchOf,
     StoreOf,
     CallOf,

@@ -254,7 +254,7 @@ const DEEP: [(TextKind, &str, &str, usize, &str, usize); 27] = [
         "qualif P(v: int): ",
         "len ",
         251,
-        "4",
+        "ok",
         1023,
     ),
     (

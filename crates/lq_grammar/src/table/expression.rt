@@ -88,6 +88,7 @@ use crate::symbol::OperandAction::CallOf;
 use crate::symbol::OperandAction::CompareOf;
 use crate::symbol::OperandAction::ConsOf;
 use crate::symbol::OperandAction::ConstantOf;
+use crate::symbol::OperandAction::ElementOf;
 use crate::symbol::OperandAction::Enclosed;
 use crate::symbol::OperandAction::FetchOf;
 use crate::symbol::OperandAction::Literal;
@@ -358,6 +359,7 @@ pub(crate) fn choose(part: ExpressionPart, next: Option<Kind>) -> Choice
                 Part(Rule::InExpression(Seq)),
                 Word(Kind::Close),
                 Leave,
+                Make(Action::Operand(ElementOf)),
                 Part(Rule::InExpression(IndexTail)),
                 Leave,
                 Part(Rule::InExpression(AfterIndexed)),
@@ -387,6 +389,7 @@ pub(crate) fn choose(part: ExpressionPart, next: Option<Kind>) -> Choice
                 Part(Rule::InExpression(Seq)),
                 Word(Kind::Close),
                 Leave,
+                Make(Action::Operand(ElementOf)),
                 Part(Rule::InExpression(IndexTail)),
                 Leave,
                 Part(Rule::InExpression(AfterIndexed)),
@@ -399,6 +402,7 @@ pub(crate) fn choose(part: ExpressionPart, next: Option<Kind>) -> Choice
                 Part(Rule::InExpression(Seq)),
                 Word(Kind::Close),
                 Leave,
+                Make(Action::Operand(ElementOf)),
                 Part(Rule::InExpression(IndexTail)),
                 Leave,
             ]),
@@ -648,6 +652,7 @@ pub(crate) fn choose(part: ExpressionPart, next: Option<Kind>) -> Choice
                 Part(Rule::InExpression(Seq)),
                 Word(Kind::Close),
                 Leave,
+                Make(Action::Operand(ElementOf)),
                 Make(Action::Operand(FetchOf)),
                 Part(Rule::InExpression(PostfixMore)),
                 Leave,
@@ -696,6 +701,7 @@ pub(crate) fn choose(part: ExpressionPart, next: Option<Kind>) -> Choice
                 Part(Rule::InExpression(Seq)),
                 Word(Kind::Close),
                 Leave,
+                Make(Action::Operand(ElementOf)),
                 Make(Action::Operand(FetchOf)),
                 Part(Rule::InExpression(PostfixMore)),
                 Leave,

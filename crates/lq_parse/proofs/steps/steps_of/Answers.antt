@@ -1,4 +1,4 @@
-use Rattle.std.proofs.Common.{◌≡◌, refl, ◌∙◌, sym}
+use Rattle.std.proofs.Common.{◌≡◌, ◌∙◌}
 use Rattle.lq_lex.specs.Reading.{tokens_of}
 use Rattle.lq_parse.specs.Terminals.{kinds_of}
 use Rattle.lq_parse.proofs.steps.steps_of.Goals as goal
