@@ -3,11 +3,13 @@
 
 mod check;
 mod error;
+mod law;
 mod steps;
 mod terminals;
 
 pub use check::check_text;
 pub use error::ParseError;
+pub use law::one_answer;
 
 #[cfg(test)]
 mod tests;
