@@ -96,12 +96,12 @@ program_alternatives LetItem =
 -- tparams = tyvar | "(" tyvar { "," tyvar } ")", here with what follows it
 program_alternatives TypeHead =
     begins kind.TypeVariable (Make (Item FirstParameter) ∷ Word kind.LowerName ∷ Make Named ∷ Part (InProgram TypeBody) ∷ [])
-    ∷ begins kind.Open (Word kind.TypeVariable ∷ Make (Item FirstParameter) ∷ Part (InProgram TypeParameters) ∷ [])
+    ∷ begins kind.Open (Word kind.TypeVariable ∷ Make (Item FirstParameter) ∷ Part (InProgram TypeParameters) ∷ Leave ∷ Word kind.LowerName ∷ Make Named ∷ Part (InProgram TypeBody) ∷ [])
     ∷ begins kind.LowerName (Make (Item NoParameters) ∷ Make Named ∷ Part (InProgram TypeBody) ∷ [])
     ∷ []
 program_alternatives TypeParameters =
     begins kind.Comma (Word kind.TypeVariable ∷ Make (Item AddParameter) ∷ Part (InProgram TypeParameters) ∷ [])
-    ∷ begins kind.Close (Leave ∷ Word kind.LowerName ∷ Make Named ∷ Part (InProgram TypeBody) ∷ [])
+    ∷ begins kind.Close []
     ∷ []
 program_alternatives TypeBody =
     begins kind.Equal (Make (Item NoConstructors) ∷ Part (InProgram FirstConstructor) ∷ Make (Item AddType) ∷ [])

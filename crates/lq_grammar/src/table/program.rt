@@ -84,6 +84,10 @@ pub(crate) fn choose(part: ProgramPart, next: Option<Kind>) -> Choice
                 Word(Kind::TypeVariable),
                 Make(Action::Item(FirstParameter)),
                 Part(Rule::InProgram(TypeParameters)),
+                Leave,
+                Word(Kind::LowerName),
+                Make(Action::Named),
+                Part(Rule::InProgram(TypeBody)),
             ]),
             Some(Kind::LowerName) => Choice::Takes(&[
                 Make(Action::Item(NoParameters)),
@@ -98,12 +102,7 @@ pub(crate) fn choose(part: ProgramPart, next: Option<Kind>) -> Choice
                 Make(Action::Item(AddParameter)),
                 Part(Rule::InProgram(TypeParameters)),
             ]),
-            Some(Kind::Close) => Choice::Takes(&[
-                Leave,
-                Word(Kind::LowerName),
-                Make(Action::Named),
-                Part(Rule::InProgram(TypeBody)),
-            ]),
+            Some(Kind::Close) => Choice::Takes(&[]),
             _ => Choice::Refuses,
         },
         TypeBody => match next {
