@@ -1,0 +1,10 @@
+pub mod SameKind
+pub mod Facts
+pub mod Checked
+pub mod Found
+pub mod Completes
+pub mod Plainly
+pub mod Runs
+pub mod States
+pub mod Unique
+pub mod Limits

@@ -1,0 +1,25 @@
+//! The grammars of the three texts as data, and one reader for all of them.
+#![tactic(auto)]
+
+mod error;
+mod kind;
+mod law;
+mod reader;
+mod rule;
+mod symbol;
+mod table;
+
+pub use error::ReadError;
+pub use kind::Kind;
+pub use law::{one_level, one_reading, within_limit};
+pub use reader::read;
+pub use rule::{
+    BindingPart, EntryPart, ExpressionPart, PatternPart, PredPart, ProgramPart, Rule, TypePart,
+};
+pub use symbol::{
+    Action, BlockAction, EntryAction, Event, ItemAction, OperandAction, PatternAction, PredAction,
+    Symbol, TypingAction,
+};
+
+#[cfg(test)]
+mod tests;
