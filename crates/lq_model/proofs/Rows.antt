@@ -112,7 +112,6 @@ inside_from f (Some m) n h = (m, refl, cc)
 
 -- a step of a part
 by_part : (f : Frame) (e : Core) (w : World) (n : Next) → IsReady f → as_value e ≡ None → Gives e w → inside f (step e w) ≡ Some n → Step (plug f e) w n
-
 by_part f e w n h k gives s =
     let p = inside_from f (step e w) n s in subst (Step (plug f e) w) p.2 (part f e w p.0 h k (gives p.0 p.1))
 
@@ -174,16 +173,16 @@ EachGives none w = Unit {0}
 EachGives (more e es) w = Gives e w × EachGives es w
 
 row_steps : (r : Row) (acc es : Cores) (w : World) (n : Next) → AreValues acc → EachGives es w → step_row r acc es w ≡ Some n → Step (row r (behind acc es)) w n
-
 row_steps r acc none w n h g s = cc
 row_steps r acc (more e es) w n h g s =
     subst (λ l. Step (row r l) w n) (placed-behind acc e es)
     (on_part (in_row r acc es) e w n (λ v. step_row r (with_part acc e) es w) h g.0
     (λ v k t. subst (λ l. Step (row r l) w n) (behind-part acc e es ∙ sym (placed-behind acc e es))
-        (row_steps r (with_part acc e) es w n (values_part acc e h.0 v h.1 k) g.1 t)) s)
+    (row_steps r (with_part acc e) es w n (values_part acc e h.0 v h.1 k) g.1 t)) s)
 
 mutual
   unfolding behind
+
   pub step_to : (e : Core) (w : World) → Gives e w
   step_to (val v) w n s = cc
   step_to (use_of x) w n s = cc
@@ -196,19 +195,19 @@ mutual
   step_to (call f a) w n s =
       on_part (in_function a) f w n (λ u. on_value (as_value a) (in_argument f) (step a w) (λ v. goes_to w (body_of u v))) tt (step_to f w)
       (λ u k t. on_part (in_argument f) a w n (λ v. goes_to w (body_of u v)) (u, k) (step_to a w)
-          (λ v l m. let p = goes_from w (body_of u v) n m in subst (Step (call f a) w) p.2 (call_body f a u v p.0 w k l p.1)) t) s
+      (λ v l m. let p = goes_from w (body_of u v) n m in subst (Step (call f a) w) p.2 (call_body f a u v p.0 w k l p.1)) t) s
   step_to (one o e) w n s =
       on_part (in_one o) e w n (λ v. acted (unary_act o v w)) tt (step_to e w)
       (λ v k t. let p = acted_from (unary_act o v w) n t in subst (Step (one o e) w) p.2 (unary o e v w p.0 k p.1)) s
   step_to (two o a b) w n s =
       on_part (in_left o b) a w n (λ u. on_value (as_value b) (in_right o a) (step b w) (λ v. acted (binary_act o u v w))) tt (step_to a w)
       (λ u k t. on_part (in_right o a) b w n (λ v. acted (binary_act o u v w)) (u, k) (step_to b w)
-          (λ v l m. let p = acted_from (binary_act o u v w) n m in subst (Step (two o a b) w) p.2 (binary o a b u v w p.0 k l p.1)) t) s
+      (λ v l m. let p = acted_from (binary_act o u v w) n m in subst (Step (two o a b) w) p.2 (binary o a b u v w p.0 k l p.1)) t) s
   step_to (store p a i e) w n s =
       on_part (in_array p i e) a w n (λ t. on_value (as_value i) (in_index p a e) (step i w) (λ u. on_value (as_value e) (in_stored p a i) (step e w) (λ v. acted (store_act p t u v w)))) tt (step_to a w)
       (λ x k s. on_part (in_index p a e) i w n (λ u. on_value (as_value e) (in_stored p a i) (step e w) (λ v. acted (store_act p x u v w))) (x, k) (step_to i w)
-          (λ y l s. on_part (in_stored p a i) e w n (λ v. acted (store_act p x y v w)) ((x, k), (y, l)) (step_to e w)
-              (λ z m s. let r = acted_from (store_act p x y z w) n s in subst (Step (store p a i e) w) r.2 (storing p a i e x y z w r.0 k l m r.1)) s) s) s
+      (λ y l s. on_part (in_stored p a i) e w n (λ v. acted (store_act p x y v w)) ((x, k), (y, l)) (step_to e w)
+      (λ z m s. let r = acted_from (store_act p x y z w) n s in subst (Step (store p a i e) w) r.2 (storing p a i e x y z w r.0 k l m r.1)) s) s) s
   step_to (and_of a b) w n s =
       on_part (in_and b) a w n (λ u. on_flag u (λ t. Some (goes (if t then b else val (v_flag false)) w))) tt (step_to a w)
       (λ v k t. let p = flag_from v _ n t in subst (Step (and_of a b) w) (some_once _ _ p.2) (and_value a b p.0 w (k ∙ ap Some p.1))) s

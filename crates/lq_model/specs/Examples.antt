@@ -86,9 +86,14 @@ CallExample =
 -- `let rec sum k = if k <= 0 then 0 else k + sum (k - 1)`, `print_int (sum 3)`
 abbrev pub RecursionExample : Type 0
 RecursionExample =
-    Gives (item (let_rec_of 0 (record { id = 0; place = at 0; parameter = variable 1; body =
-        plain (form.if_else (plain (form.compare test.Le (name 1) (number (pos 0)))) (number (pos 0))
-        (plain (form.arithmetic op.Add (name 1) (plain (form.call (name 0) (plain (form.arithmetic op.Sub (name 1) (number (pos 1))))))))) }))
+    Gives (item (let_rec_of 0 (record {
+      id = 0;
+      place = at 0;
+      parameter = variable 1;
+      body =
+          plain (form.if_else (plain (form.compare test.Le (name 1) (number (pos 0)))) (number (pos 0))
+          (plain (form.arithmetic op.Add (name 1) (plain (form.call (name 0) (plain (form.arithmetic op.Sub (name 1) (number (pos 1)))))))));
+    }))
     ∷ printed (plain (form.call (name 0) (number (pos 3)))) ∷ []) [] finished (pos 6 ∷ [])
 
 -- a call that never returns goes on
@@ -101,8 +106,8 @@ LoopExample =
 abbrev pub AliasExample : Type 0
 AliasExample =
     Gives (run (plain (form.let_in (variable 0) (plain (form.make (number (pos 2)) (number (pos 7)))) (plain (form.let_in (variable 1) (name 0)
-        (plain (form.chain (more_trees (plain (form.store (name 1) (number (pos 0)) (number (pos 1))))
-        (more_trees (plain (form.print (plain (form.fetch (name 0) (number (pos 0)))))) no_trees))))))))
+    (plain (form.chain (more_trees (plain (form.store (name 1) (number (pos 0)) (number (pos 1))))
+    (more_trees (plain (form.print (plain (form.fetch (name 0) (number (pos 0)))))) no_trees))))))))
     ∷ printed (plain (form.length_of (plain (form.make (number (pos 3)) (number (pos 0)))))) ∷ []) [] finished (pos 1 ∷ pos 3 ∷ [])
 
 -- `Some x`, then `_`: the first arm that fits; 10 is the constructor `Some`
@@ -112,26 +117,26 @@ some_pattern x = pattern (at 0) (build_of 10 (at 0) (more_patterns (variable x) 
 abbrev pub MatchExample : Type 0
 MatchExample =
     Gives (printed (plain (form.match_on (plain (form.build 10 Apart (more_trees (number (pos 4)) no_trees)))
-        (more_cases (some_pattern 0) (name 0) (more_cases (pattern (at 0) any) (number (pos 0)) no_cases))))
+    (more_cases (some_pattern 0) (name 0) (more_cases (pattern (at 0) any) (number (pos 0)) no_cases))))
     -- `match [5; 6] with x :: r -> x`; 8 is the constructor `::`
     ∷ printed (plain (form.match_on (plain (form.list_of (more_trees (number (pos 5)) (more_trees (number (pos 6)) no_trees))))
-        (more_cases (pattern (at 0) (build_of 8 (at 0) (more_patterns (variable 0) (more_patterns (variable 1) no_patterns)))) (name 0) no_cases))) ∷ [])
+    (more_cases (pattern (at 0) (build_of 8 (at 0) (more_patterns (variable 0) (more_patterns (variable 1) no_patterns)))) (name 0) no_cases))) ∷ [])
     [] finished (pos 4 ∷ pos 5 ∷ [])
 
 -- `(fun (x, y) -> x - y) (7, 2)`: a parameter that is a tuple
 abbrev pub TupleExample : Type 0
 TupleExample =
     Gives (printed (plain (form.call (plain (form.fun (pattern (at 0) (tuple_of (more_patterns (variable 0) (more_patterns (variable 1) no_patterns))))
-        (plain (form.arithmetic op.Sub (name 0) (name 1))))) (plain (form.tuple (more_trees (number (pos 7)) (more_trees (number (pos 2)) no_trees)))))) ∷ [])
+    (plain (form.arithmetic op.Sub (name 0) (name 1))))) (plain (form.tuple (more_trees (number (pos 7)) (more_trees (number (pos 2)) no_trees)))))) ∷ [])
     [] finished (pos 5 ∷ [])
 
 -- `&&` and `||` leave the right side where the left one decides; unary minus and `not`
 abbrev pub LogicExample : Type 0
 LogicExample =
     Gives (printed (plain (form.if_else (plain (form.and_of (plain (form.flag false)) (plain (form.compare test.Eq (quotient (pos 1) (pos 0)) (number (pos 0))))))
-        (number (pos 1)) (plain (form.negated (number (pos 2))))))
+    (number (pos 1)) (plain (form.negated (number (pos 2))))))
     ∷ printed (plain (form.if_else (plain (form.or_of (plain (form.not_of (plain (form.flag false)))) (plain (form.compare test.Eq (quotient (pos 1) (pos 0)) (number (pos 0))))))
-        (number (pos 1)) (number (pos 2)))) ∷ []) [] finished (negsuc 1 ∷ pos 1 ∷ [])
+    (number (pos 1)) (number (pos 2)))) ∷ []) [] finished (negsuc 1 ∷ pos 1 ∷ [])
 
 -- each fault at its place
 abbrev pub DivisorExample : Type 0

@@ -1,11 +1,9 @@
 //! The meaning of programs of NanoML: what each form does, step by step, and when a program is safe.
 #![tactic(auto)]
 
-
 mod fault;
 mod laws;
 mod samples;
-
 
 pub use fault::FaultKind;
 pub use laws::{closing, one_outcome, one_step, output_grows, over_stays, parts_step};

@@ -150,9 +150,10 @@ put_closed l t h a u k = by (has_term l u) refl
 -- the arguments of an application that was just put in
 two_arguments : (l : List Sum) (a b t : Sum) → (numbered (with_term (numbered (numbered l a) b) t) a ≡ with_term (numbered (numbered l a) b) t)
     × (numbered (with_term (numbered (numbered l a) b) t) b ≡ with_term (numbered (numbered l a) b) t)
-two_arguments l a b t =
-    (numbered_again l (with_term (numbered (numbered l a) b) t) a (Extends-trans _ _ _ (Extends-numbered (numbered l a) b) (Extends-with_term (numbered (numbered l a) b) t)),
-    numbered_again (numbered l a) (with_term (numbered (numbered l a) b) t) b (Extends-with_term (numbered (numbered l a) b) t))
+two_arguments l a b t = (
+  numbered_again l (with_term (numbered (numbered l a) b) t) a (Extends-trans _ _ _ (Extends-numbered (numbered l a) b) (Extends-with_term (numbered (numbered l a) b) t)),
+  numbered_again (numbered l a) (with_term (numbered (numbered l a) b) t) b (Extends-with_term (numbered (numbered l a) b) t),
+)
 
 closed_numbered : (l : List Sum) (s : Sum) → IsClosed l → IsClosed (numbered l s)
 closed_numbered l (whole n) h = h

@@ -64,9 +64,10 @@ two_answer f k (Ok answer) same terms numbers classes x y a b c d l m q h = λ f
     let one : (same ≡ true → p.number (f a b) ≡ p.number (f c d)) × (p.number (f a b) ≡ p.number (f c d) → same ≡ true) =
     subst (λ z. (same ≡ true → p.number (f a b) ≡ p.number z) × (p.number (f a b) ≡ p.number z → same ≡ true)) m
     (subst (λ z. (same ≡ true → p.number z ≡ p.number y) × (p.number z ≡ p.number y → same ≡ true)) l q) in
-    let both = h flags classes (p.number (f a b)) (p.number (f c d)) one in
-    (λ t. subst (λ z. Agree p z y) (sym l) (subst (λ z. Agree p (f a b) z) (sym m) (k.agree p a b c d (both.0 t))),
-    λ g. both.1 (k.apart p a b c d (subst (λ z. Agree p (f a b) z) m (subst (λ z. Agree p z y) l g))))
+    let both = h flags classes (p.number (f a b)) (p.number (f c d)) one in (
+      λ t. subst (λ z. Agree p z y) (sym l) (subst (λ z. Agree p (f a b) z) (sym m) (k.agree p a b c d (both.0 t))),
+      λ g. both.1 (k.apart p a b c d (subst (λ z. Agree p (f a b) z) m (subst (λ z. Agree p z y) l g))),
+    )
 
 pub two_step : {X : Type 0} (f : Sum → Sum → Sum) → IsTwo f → (r : Result X PointError) (terms : List Sum) (numbers : List Frac) (x y a b c d : Sum) → x ≡ f a b → y ≡ f c d
     → IfErr r (λ e. (n : NumberPast) → e ≡ Past n → IsStepOf (equal_row a c ∷ (equal_row b d ∷ [])) terms numbers n)

@@ -18,7 +18,6 @@ ghost use Rattle.lq_pred.specs.TermView.{sum_of};
 ghost use Rattle.lq_point.specs.Arguments.{HasArguments};
 ghost use Rattle.lq_point.specs.Evaluation.{IsStepOf};
 ghost use Rattle.lq_point.specs.Function.{applied};
-
 ghost use Rattle.lq_point.specs.Values.{class_value, point_from};
 
 use crate::error::PointError;

@@ -38,9 +38,11 @@ returns-in_err-second-clause-step c =
 pub returns-then-is_apart-clause-answer : goal.returns-then-is_apart-clause-answer
 returns-then-is_apart-clause-answer c = λ flags classes r s same.
     let p = point_from (terms_of c.args.table.now) c.args.numbers.now flags classes in
-    let apart = c.is_apart.ensures.0 c.if-is_apart.true in
-    (λ _. first_apart p (sum_of c.args.left.0.now) (sum_of c.args.left.1.now) (sum_of c.args.right.0.now) (sum_of c.args.right.1.now) r s
-    (value_of c.in_ok-first.first) (c.in_ok-first.ensures.value flags classes) apart, λ _. refl)
+    let apart = c.is_apart.ensures.0 c.if-is_apart.true in (
+      λ _. first_apart p (sum_of c.args.left.0.now) (sum_of c.args.left.1.now) (sum_of c.args.right.0.now) (sum_of c.args.right.1.now) r s
+          (value_of c.in_ok-first.first) (c.in_ok-first.ensures.value flags classes) apart,
+      λ _. refl,
+    )
 
 pub returns-then-is_apart-2-clause-answer : goal.returns-then-is_apart-2-clause-answer
 returns-then-is_apart-2-clause-answer c = λ flags classes r s same.

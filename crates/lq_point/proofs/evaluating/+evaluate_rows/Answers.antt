@@ -15,9 +15,11 @@ evaluate_each_row-evaluate_rows-requires t c =
     let values : HasEachValue c.args.numbers.now (readings_of (map nnf_view items)) = subst (HasEachValue c.args.numbers.now) (view_items c.args.nnfs.now) c.requires in
     let smaller : size (nnf_view n) < size_each (nnfs_view c.args.nnfs.now) =
     subst (λ m. size (nnf_view m) < size_each (nnfs_view c.args.nnfs.now)) (sym is) (subst (λ r. size (nnf_view (get_or items i n)) < size_each r) (sym (view_items c.args.nnfs.now)) (item_smaller items i n inside)) in
-    let at : size_each (nnfs_view c.args.nnfs.now) ≡ t = c.decreases in
-    (subst (λ x. size (nnf_view n) < x) at smaller, subst (λ m. HasAllValues c.args.numbers.now (nnf_view m)) (sym is)
-    (item_of_each (HasAllValues c.args.numbers.now) (HasEachValue c.args.numbers.now) (λ r rs h. h.0) (λ r rs h. h.1) items i n inside values))
+    let at : size_each (nnfs_view c.args.nnfs.now) ≡ t = c.decreases in (
+      subst (λ x. size (nnf_view n) < x) at smaller,
+      subst (λ m. HasAllValues c.args.numbers.now (nnf_view m)) (sym is)
+          (item_of_each (HasAllValues c.args.numbers.now) (HasEachValue c.args.numbers.now) (λ r rs h. h.0) (λ r rs h. h.1) items i n inside values),
+    )
 
 pub evaluate_each_row-returns-in_err-evaluate_rows-clause-step : goal.evaluate_each_row-returns-in_err-evaluate_rows-clause-step
 evaluate_each_row-returns-in_err-evaluate_rows-clause-step t c =

@@ -41,10 +41,12 @@ returns-in_err-agrees-clause-step c =
 
 pub returns-then-not-agrees-clause-answer : goal.returns-then-not-agrees-clause-answer
 returns-then-not-agrees-clause-answer c = λ flags.
-    let s = sum_of c.term.result.now in let t = sum_of c.term-term.result.now in
-    (λ e. cc, λ h. sym c.if-not-agrees.true ∙ (c.in_ok-agrees.ensures.answer flags).1
-    (subst (λ l. Agree (point_from l c.args.numbers.now flags c.args.classes.now.entries) s t) (sym c.loop-next.invariant.same)
-    (h c.in-Some.before s t ((c.loop-next.invariant.pending []).below c.in-Some.before c.in-Some.is) c.term.ensures c.term-term.ensures)))
+    let s = sum_of c.term.result.now in let t = sum_of c.term-term.result.now in (
+      λ e. cc,
+      λ h. sym c.if-not-agrees.true ∙ (c.in_ok-agrees.ensures.answer flags).1
+          (subst (λ l. Agree (point_from l c.args.numbers.now flags c.args.classes.now.entries) s t) (sym c.loop-next.invariant.same)
+          (h c.in-Some.before s t ((c.loop-next.invariant.pending []).below c.in-Some.before c.in-Some.is) c.term.ensures c.term-term.ensures)),
+    )
 
 pub bounds-earlier-before : goal.bounds-earlier-before
 bounds-earlier-before c =
@@ -71,6 +73,8 @@ loop-next-preserved c =
 
 pub returns-clause-answer : goal.returns-clause-answer
 returns-clause-answer c = λ flags.
-    let terms = terms_of c.args.terms.now in let p = point_from (terms_of c.args.table.now) c.args.numbers.now flags c.args.classes.now.entries in
-    (λ e. pending_end p terms c.args.at (subst (Pending p terms c.args.at) c.in_default.is
-    (subst (λ l. Pending (point_from l c.args.numbers.now flags c.args.classes.now.entries) terms c.args.at c.loop-next.next) c.loop-next.invariant.same (c.loop-next.invariant.pending flags))), λ h. refl)
+    let terms = terms_of c.args.terms.now in let p = point_from (terms_of c.args.table.now) c.args.numbers.now flags c.args.classes.now.entries in (
+      λ e. pending_end p terms c.args.at (subst (Pending p terms c.args.at) c.in_default.is
+          (subst (λ l. Pending (point_from l c.args.numbers.now flags c.args.classes.now.entries) terms c.args.at c.loop-next.next) c.loop-next.invariant.same (c.loop-next.invariant.pending flags))),
+      λ h. refl,
+    )

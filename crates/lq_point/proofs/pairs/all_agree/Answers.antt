@@ -7,10 +7,12 @@ use Rattle.lq_point.proofs.pairs.all_agree.Goals as goal
 
 pub returns-then-not-agrees-clause-answer : goal.returns-then-not-agrees-clause-answer
 returns-then-not-agrees-clause-answer c = λ flags.
-    let terms = terms_of c.args.terms.now in
-    (λ e. cc, λ h. sym c.if-not-agrees.true ∙ (c.in_ok-agrees.ensures.answer flags).1
-    (subst (λ l. AgreesBefore (point_from l c.args.numbers.now flags c.args.classes.now.entries) terms c.loop-at.at) (sym c.loop-at.invariant.same)
-    (before_from_all (point_from (terms_of c.args.table.now) c.args.numbers.now flags c.args.classes.now.entries) terms c.loop-at.at h)))
+    let terms = terms_of c.args.terms.now in (
+      λ e. cc,
+      λ h. sym c.if-not-agrees.true ∙ (c.in_ok-agrees.ensures.answer flags).1
+          (subst (λ l. AgreesBefore (point_from l c.args.numbers.now flags c.args.classes.now.entries) terms c.loop-at.at) (sym c.loop-at.invariant.same)
+          (before_from_all (point_from (terms_of c.args.table.now) c.args.numbers.now flags c.args.classes.now.entries) terms c.loop-at.at h)),
+    )
 
 pub loop-at-preserved : goal.loop-at-preserved
 loop-at-preserved c =
@@ -25,6 +27,8 @@ loop-at-preserved c =
 pub returns-clause-answer : goal.returns-clause-answer
 returns-clause-answer c = λ flags.
     let terms = terms_of c.args.terms.now in
-    let last : length terms ≤ c.loop-at.at = subst (λ n. n ≤ c.loop-at.at) c.len-at-end.ensures.count c.loop-at-test.false in
-    (λ e. all_from_before (point_from (terms_of c.args.table.now) c.args.numbers.now flags c.args.classes.now.entries) terms
-    (λ n w. subst (λ l. AgreesBefore (point_from l c.args.numbers.now flags c.args.classes.now.entries) terms n) c.loop-at.invariant.same (c.loop-at.invariant.agree flags n (omega (arith, w, last)))), λ h. refl)
+    let last : length terms ≤ c.loop-at.at = subst (λ n. n ≤ c.loop-at.at) c.len-at-end.ensures.count c.loop-at-test.false in (
+      λ e. all_from_before (point_from (terms_of c.args.table.now) c.args.numbers.now flags c.args.classes.now.entries) terms
+          (λ n w. subst (λ l. AgreesBefore (point_from l c.args.numbers.now flags c.args.classes.now.entries) terms n) c.loop-at.invariant.same (c.loop-at.invariant.agree flags n (omega (arith, w, last)))),
+      λ h. refl,
+    )

@@ -13,6 +13,6 @@ loop-at-preserved c =
       length = ap length made ∙ length-append c.loop-at.earlier.items (c.in_ok-before.before ∷ []) ∙ ap (λ k. k + 1) one;
       latest = latest_more terms n t c.loop-at.latest.entries c.replace.new.latest.entries c.term.ensures c.loop-at.invariant.latest c.in_ok-before.ensures.new;
       earlier =
-        earlier_more terms n t c.loop-at.latest.entries c.loop-at.earlier.items c.push.new.self.items c.in_ok-before.before c.term.ensures c.loop-at.invariant.latest c.in_ok-before.ensures.old
-        one made c.loop-at.invariant.earlier;
+          earlier_more terms n t c.loop-at.latest.entries c.loop-at.earlier.items c.push.new.self.items c.in_ok-before.before c.term.ensures c.loop-at.invariant.latest c.in_ok-before.ensures.old
+          one made c.loop-at.invariant.earlier;
     }
