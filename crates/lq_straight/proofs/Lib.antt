@@ -5,6 +5,7 @@ pub mod Unique
 pub mod Kept
 pub mod Scoping
 pub mod Names
+pub mod Counting
 pub mod Running
 pub mod Values
 pub mod Bound

@@ -1,7 +1,8 @@
 -- A program whose demands are all valid is safe.
 use Rattle.std.specs.Prelude.{◌==◌, ℤ, pos, ◌+ℤ◌, ◌-ℤ◌}
-use Rattle.std.proofs.Common.{◌≡◌, ℕ, zero, suc, Bool, true, false, cond, List, [], ◌∷◌, ◌++◌, map, refl, sym, ap, subst, ◌∙◌}
+use Rattle.std.proofs.Common.{◌≡◌, ℕ, zero, suc, Bool, true, false, cond, List, [], ◌∷◌, ◌++◌, map, All, refl, sym, ap, subst, ◌∙◌}
 use Rattle.std.proofs.lemmas.Bool.Decides.{Decides-eqb, Decides-int_eq}
+use Rattle.std.proofs.lemmas.List.Elements.{All-head, All-tail}
 use Rattle.lq_name.specs.declared.name.Binder.{Binder}
 use Rattle.lq_name.specs.declared.operation.CompareOp.TheVariants.{Eq}
 use Rattle.lq_pred.specs.declared.symbol.Symbol.{Symbol}
@@ -19,7 +20,7 @@ use Rattle.lq_straight.specs.declared.item.Assertion.{Assertion}
 use Rattle.lq_straight.specs.declared.item.Item.{Item}
 use Rattle.lq_straight.specs.declared.item.Item.TheVariants as item
 use Rattle.lq_straight.specs.Meaning.{Expr, value, read, plus, minus, sides, truth, unit, Task, define, assert, Outcome, running, put_in, compares, step, go_on, expr_of_sum, task_of, IsCalm}
-use Rattle.lq_straight.specs.Demands.{term_of, op_of, goal_of, with_definition, implications_from, AreValid, ValidIsSafe}
+use Rattle.lq_straight.specs.Demands.{term_of, op_of, goal_of, with_definition, implications_from, ValidIsSafe}
 use Rattle.lq_straight.proofs.Running.{run_on}
 use Rattle.lq_straight.proofs.Values.{Values, and_also, with_value, nothing, filled, filled_task, put_tasks, nothing_tasks}
 use Rattle.lq_straight.proofs.Bound.{SumUses, AreBoundIn, resolved_bound}
@@ -139,7 +140,7 @@ ValidIsTrue = (m : Meaning) (i : Implication) → IsValid i → EachTrueIn m i.h
 abbrev tasks_at : Values → List (Item Binder) → List Task
 tasks_at s items = map (filled_task s) (map task_of items)
 
-all_calm : ValidIsTrue → (items : List (Item Binder)) (s : Values) (known : List Formula) → AreBoundIn s.has items → HoldIn s known → AreValid (implications_from known items) → (input : List ℤ) → Calm (tasks_at s items) input
+all_calm : ValidIsTrue → (items : List (Item Binder)) (s : Values) (known : List Formula) → AreBoundIn s.has items → HoldIn s known → All IsValid (implications_from known items) → (input : List ℤ) → Calm (tasks_at s items) input
 all_calm law [] s known bound hold valid input zero = tt
 all_calm law [] s known bound hold valid input (suc n) = tt
 all_calm law (item.Define x (right.Read place) ∷ items) s known bound hold valid input n =
@@ -154,8 +155,8 @@ all_calm law (item.Define x (right.Sum t) ∷ items) s known bound hold valid in
     (all_calm law items (with_value x.0 v s) (with_definition known x (right.Sum t)) bound.2 (hold_more s known x t bound.0 bound.1 hold) valid input))) n
 all_calm law (item.Assert a ∷ items) s known bound hold valid input n =
     asserted_calm s a (tasks_at s items) input bound.0 bound.1
-    (law (meaning s.of) (record { hypotheses = known; goal = goal_of a }) valid.0 (hold s.of (λ y is. refl)))
-    (all_calm law items s known bound.2 hold valid.1 input) n
+    (law (meaning s.of) (record { hypotheses = known; goal = goal_of a }) (All-head IsValid _ (implications_from known items) valid) (hold s.of (λ y is. refl)))
+    (all_calm law items s known bound.2 hold (All-tail IsValid _ (implications_from known items) valid) input) n
 
 pub valid_is_safe : ValidIsTrue → ValidIsSafe
 valid_is_safe law text items scoped resolves valid input n =

@@ -35,13 +35,13 @@ none_yet text items kept none = record { latest = λ name. subst (λ (o : Option
 pub none_bound : (text : List ℕ) (items : List (Item Span)) → BoundTo text items 0 []
 none_bound text items = record { count = refl; each = λ k i bound here is. absurd cc; known = λ k i lt is. absurd (omega arith) }
 
-at_some : {A : Type 0} (P : A → Type 0) (o : Option A) (x : A) → o ≡ Some x → P x → IsSomeAnd o P
+pub at_some : {A : Type 0} (P : A → Type 0) (o : Option A) (x : A) → o ≡ Some x → P x → IsSomeAnd o P
 at_some P o x is p = subst (λ q. IsSomeAnd q P) (sym is) p
 
 pub some_at : {A : Type 0} (P : A → Type 0) (o : Option A) (x : A) → o ≡ Some x → IsSomeAnd o P → P x
 some_at P o x is p = subst (λ q. IsSomeAnd q P) is p
 
-below_or_at : (at k : ℕ) → k < at + 1 → (k < at) ⊎ (k ≡ at)
+pub below_or_at : (at k : ℕ) → k < at + 1 → (k < at) ⊎ (k ≡ at)
 below_or_at at k lt = ⊎_elim (λ less. inl less) (λ more. inr (omega arith)) (cases_lt k at)
 
 -- the item with the next number defines another name
@@ -66,7 +66,7 @@ latest_now text items at i name here same = record {
 defines_other : (text : List ℕ) (items : List (Item Span)) (at : ℕ) (i : Item Span) (name : List ℕ) → slice_get items at ≡ Some i → (IsDefinitionOf text name i → ⊥) → Defines text items at name → ⊥
 defines_other text items at i name here other defines = other (some_at (IsDefinitionOf text name) (slice_get items at) i here defines)
 
-latest_more : (text : List ℕ) (items : List (Item Span)) (at : ℕ) (x : Span) (r : Right Span) (b : Binder) (kept new : List ℕ → Option Binder) → slice_get items at ≡ Some (item.Define x r) → b.0 ≡ at
+pub latest_more : (text : List ℕ) (items : List (Item Span)) (at : ℕ) (x : Span) (r : Right Span) (b : Binder) (kept new : List ℕ → Option Binder) → slice_get items at ≡ Some (item.Define x r) → b.0 ≡ at
     → ((name : List ℕ) → new name ≡ cond (bytes_eq (text_of text x) name) (Some b) (kept name))
     → IsUpTo text items at kept → IsUpTo text items (at + 1) new
 latest_more text items at x r b kept new here number defined up = record {
@@ -78,7 +78,7 @@ latest_more text items at x r b kept new here number defined up = record {
     by_test name false e = latest_kept text items at name (kept name)
         (defines_other text items at (item.Define x r) name here (λ same. let is = (bytes_eq-Decides (text_of text x) name).1 same in cc)) (up.latest name)
 
-latest_same : (text : List ℕ) (items : List (Item Span)) (at : ℕ) (a : Assertion Span) (kept new : List ℕ → Option Binder) → slice_get items at ≡ Some (item.Assert a)
+pub latest_same : (text : List ℕ) (items : List (Item Span)) (at : ℕ) (a : Assertion Span) (kept new : List ℕ → Option Binder) → slice_get items at ≡ Some (item.Assert a)
     → ((name : List ℕ) → new name ≡ kept name) → IsUpTo text items at kept → IsUpTo text items (at + 1) new
 latest_same text items at a kept new here same up = record {
   latest = λ name. subst (λ (o : Option Binder). IsLatest text items (at + 1) name o) (sym (same name))
@@ -160,7 +160,7 @@ missing_left text kept xs ys x e none = first_left (IsKept text kept) xs ys x (m
 pub missing_right : (text : List ℕ) (kept : List ℕ → Option Binder) (xs ys : List Span) (x : Span) → EachName (IsKept text kept) xs → ys ≡ x ∷ [] → kept (text_of text x) ≡ None → IsFirstNot (IsKept text kept) (xs ++ ys) x
 missing_right text kept xs ys x each e none = first_right (IsKept text kept) xs ys x each (missing text kept ys x e none)
 
-slice_get_push : {A : Type 0} (xs : List A) (y z : A) (k : ℕ) → slice_get (xs ++ y ∷ []) k ≡ Some z → (slice_get xs k ≡ Some z) ⊎ ((k ≡ length xs) × (y ≡ z))
+pub slice_get_push : {A : Type 0} (xs : List A) (y z : A) (k : ℕ) → slice_get (xs ++ y ∷ []) k ≡ Some z → (slice_get xs k ≡ Some z) ⊎ ((k ≡ length xs) × (y ≡ z))
 slice_get_push [] y z zero is = inr (refl, cc)
 slice_get_push [] y z (suc k) is = absurd cc
 slice_get_push (x ∷ xs) y z zero is = inl is

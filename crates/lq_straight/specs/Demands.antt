@@ -1,5 +1,6 @@
 -- What a straight-line program demands: a list of implications, one for each assertion.
-use Rattle.std.specs.Prelude.{ℕ, pos, neg_ℤ, List, [], ◌∷◌, ◌++◌}
+use Rattle.std.specs.Prelude.{ℕ, pos, neg_ℤ, List, [], ◌∷◌, ◌++◌, Option, Some, None, All}
+use Rattle.std.specs.List.{filter_map}
 use Rattle.lq_name.specs.declared.name.Binder.{Binder}
 use Rattle.lq_name.specs.declared.operation.CompareOp.{CompareOp}
 use Rattle.lq_name.specs.declared.operation.CompareOp.TheVariants.{Eq, Lt, Le, Gt, Ge}
@@ -52,11 +53,14 @@ implications_from known (item.Assert a ∷ items) = record { hypotheses = known;
 abbrev pub implications_of : List (Item Binder) → List Implication
 implications_of items = implications_from [] items
 
--- all implications are valid
-abbrev pub AreValid : List Implication → Type 0
-AreValid [] = Unit {0}
-AreValid (i ∷ is) = IsValid i × AreValid is
+-- the assertions of a program, in order
+abbrev pub as_assertion : {V : Type 0} → Item V → Option (Assertion V)
+as_assertion (item.Define x r) = None
+as_assertion (item.Assert a) = Some a
+
+abbrev pub assertions_of : {V : Type 0} → List (Item V) → List (Assertion V)
+assertions_of items = filter_map as_assertion items
 
 -- A program whose demands are all valid is safe.
 abbrev pub ValidIsSafe : Type 0
-ValidIsSafe = (text : List ℕ) (items : List (Item Span)) (scoped : List (Item Binder)) → Resolves text items scoped → AreValid (implications_of scoped) → IsSafe scoped
+ValidIsSafe = (text : List ℕ) (items : List (Item Span)) (scoped : List (Item Binder)) → Resolves text items scoped → All IsValid (implications_of scoped) → IsSafe scoped

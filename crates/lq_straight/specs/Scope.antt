@@ -89,6 +89,11 @@ is_definition_of text name (item.Assert a) = false
 abbrev pub ordinal : List ℕ → List (Item Span) → ℕ → List ℕ → ℕ
 ordinal text items k name = count_by (is_definition_of text name) (take (k + 1) items)
 
+-- the ordinals of the definitions by their numbers
+pub record AreOrdinals (text : List ℕ) (items : List (Item Span)) (numbers : List ℕ) : Type 0 where
+  pub count : length numbers ≡ length items
+  pub each : (k : ℕ) (x : Span) (r : Right Span) → slice_get items k ≡ Some (item.Define x r) → slice_get numbers k ≡ Some (ordinal text items k (text_of text x))
+
 -- The uses of a program are bound in at most one way.
 abbrev pub IsOneScope : Type 0
 IsOneScope = (text : List ℕ) (items : List (Item Span)) (a b : List (Item Binder)) → Resolves text items a → Resolves text items b → a ≡ b

@@ -1,5 +1,5 @@
 -- The definitions that are visible, as a table of names and one of binders.
-use Rattle.std.specs.Prelude.{◌≡◌, ℕ, ◌<◌, List, [], ◌∷◌, Option, Some, None, if◌then◌else◌}
+use Rattle.std.specs.Prelude.{◌≡◌, ℕ, ◌+◌, ◌<◌, List, [], ◌∷◌, Option, Some, None, slice_get, unwrap_or, if◌then◌else◌}
 use Rattle.std.specs.Str.{bytes_eq, IsAscii}
 use Rattle.lq_name.specs.declared.name.Binder.{Binder}
 use Rattle.lq_straight.specs.declared.token.Span.{Span}
@@ -67,3 +67,15 @@ IsFoundItem text number kept new (item.Define x r) (item.Define b s) =
     (b.0 ≡ number) × IsFoundRight text kept r s × ((name : List ℕ) → new name ≡ (if bytes_eq (text_of text x) name then Some b else kept name))
 IsFoundItem text number kept new (item.Assert a) (item.Assert b) = IsFoundAssertion text kept a b × ((name : List ℕ) → new name ≡ kept name)
 IsFoundItem text number kept new i j = ⊥
+
+-- the number that stands for what is kept, and 0 where there is none
+abbrev pub kept_ordinal : List ℕ → Option Binder → ℕ
+kept_ordinal numbers None = 0
+kept_ordinal numbers (Some b) = unwrap_or (slice_get numbers b.0) 0
+
+-- The number of the item among the definitions of its name; behind it what is kept for other names is as before.
+abbrev pub IsCounted : List ℕ → ℕ → List ℕ → (List ℕ → Option Binder) → (List ℕ → Option Binder) → Item Span → ℕ → Type 0
+IsCounted text number numbers kept new (item.Define x r) m =
+    (m ≡ kept_ordinal numbers (kept (text_of text x)) + 1)
+    × ((name : List ℕ) → new name ≡ (if bytes_eq (text_of text x) name then Some (record { 0 = number }) else kept name))
+IsCounted text number numbers kept new (item.Assert a) m = (m ≡ 0) × ((name : List ℕ) → new name ≡ kept name)

@@ -4,6 +4,7 @@
 mod item;
 mod laws;
 mod lex;
+mod ordinal;
 mod parse;
 mod place;
 mod scope;
@@ -12,6 +13,7 @@ mod visible;
 
 pub use item::{Assertion, Item, Order, Right, Sum};
 pub use laws::{one_program, one_scope, over_stays, valid_programs_are_safe};
+pub use ordinal::ordinals;
 pub use parse::{ReadError, read_program};
 pub use place::place_of;
 pub use scope::{ScopeError, name_bytes, resolve};
