@@ -1,7 +1,7 @@
 // Laws of the definitions. Nothing is run.
-ghost use Rattle.lq_app.specs.Program.{IsOneProgram};
-ghost use Rattle.lq_app.specs.Scope.{IsOneScope, IsOneUnknown, IsUnknownOrResolved};
-ghost use Rattle.lq_app.specs.Meaning.{StaysOver};
+ghost use Rattle.lq_straight.specs.Program.{IsOneProgram};
+ghost use Rattle.lq_straight.specs.Scope.{IsOneScope, IsOneUnknown, IsUnknownOrResolved};
+ghost use Rattle.lq_straight.specs.Meaning.{StaysOver};
 ghost use Rattle.lq_app.specs.Judgement.{IsOneJudgement};
 ghost use Rattle.lq_app.specs.Report.{IsDetermined};
 

@@ -1,8 +1,8 @@
 use Rattle.std.proofs.Common.{List, Err, inr, refl, sym, ap, subst, ◌∙◌}
-use Rattle.lq_app.specs.declared.small.token.Span.{Span}
-use Rattle.lq_app.specs.declared.small.item.Item.{Item}
+use Rattle.lq_straight.specs.declared.token.Span.{Span}
+use Rattle.lq_straight.specs.declared.item.Item.{Item}
 use Rattle.lq_app.specs.declared.small.scope.ScopeError.{ScopeError}
-use Rattle.lq_app.specs.Program.{IsProgram}
+use Rattle.lq_straight.specs.Program.{IsProgram}
 use Rattle.lq_app.proofs.Names.{program_ascii}
 use Rattle.lq_app.proofs.Running.{resolved_is_safe}
 use Rattle.lq_app.proofs.verdict.judge_program.Goals as goal
