@@ -10,3 +10,5 @@ pub mod Readings
 pub mod WholeNumbers
 pub mod NnfViews
 pub mod WholePoints
+pub mod FormSums
+pub mod RowLevels

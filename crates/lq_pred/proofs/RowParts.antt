@@ -44,7 +44,7 @@ ascends-filter p low (e ∷ es) h = by (p e) (ascends-filter p (suc e.0) es h.1)
     by true r = (h.0, r)
     by false r = let q = h.0 in weaken low (suc e.0) (filter p es) (omega (arith, q)) r
 
-entry-past : (low q : ℕ) (es : List (ℕ × ℤ)) → AscendsFrom low es → q < low → entry es q ≡ pos 0
+pub entry-past : (low q : ℕ) (es : List (ℕ × ℤ)) → AscendsFrom low es → q < low → entry es q ≡ pos 0
 entry-past low q [] h w = refl
 entry-past low q (e ∷ es) h w =
     let p = h.0 in

@@ -16,3 +16,4 @@ pub mod Truth
 pub mod Points
 pub mod Implication
 pub mod Literals
+pub mod RowMeaning

@@ -160,11 +160,11 @@ fn whole_constant(left: i128, right: i128, added: i128) -> Option<i128>
 /// table lacks are added to it, an inner one before the outer.
 #[tactic(auto, using(crate::proofs::Growing::growing))]
 pub fn gather(
+    alloc: Global,
     left: &Term,
     right: &Term,
     added: i128,
     equal: bool,
-    alloc: Global,
     table: &mut TermTable,
 ) -> Result<LinearRow, GatherError>
     ensures numbered { OnOk result (terms_of table.new ≡ numbered (numbered (terms_of table.old) (sum_of left.now)) (sum_of right.now)) }

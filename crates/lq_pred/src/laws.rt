@@ -1,8 +1,14 @@
-ghost use Rattle.std.specs.Prelude.{true, false, ◌≡◌};
+ghost use Rattle.std.specs.Prelude.{true, false, ◌≡◌, ◌↔◌, ℕ, Bool, List, IsTrue};
+ghost use Rattle.lq_linear.specs.Row.{Row, Valuation, level, RowHolds};
+ghost use Rattle.lq_pred.specs.declared.symbol.Symbol.{Symbol};
+ghost use Rattle.lq_pred.specs.Comparison.{Comparison, IsRowOf};
 ghost use Rattle.lq_pred.specs.Formula.{Formula};
 ghost use Rattle.lq_pred.specs.Implication.{Implication, IsPoint, IsValid, EachTrueIn};
-ghost use Rattle.lq_pred.specs.Points.{Meets, point_of};
-ghost use Rattle.lq_pred.specs.Reading.{reading_of};
+ghost use Rattle.lq_pred.specs.Points.{Point, difference_at, ComparisonHolds, Meets, point_of};
+ghost use Rattle.lq_pred.specs.Reading.{Reading, reading_of, Gathers};
+ghost use Rattle.lq_pred.specs.RowMeaning.{AgreesOn, numbers_at, point_by, MeetsRows};
+ghost use Rattle.lq_pred.specs.Sum.{Sum};
+ghost use Rattle.lq_pred.specs.Table.{all_differ};
 ghost use Rattle.lq_pred.specs.Truth.{Meaning, IsTrueIn, truth_of};
 
 /// A predicate that is true of whole numbers has a tightened reading that holds at the point of these
@@ -13,4 +19,19 @@ pub fn whole_numbers_are_a_point()
     ensures fails { (m : Meaning) (p : Formula) → truth_of m p ≡ false → Meets (point_of m) (reading_of false p) }
     ensures point { (m : Meaning) (i : Implication) → IsPoint i (point_of m) }
     ensures valid { (m : Meaning) (i : Implication) → IsValid i → EachTrueIn m i.hypotheses → IsTrueIn m i.goal }
+{}
+
+/// The row of a comparison has the comparison's difference as its level, at any valuation that gives each
+/// numbered term its number at the point. So a reading of rows is met exactly where the reading of
+/// comparisons that it gathers is. Each point has such a valuation, and each valuation such a point.
+pub fn rows_say_what_comparisons_say()
+    ensures level { (terms : List Sum) (v : Valuation) (p : Point) (c : Comparison) (row : Row) → IsTrue (all_differ terms) → AgreesOn terms v p
+        → IsRowOf terms c row → level v row ≡ difference_at p c }
+    ensures row { (terms : List Sum) (v : Valuation) (p : Point) (c : Comparison) (row : Row) → IsTrue (all_differ terms) → AgreesOn terms v p
+        → IsRowOf terms c row → RowHolds v row ↔ ComparisonHolds p c }
+    ensures reading { (terms : List Sum) (v : Valuation) (p : Point) (reading : Reading Comparison) (rows : Reading Row) → IsTrue (all_differ terms) → AgreesOn terms v p
+        → Gathers terms reading rows → MeetsRows v p rows ↔ Meets p reading }
+    ensures valuation { (terms : List Sum) (p : Point) → AgreesOn terms (numbers_at terms p) p }
+    ensures point { (terms : List Sum) (v : Valuation) (holds : Symbol → Bool) (class_of : Sum → ℕ) → IsTrue (all_differ terms)
+        → AgreesOn terms v (point_by terms v holds class_of) }
 {}

@@ -16,7 +16,7 @@ mod tightening;
 
 pub use error::GatherError;
 pub use gathering::gather;
-pub use laws::whole_numbers_are_a_point;
+pub use laws::{rows_say_what_comparisons_say, whole_numbers_are_a_point};
 pub use lq_linear::{LinearEngine, LinearRow, LinearStop, Mark, Verdict};
 pub use lq_name::CompareOp;
 pub use nnf::{Nnf, Nnfs};

@@ -22,6 +22,36 @@ pub enum Pred {
     Iff(Box<Pred>, Box<Pred>),
 }
 
+impl Pred {
+    ghost use Rattle.lq_pred.specs.PredView.{formula_of};
+
+    /// An equal predicate.
+    #[cycle(copy)]
+    pub fn copy(&self, alloc: Global) -> Result<Pred, AllocError>
+        ensures { IfOk result (λ pred. formula_of pred ≡ formula_of self.now) }
+    {
+        match self {
+            Pred::True => Ok(Pred::True),
+            Pred::False => Ok(Pred::False),
+            Pred::Flag(x) => Ok(Pred::Flag(*x)),
+            Pred::Compare(op, a, b) => Ok(Pred::Compare(*op, a.copy(alloc)?, b.copy(alloc)?)),
+            Pred::Same(a, b) => Ok(Pred::Same(a.copy(alloc)?, b.copy(alloc)?)),
+            Pred::Not(p) => Ok(Pred::Not(p.boxed(alloc)?)),
+            Pred::And(p, q) => Ok(Pred::And(p.boxed(alloc)?, q.boxed(alloc)?)),
+            Pred::Or(p, q) => Ok(Pred::Or(p.boxed(alloc)?, q.boxed(alloc)?)),
+            Pred::Iff(p, q) => Ok(Pred::Iff(p.boxed(alloc)?, q.boxed(alloc)?)),
+        }
+    }
+
+    #[cycle(copy)]
+    fn boxed(&self, alloc: Global) -> Result<Box<Pred>, AllocError>
+        ensures { IfOk result (λ b. formula_of b.value ≡ formula_of self.now) }
+    {
+        let copied = self.copy(alloc)?;
+        Ok(Box::new(alloc, copied)?)
+    }
+}
+
 /// Predicates in a row.
 #[derive(Debug, Drop)]
 pub struct Preds {
@@ -29,7 +59,8 @@ pub struct Preds {
 }
 
 impl Preds {
-    ghost use Rattle.lq_pred.specs.PredView.{pred_items};
+    ghost use Rattle.std.specs.Prelude.{map};
+    ghost use Rattle.lq_pred.specs.PredView.{formula_of, pred_items};
 
     pub fn new(alloc: Global) -> Result<Preds, AllocError>
         ensures { IfOk result (λ preds. pred_items preds ≡ []) }
@@ -57,6 +88,17 @@ impl Preds {
     {
         self.items.push(pred)?;
         Ok(())
+    }
+
+    /// Equal predicates in the same order.
+    pub fn copy(&self, alloc: Global) -> Result<Preds, AllocError>
+        ensures { IfOk result (λ preds. map formula_of (pred_items preds) ≡ map formula_of (pred_items self.now)) }
+    {
+        let mut copied = Vec::new(alloc);
+        for pred in &self.items {
+            copied.push(pred.copy(alloc)?)?;
+        }
+        Ok(Preds { items: copied })
     }
 }
 

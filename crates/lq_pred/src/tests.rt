@@ -128,7 +128,7 @@ fn show(nnf: &Nnf, out: &mut String) -> Made<()> {
 fn reading(alloc: Global, pred: Made<Pred>) -> Made<String> {
     let mut table = TermTable::new(alloc)?;
     let mut out = String::new(alloc);
-    match tighten(&pred?, true, alloc, &mut table) {
+    match tighten(alloc, &pred?, true, &mut table) {
         Ok(nnf) => show(&nnf, &mut out)?,
         Err(GatherError::Past) => out.push_str("past")?,
         Err(GatherError::Memory) => out.push_str("memory")?,
@@ -375,7 +375,7 @@ fn edges_of_128_bits(rt: HostRuntime) -> Result<(), Fail> {
     let back = sub(m, add(m, mul(m, n(GREATEST), var(0)), var(0)), var(0));
     reads(&rt, m, compare(le, back, n(0)), "past")?;
     let mut table = TermTable::new(m)?;
-    let row = gather(&n(0)?, &n(LEAST)?, -1, false, m, &mut table)?;
+    let row = gather(m, &n(0)?, &n(LEAST)?, -1, false, &mut table)?;
     assert_eq!(rt; row.constant(), GREATEST);
     Ok(())
 }
@@ -384,7 +384,7 @@ fn edges_of_128_bits(rt: HostRuntime) -> Result<(), Fail> {
 fn tables_and_lists(rt: HostRuntime) -> Result<(), Fail> {
     let m = rt.alloc();
     let mut table = TermTable::new(m)?;
-    let row = gather(&var(0)?, &var(1)?, 0, true, m, &mut table)?;
+    let row = gather(m, &var(0)?, &var(1)?, 0, true, &mut table)?;
     assert_eq!(rt; row.parts().len(), 2);
     assert_eq!(rt; table.len(), 2);
     assert!(rt; *table.term(1) == var(1)?);

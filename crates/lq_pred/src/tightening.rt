@@ -25,9 +25,9 @@ use std::alloc::{AllocError, Global};
 /// leave to their prover, 2008.)
 #[tactic(auto, using(crate::proofs::Growing::growing))]
 pub fn tighten(
+    alloc: Global,
     pred: &Pred,
     positive: bool,
-    alloc: Global,
     table: &mut TermTable,
 ) -> Result<Nnf, GatherError>
     ensures numbered { OnOk result (terms_of table.new ≡ formula_numbered (terms_of table.old) (formula_of pred.now)) }
@@ -46,22 +46,22 @@ pub fn tighten(
             let second = right.copy(alloc)?;
             Ok(Nnf::Same(first, second, positive))
         }
-        Pred::Not(inner) => tighten(inner, !positive, alloc, table),
+        Pred::Not(inner) => tighten(alloc, inner, !positive, table),
         Pred::And(left, right) => {
-            let first = tighten(left, positive, alloc, table)?;
-            let second = tighten(right, positive, alloc, table)?;
+            let first = tighten(alloc, left, positive, table)?;
+            let second = tighten(alloc, right, positive, table)?;
             Ok(joined(positive, first, second, alloc)?)
         }
         Pred::Or(left, right) => {
-            let first = tighten(left, positive, alloc, table)?;
-            let second = tighten(right, positive, alloc, table)?;
+            let first = tighten(alloc, left, positive, table)?;
+            let second = tighten(alloc, right, positive, table)?;
             Ok(joined(!positive, first, second, alloc)?)
         }
         Pred::Iff(left, right) => {
-            let yes = tighten(left, true, alloc, table)?;
-            let no = tighten(left, false, alloc, table)?;
-            let same = tighten(right, positive, alloc, table)?;
-            let other = tighten(right, !positive, alloc, table)?;
+            let yes = tighten(alloc, left, true, table)?;
+            let no = tighten(alloc, left, false, table)?;
+            let same = tighten(alloc, right, positive, table)?;
+            let other = tighten(alloc, right, !positive, table)?;
             let both = joined(true, yes, same, alloc)?;
             let neither = joined(true, no, other, alloc)?;
             Ok(joined(false, both, neither, alloc)?)
@@ -194,5 +194,5 @@ fn read_row(
     ensures past { IsErrOf result GatherError.Past → CanGather (comparison (sum_of left.now) (sum_of right.now) added equal) → ⊥ }
     ensures grows { Extends (terms_of table.old) (terms_of table.new) }
 {
-    Ok(Nnf::Row(gather(left, right, added, equal, alloc, table)?))
+    Ok(Nnf::Row(gather(alloc, left, right, added, equal, table)?))
 }

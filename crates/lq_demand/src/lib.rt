@@ -1,0 +1,9 @@
+//! Straight-line lists of what is known and what is asked: their demands, asked in order by the table
+//! of difference rows.
+#![tactic(auto)]
+
+mod lines;
+mod solve;
+mod stage;
+
+pub use lines::{Line, Lines};

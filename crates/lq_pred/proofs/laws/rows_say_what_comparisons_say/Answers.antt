@@ -1,0 +1,17 @@
+use Rattle.lq_pred.proofs.RowLevels.{row_level, row_holds, reading_meets, numbers_agree, point_agrees}
+use Rattle.lq_pred.proofs.laws.rows_say_what_comparisons_say.Goals as goal
+
+pub returns-clause-level : goal.returns-clause-level
+returns-clause-level c = row_level
+
+pub returns-clause-row : goal.returns-clause-row
+returns-clause-row c = row_holds
+
+pub returns-clause-reading : goal.returns-clause-reading
+returns-clause-reading c = λ terms v p reading rows d g h. reading_meets terms v p d g reading rows h
+
+pub returns-clause-valuation : goal.returns-clause-valuation
+returns-clause-valuation c = numbers_agree
+
+pub returns-clause-point : goal.returns-clause-point
+returns-clause-point c = point_agrees
