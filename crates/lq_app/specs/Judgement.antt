@@ -23,12 +23,16 @@ use Rattle.lq_app.specs.declared.verdict.Refusal.{Refusal}
 use Rattle.lq_app.specs.declared.verdict.Refusal.TheVariants.{Code, Memory}
 use Rattle.lq_app.specs.Texts.{fraction_text, past_text, term_text, formula_text}
 
--- the program that the text is, with its names bound
+-- the text is the program of these items, and these are they with their names bound
+pub record IsBoundAs (text : List ℕ) (items : List (Item Span)) (scoped : List (Item Binder)) : Type 0 where
+  pub program : IsProgram text items
+  pub resolves : Resolves text items scoped
+
+-- the program that the text is
 pub record Bound (text : List ℕ) : Type 0 where
   pub items : List (Item Span)
   pub scoped : List (Item Binder)
-  pub program : IsProgram text items
-  pub resolves : Resolves text items scoped
+  pub bound : IsBoundAs text items scoped
 
 -- what the program demands
 abbrev pub demands : {text : List ℕ} → Bound text → List Implication
@@ -41,12 +45,14 @@ pub record IsAccepted (text : List ℕ) : Type 0 where
   pub valid : All IsValid (demands of)
   pub safe : IsSafe of.scoped
 
-abbrev pub demand_line : ℕ → ℕ → ℕ → List ℕ
-demand_line number line column = codes "demand " ++ decimal (number + 1) ++ codes " at " ++ decimal line ++ codes ":" ++ decimal column ++ codes ": assertion\n"
+-- the first line and the line on a demand, counted from 0
+abbrev pub head_lines : List ℕ → ℕ → ℕ → ℕ → List ℕ
+head_lines first number line column =
+    first ++ codes "demand " ++ decimal (number + 1) ++ codes " at " ++ decimal line ++ codes ":" ++ decimal column ++ codes ": assertion\n"
 
--- the line on a demand, counted from 0, whose assertion stands at this offset
-abbrev pub demand_at : List ℕ → ℕ → ℕ → List ℕ
-demand_at text number at = demand_line number (line_of text at) (column_of text at)
+-- the same for a demand whose assertion stands at this offset
+abbrev pub head_at : List ℕ → List ℕ → ℕ → ℕ → List ℕ
+head_at first text number at = head_lines first number (line_of text at) (column_of text at)
 
 -- a line for each term, with its number at the point in lowest terms
 abbrev pub ShowsPoint : List ℕ → List (Item Span) → Point → List Term → List ℕ → Type 0
@@ -58,15 +64,14 @@ ShowsPoint text items p (t ∷ ts) lines =
 -- All literals can be gathered, the demand is the first that isn't valid, and the report shows a point at which it fails.
 pub record IsRejected (text report : List ℕ) : Type 0 where
   pub of : Bound text
-  pub gathered : All CanBeGathered (demands of)
   pub number : ℕ
   pub point : Point
   pub first : IsFirstFailing (demands of) number point
   pub assertion : Assertion Binder
   pub asserted : slice_get (assertions_of of.scoped) number ≡ Some assertion
   pub lines : List ℕ
-  pub shows : ShowsPoint text of.items point (terms_in first.implication) lines
-  pub written : report ≡ codes "rejected\n" ++ demand_at text number assertion.at ++ lines
+  pub shows : ShowsPoint text of.items point (terms_in first.failing) lines
+  pub written : report ≡ head_at (codes "rejected\n") text number assertion.at ++ lines
 
 -- The demand is the first with a literal that can't be gathered, and the report has the first such comparison.
 pub record IsUngathered (text report : List ℕ) : Type 0 where
@@ -76,20 +81,19 @@ pub record IsUngathered (text report : List ℕ) : Type 0 where
   pub first : IsFirstUngathered (demands of) number formula
   pub assertion : Assertion Binder
   pub asserted : slice_get (assertions_of of.scoped) number ≡ Some assertion
-  pub written : report ≡ codes "undecided\n" ++ demand_at text number assertion.at ++ codes "number past in " ++ formula_text text of.items formula ++ codes "\n"
+  pub written : report ≡ head_at (codes "undecided\n") text number assertion.at ++ codes "number past in " ++ formula_text text of.items formula ++ codes "\n"
 
 -- All literals can be gathered, the demands before this one are valid, and the sizes of its constants sum to 2 ^ 126 or more. The
 -- report has an operation on two fractions whose result has no form within 128 bits.
 pub record IsPastNumber (text report : List ℕ) : Type 0 where
   pub of : Bound text
-  pub gathered : All CanBeGathered (demands of)
   pub number : ℕ
-  pub large : IsFirstLarge (demands of) number
+  pub first : IsFirstLarge (demands of) number
   pub past : NumberPast
   pub is_past : IsPast past
   pub assertion : Assertion Binder
   pub asserted : slice_get (assertions_of of.scoped) number ≡ Some assertion
-  pub written : report ≡ codes "undecided\n" ++ demand_at text number assertion.at ++ codes "number past " ++ past_text past ++ codes "\n"
+  pub written : report ≡ head_at (codes "undecided\n") text number assertion.at ++ codes "number past " ++ past_text past ++ codes "\n"
 
 -- the text is no program
 abbrev pub IsUnbuilt : List ℕ → Type 0
@@ -133,8 +137,8 @@ pub record DifferInPoints (report other : List ℕ) : Type 0 where
   pub column : ℕ
   pub lines : List ℕ
   pub others : List ℕ
-  pub written : report ≡ codes "rejected\n" ++ demand_line number line column ++ lines
-  pub also : other ≡ codes "rejected\n" ++ demand_line number line column ++ others
+  pub written : report ≡ head_lines (codes "rejected\n") number line column ++ lines
+  pub also : other ≡ head_lines (codes "rejected\n") number line column ++ others
 
 -- they are one, but for the point that is shown
 abbrev pub Agree : Result Judgement Refusal → Result Judgement Refusal → Type 0

@@ -1,5 +1,6 @@
 -- How numbers, names and comparisons are written.
-use Rattle.std.specs.Prelude.{ℕ, ℤ, ◌==◌, nat_lt, List, [], ◌++◌, Option, Some, None, slice_get, codes, decimal, signed_decimal, if◌then◌else◌}
+use Rattle.std.specs.Prelude.{ℕ, ℤ, ◌==◌, nat_lt, List, [], ◌++◌, Option, Some, None, slice_get, codes, decimal, if◌then◌else◌}
+use Rattle.std.specs.Fmt.{signed_decimal}
 use Rattle.lq_num.specs.declared.frac.Frac.{Frac}
 use Rattle.lq_num.specs.Value.{numer_of, denom_of}
 use Rattle.lq_num.specs.declared.past.NumOp.{NumOp}

@@ -3,7 +3,7 @@ use Rattle.lq_app.proofs.Determined.{exact, usage_due, failure_due}
 use Rattle.lq_app.proofs.run.run_words.Goals as goal
 
 pub returns-clause-exact : goal.returns-clause-exact
-returns-clause-exact g c = λ held due report told low is. exact c.args.words.now (visit g.F.Folder.files g.F.Folder.absents g.F.Folder.failures c.args.folder.now c.run.new.folder) held (g.K.Sink.taken c.args.out.now) (g.K.Sink.taken c.run.new.out) c.run.result due report c.run.ensures.report told low is
+returns-clause-exact g c = λ held due report told low is. exact c.one_judgement.ensures c.args.words.now (visit g.F.Folder.files g.F.Folder.absents g.F.Folder.failures c.args.folder.now c.run.new.folder) held (g.K.Sink.taken c.args.out.now) (g.K.Sink.taken c.run.new.out) c.run.result due report c.run.ensures.report told low is
 
 pub returns-clause-only_usage : goal.returns-clause-only_usage
 returns-clause-only_usage g c = λ none. usage_due c.args.words.now (visit g.F.Folder.files g.F.Folder.absents g.F.Folder.failures c.args.folder.now c.run.new.folder) (g.K.Sink.taken c.args.out.now) (g.K.Sink.taken c.run.new.out) c.run.result c.run.ensures.report none
