@@ -18,3 +18,6 @@ pub use parse::{ReadError, read_program};
 pub use place::place_of;
 pub use scope::{ScopeError, name_bytes, resolve};
 pub use token::Span;
+
+#[cfg(test)]
+mod tests;
