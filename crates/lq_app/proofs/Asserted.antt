@@ -1,6 +1,5 @@
 -- A demand for each assertion.
 use Rattle.std.specs.Prelude.{slice_get}
-use Rattle.std.specs.List.{filter_map}
 use Rattle.std.proofs.Common.{◌≡◌, ℕ, zero, suc, ◌<◌, false, List, [], ◌∷◌, ◌++◌, length, All, Some, refl, sym, ap, arith}
 use Rattle.std.proofs.lemmas.List.Elements.{All-head, All-tail, All-nil, All-cons}
 use Rattle.lq_name.specs.declared.name.Binder.{Binder}
@@ -15,7 +14,7 @@ use Rattle.lq_straight.specs.declared.item.Order.TheVariants.{Less, AtMost, Grea
 use Rattle.lq_straight.specs.declared.item.Assertion.{Assertion}
 use Rattle.lq_straight.specs.declared.item.Item.{Item}
 use Rattle.lq_straight.specs.declared.item.Item.TheVariants as item
-use Rattle.lq_straight.specs.Demands.{term_of, op_of, goal_of, with_definition, implications_from, implications_of, assertions_of}
+use Rattle.lq_straight.specs.Demands.{term_of, op_of, goal_of, with_definition, implications_from, assertions_of}
 
 pub asserted_at : (known : List Formula) (items : List (Item Binder)) (k : ℕ) (i : Implication) → slice_get (implications_from known items) k ≡ Some i → (a : Assertion Binder) × (slice_get (assertions_of items) k ≡ Some a)
 asserted_at known [] k i is = absurd cc

@@ -10,7 +10,7 @@ use Rattle.lq_app.specs.declared.status.Status.{Status}
 use Rattle.lq_app.specs.declared.status.Status.TheVariants.{Good, Rejected, Undecided, Refused, Usage, File, SinkFault, Memory}
 use Rattle.lq_app.specs.Ends.{Ends, WritesAll}
 use Rattle.lq_app.specs.Command.{file_named, usage_line}
-use Rattle.lq_app.specs.Judgement.{IsAccepted, IsRejected, IsUngathered, IsPastNumber, IsRefused, IsJudgement, IsByNumber, DifferInPoints, Agree, IsOneJudgement}
+use Rattle.lq_app.specs.Judgement.{IsPastNumber, IsJudgement, IsByNumber, Agree, IsOneJudgement}
 use Rattle.lq_app.specs.Report.{Visit, IsHanded, IsFileFault, IsVerdict, IsDue, IsByNumberHere, SameReport, IsDetermined}
 
 -- what is held under the name that was named

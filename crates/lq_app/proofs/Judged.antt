@@ -1,6 +1,6 @@
 -- Two judgements that are due agree.
 use Rattle.std.specs.Prelude.{slice_get, codes, false}
-use Rattle.std.proofs.Common.{◌≡◌, ◌⊎◌, inl, inr, ⊎_elim, ℕ, zero, suc, ◌<◌, ◌^◌, ◌++◌, List, [], ◌∷◌, take, All, Some, Result, Ok, Err, refl, sym, ap, subst, ◌∙◌, arith, append_assoc}
+use Rattle.std.proofs.Common.{◌≡◌, ◌⊎◌, inl, inr, ⊎_elim, ℕ, zero, suc, ◌<◌, ◌^◌, ◌++◌, List, [], ◌∷◌, take, All, Some, Result, Ok, Err, sym, ap, subst, ◌∙◌, arith}
 use Rattle.std.proofs.lemmas.Bool.{cases_lt}
 use Rattle.std.proofs.lemmas.List.Elements.{All-head, All-tail}
 use Rattle.lq_name.specs.declared.name.Binder.{Binder}
@@ -10,11 +10,11 @@ use Rattle.lq_pred.specs.Comparison.{CanGather}
 use Rattle.lq_pred.specs.Reading.{reading_of, AllFitIn}
 use Rattle.lq_pred.specs.Literals.{negative, literals_of}
 use Rattle.lq_pred.specs.Implication.{Implication, IsValid}
-use Rattle.lq_demand.specs.Answer.{CanBeGathered, sizes_of, IsFirstFailing, IsFirstUngathered, IsFirstLarge}
+use Rattle.lq_demand.specs.Answer.{CanBeGathered, sizes_of, IsFirstFailing, IsFirstUngathered}
 use Rattle.lq_straight.specs.declared.token.Span.{Span}
 use Rattle.lq_straight.specs.declared.item.Item.{Item}
 use Rattle.lq_straight.specs.declared.item.Assertion.{Assertion}
-use Rattle.lq_straight.specs.Program.{IsProgram, IsOneProgram}
+use Rattle.lq_straight.specs.Program.{IsOneProgram}
 use Rattle.lq_straight.specs.Places.{line_of, column_of}
 use Rattle.lq_straight.specs.Scope.{Resolves, IsFirstUnknown, IsOneScope, IsOneUnknown, IsUnknownOrResolved}
 use Rattle.lq_straight.specs.Demands.{goal_of, implications_of, assertions_of}
@@ -22,7 +22,7 @@ use Rattle.lq_app.specs.declared.verdict.Judgement.{Judgement}
 use Rattle.lq_app.specs.declared.verdict.Refusal.{Refusal}
 use Rattle.lq_app.specs.declared.verdict.Judgement.TheVariants.{Accepted, Rejected, Undecided}
 use Rattle.lq_app.specs.declared.verdict.Refusal.TheVariants.{Code, Memory}
-use Rattle.lq_app.specs.Judgement.{Bound, demands, IsAccepted, IsRejected, IsUngathered, IsPastNumber, IsRefused, IsJudgement, IsByNumber, HasSmallDemands, DifferInPoints, Agree, IsOneJudgement, head_at, unknown_line}
+use Rattle.lq_app.specs.Judgement.{Bound, demands, IsAccepted, IsRejected, IsUngathered, IsPastNumber, IsRefused, IsJudgement, HasSmallDemands, DifferInPoints, IsOneJudgement, head_at, unknown_line}
 use Rattle.lq_app.specs.Texts.{formula_text}
 use Rattle.lq_app.proofs.Asserted.{goal_at, goal_literals, goal_fits}
 

@@ -1,8 +1,7 @@
 -- The steps of a straight-line program are plain, and make its demands.
 use Rattle.std.specs.Prelude.{ℤ, pos, ◌+ℤ◌, ◌-ℤ◌, neg_ℤ, FitsSigned, slice_get}
 use Rattle.std.specs.Int.{w128}
-use Rattle.std.specs.List.{flat_map}
-use Rattle.std.proofs.Common.{◌≡◌, ℕ, zero, suc, ◌+◌, ◌<◌, ◌^◌, Bool, true, false, cond, List, [], ◌∷◌, ◌++◌, map, take, length, get_or, All, Some, refl, sym, ap, subst, ◌∙◌, arith}
+use Rattle.std.proofs.Common.{◌≡◌, ℕ, zero, suc, ◌+◌, ◌<◌, ◌^◌, Bool, true, false, cond, List, [], ◌∷◌, ◌++◌, take, length, get_or, All, Some, refl, sym, ap, subst, ◌∙◌, arith}
 use Rattle.std.proofs.lemmas.Int.{ints}
 use Rattle.std.proofs.lemmas.List.{append-nil, take_more, take_all}
 use Rattle.std.proofs.lemmas.List.Elements.{All-append, All-nil, All-cons}
@@ -10,24 +9,22 @@ use Rattle.std.proofs.lemmas.Grind.{flat_map-append}
 use Rattle.lq_name.specs.declared.name.Binder.{Binder}
 use Rattle.lq_name.specs.declared.operation.CompareOp.TheVariants.{Eq}
 use Rattle.lq_pred.specs.declared.symbol.Symbol.TheVariants.{Bound}
-use Rattle.lq_pred.specs.Sum.{Sum as Term, whole, var, add, sub, same}
-use Rattle.lq_pred.specs.LinearForm.{one_at, coefficient, constant_of, HasFit, IsFit}
-use Rattle.lq_pred.specs.Comparison.{Comparison, comparison, row_constant, row_coefficient, CanGather}
+use Rattle.lq_pred.specs.Sum.{Sum as Term, var, same}
+use Rattle.lq_pred.specs.LinearForm.{IsFit}
+use Rattle.lq_pred.specs.Comparison.{comparison, row_constant, row_coefficient, CanGather}
 use Rattle.lq_pred.specs.Formula.{Formula, compare}
 use Rattle.lq_demand.specs.Straight.{Step, assume, demand, implications_after, implications_of}
 use Rattle.lq_demand.specs.Plain.{IsPlain, IsOneRow, IsPlainStep}
 use Rattle.lq_straight.specs.declared.item.Sum.{Sum}
 use Rattle.lq_straight.specs.declared.item.Sum.TheVariants as sum
-use Rattle.lq_straight.specs.declared.item.Right.{Right}
 use Rattle.lq_straight.specs.declared.item.Right.TheVariants as right
 use Rattle.lq_straight.specs.declared.item.Order.{Order}
 use Rattle.lq_straight.specs.declared.item.Order.TheVariants.{Less, AtMost, Greater, AtLeast}
-use Rattle.lq_straight.specs.declared.item.Assertion.{Assertion}
 use Rattle.lq_straight.specs.declared.item.Item.{Item}
 use Rattle.lq_straight.specs.declared.item.Item.TheVariants as item
-use Rattle.lq_straight.specs.Program.{IsSmallSum, IsSmallRight, IsSmallItem, AreSmall}
+use Rattle.lq_straight.specs.Program.{IsSmallSum, IsSmallItem, AreSmall}
 use Rattle.lq_straight.specs.Demands.{term_of, op_of, goal_of, with_definition, implications_from, implications_of as demands_of}
-use Rattle.lq_app.specs.Steps.{definition_steps, item_steps, steps_in}
+use Rattle.lq_app.specs.Steps.{item_steps, steps_in}
 
 -- the numbers on the way are within 128 bits
 whole_fits : (n : ℕ) → n < 2 ^ 127 → FitsSigned w128 (pos n)

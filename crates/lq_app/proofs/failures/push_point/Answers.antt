@@ -1,5 +1,5 @@
 use Rattle.std.specs.Prelude.{slice_get}
-use Rattle.std.proofs.Common.{◌≡◌, ◌+◌, ◌++◌, ◌∷◌, [], ℕ, ℤ, List, Some, sym, ap, subst, ◌∙◌, append_assoc}
+use Rattle.std.proofs.Common.{◌≡◌, ◌++◌, ℕ, List, Some, sym, ap, subst, ◌∙◌, append_assoc}
 use Rattle.lq_math.specs.Rational.{ℚ}
 use Rattle.lq_math.specs.LowestTerms.{IsLowest}
 use Rattle.lq_num.specs.Value.{numer_of, denom_of, lowest_of}

@@ -1,13 +1,12 @@
-use Rattle.std.proofs.Common.{◌≡◌, ◌++◌, ℕ, List, length, take, get_or, All, arith, sym, ap, subst, ◌∙◌}
+use Rattle.std.proofs.Common.{◌++◌, List, get_or, All, arith, sym, ap, subst, ◌∙◌}
 use Rattle.std.proofs.lemmas.Option.{slice_get-get_or}
 use Rattle.lq_name.specs.declared.name.Binder.{Binder}
 use Rattle.lq_demand.specs.Straight.{Step, implications_of}
-use Rattle.lq_demand.specs.LinesView.{steps_of}
 use Rattle.lq_demand.specs.Plain.{IsPlainStep}
 use Rattle.lq_straight.specs.declared.item.Right.TheVariants as right
 use Rattle.lq_straight.specs.declared.item.Item.{Item}
 use Rattle.lq_straight.specs.declared.item.Item.TheVariants as item
-use Rattle.lq_app.specs.Steps.{item_steps, steps_in}
+use Rattle.lq_app.specs.Steps.{item_steps}
 use Rattle.lq_app.proofs.Plain.{steps_plain, steps_demand, steps_more, steps_all, small_at}
 use Rattle.lq_app.proofs.steps.lines_of.Goals as goal
 

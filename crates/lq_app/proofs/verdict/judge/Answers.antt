@@ -1,11 +1,5 @@
-use Rattle.std.specs.Prelude.{◌≤◌, ◌<◌, ◌^◌}
-use Rattle.std.proofs.Common.{◌≡◌, ◌⊎◌, inl, inr, ⊎_elim, List, ℕ, Result, Ok, Err, sym, subst, arith}
-use Rattle.lq_demand.specs.Answer.{sizes_of}
-use Rattle.lq_app.specs.declared.verdict.Judgement.{Judgement}
+use Rattle.std.proofs.Common.{inl, inr, ⊎_elim}
 use Rattle.lq_app.specs.declared.verdict.Judgement.TheVariants.{Accepted, Rejected, Undecided}
-use Rattle.lq_app.specs.declared.verdict.Refusal.{Refusal}
-use Rattle.lq_app.specs.declared.verdict.Refusal.TheVariants.{Memory}
-use Rattle.lq_app.specs.Judgement.{IsJudgement}
 use Rattle.lq_app.proofs.Judged.{judged_is, decided_is}
 use Rattle.lq_app.proofs.verdict.judge.Goals as goal
 

@@ -1,8 +1,8 @@
-use Rattle.std.proofs.Common.{List, All, Ok, sym, ap, subst, ◌∙◌}
+use Rattle.std.proofs.Common.{List, All, Ok, ap, subst, ◌∙◌}
 use Rattle.lq_pred.specs.Implication.{Implication, IsValid}
 use Rattle.lq_pred.specs.declared.pred.Stop.{Stop}
 use Rattle.lq_demand.specs.declared.asking.Asked.{Asked}
-use Rattle.lq_demand.specs.declared.asking.Asked.TheVariants.{Fails, Stops}
+use Rattle.lq_demand.specs.declared.asking.Asked.TheVariants.{Stops}
 use Rattle.lq_demand.specs.Answer.{CanBeGathered, IsFirstLarge}
 use Rattle.lq_demand.specs.AskedView.{FailsAt}
 use Rattle.lq_app.proofs.verdict.judge_bound.Goals as goal

@@ -1,4 +1,4 @@
-use Rattle.std.proofs.Common.{List, Err, inr, refl, sym, ap, subst, ◌∙◌}
+use Rattle.std.proofs.Common.{List, Err, inr, refl, sym, ap, subst}
 use Rattle.lq_straight.specs.declared.token.Span.{Span}
 use Rattle.lq_straight.specs.declared.item.Item.{Item}
 use Rattle.lq_straight.specs.declared.scope.ScopeError.{ScopeError}

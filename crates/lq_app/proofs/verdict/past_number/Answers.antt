@@ -1,5 +1,5 @@
 use Rattle.std.specs.Prelude.{codes}
-use Rattle.std.proofs.Common.{◌≡◌, ◌++◌, inr, [], ℕ, sym, ap, ◌∙◌, arith}
+use Rattle.std.proofs.Common.{◌++◌, inr, [], ℕ, sym, ap, ◌∙◌, arith}
 use Rattle.lq_app.specs.Texts.{past_text}
 use Rattle.lq_app.specs.Judgement.{head_at}
 use Rattle.lq_app.proofs.Asserted.{below}

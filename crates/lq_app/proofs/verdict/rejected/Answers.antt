@@ -1,5 +1,5 @@
 use Rattle.std.specs.Prelude.{codes}
-use Rattle.std.proofs.Common.{◌≡◌, ◌++◌, [], ℕ, List, sym, ap, subst, ◌∙◌, arith}
+use Rattle.std.proofs.Common.{◌++◌, [], ℕ, List, sym, ap, subst, ◌∙◌, arith}
 use Rattle.lq_pred.specs.Sum.{Sum as Term}
 use Rattle.lq_demand.specs.PointView.{point_seen}
 use Rattle.lq_app.specs.Judgement.{head_at, ShowsPoint}
