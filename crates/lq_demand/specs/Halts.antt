@@ -23,6 +23,11 @@ pub record IsFirstUndecided (ps : List Problem) (k : ℕ) : Type 0 where
   pub before : NoneBefore ps k
   pub sized : 2 ^ 126 ≤ problem_sizes problem
 
+-- this stage halts, by a problem whose sizes sum to n
+abbrev pub HaltsAt : ℕ → ℕ → Halt → Type 0
+HaltsAt k n (Number j e) = (j ≡ k) × IsPast e × (2 ^ 126 ≤ n)
+HaltsAt k n OutOfMemory = Unit {0}
+
 abbrev pub HaltsBy : List Problem → Halt → Type 0
 HaltsBy ps (Number k e) = IsPast e × IsFirstUndecided ps k
 HaltsBy ps OutOfMemory = Unit {0}

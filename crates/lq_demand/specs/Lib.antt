@@ -3,3 +3,8 @@ pub mod LinesView
 pub mod Problem
 pub mod Halts
 pub mod Plain
+pub mod Solution
+pub mod Gathered
+pub mod Answer
+pub mod Staging
+pub mod Closed

@@ -1,5 +1,5 @@
 -- Rows that are asked: those that are known, and that of a negated goal.
-use Rattle.std.specs.Prelude.{◌≡◌, ◌≢◌, ℕ, suc, zero, ◌+◌, ◌≤◌, List, [], ◌∷◌, ◌++◌, length, map, All, unsigned_abs}
+use Rattle.std.specs.Prelude.{◌≡◌, ◌≢◌, ℕ, suc, ◌+◌, List, [], ◌∷◌, ◌++◌, length, map, All, unsigned_abs}
 use Rattle.lq_linear.specs.Row.{Row, Valuation, RowHolds}
 use Rattle.lq_linear.specs.Contradiction.{Tagged}
 use Rattle.lq_linear.specs.Answers.{Stopped}
@@ -51,10 +51,14 @@ abbrev pub known_in : List Stage → List Row
 known_in [] = []
 known_in (s ∷ stages) = s.assumed.items ++ known_in stages
 
+-- the problem of a stage, with these rows known before
+abbrev pub problem_after : List Row → Stage → Problem
+problem_after known s = record { known = known ++ s.assumed.items; goal = s.goal }
+
 -- the problems of the stages, with these rows known before
 abbrev pub problems_after : List Row → List Stage → List Problem
 problems_after known [] = []
-problems_after known (s ∷ stages) = record { known = known ++ s.assumed.items; goal = s.goal } ∷ problems_after (known ++ s.assumed.items) stages
+problems_after known (s ∷ stages) = problem_after known s ∷ problems_after (known ++ s.assumed.items) stages
 
 abbrev pub problems_of : List Stage → List Problem
 problems_of stages = problems_after [] stages

@@ -2,7 +2,10 @@
 //! of difference rows.
 #![tactic(auto)]
 
+mod closed;
+mod gathered;
 mod lines;
+mod solution;
 mod solve;
 mod stage;
 

@@ -2,8 +2,10 @@
 use Rattle.std.specs.Prelude.{◌≡◌, ℕ, ℤ, pos, List, Option, Some, None, take, slice_get, ◌<◌, length, All}
 use Rattle.lq_math.specs.Rational.{ℚ, whole, ◌*ℚ◌}
 use Rattle.lq_num.specs.declared.frac.Frac.{Frac}
+use Rattle.lq_num.specs.declared.past.NumberPast.{NumberPast}
 use Rattle.lq_num.specs.declared.past.NumOp.{NumOp}
 use Rattle.lq_num.specs.declared.past.NumOp.TheVariants.{Add, Mul}
+use Rattle.lq_num.specs.Past.{IsPast}
 use Rattle.lq_num.specs.Value.{value_of}
 use Rattle.lq_linear.specs.Row.{Row, Valuation, sum_at}
 
@@ -26,3 +28,7 @@ pub data IsStep (v : Valuation) (row : Row) : NumOp → ℚ → ℚ → Type 0 w
   member_sum : (k term : ℕ) (coefficient : ℤ) → slice_get row.parts k ≡ Some (term, coefficient)
       → IsStep v row Add (sum_at v (take k row.parts)) (whole coefficient *ℚ v term)
   constant_sum : IsStep v row Add (sum_at v row.parts) (whole row.constant)
+
+-- none of these operations is past 128 bits
+abbrev pub IsFormed : Valuation → Row → Type 0
+IsFormed v row = (e : NumberPast) → IsStep v row e.op (value_of e.left) (value_of e.right) → ¬ IsPast e

@@ -1,6 +1,6 @@
 ghost use Rattle.std.specs.Prelude.{◌≡◌, IfOk, IfErr};
 ghost use Rattle.lq_linear.specs.Row.{level};
-ghost use Rattle.lq_linear.specs.Steps.{valuation_of, HasValues, IsStep};
+ghost use Rattle.lq_linear.specs.Steps.{valuation_of, HasValues, IsStep, IsFormed};
 ghost use Rattle.lq_num.specs.Past.{IsPast};
 ghost use Rattle.lq_num.specs.Value.{value_of};
 
@@ -12,6 +12,7 @@ use lq_num::{Frac, NumberPast};
 pub fn level_at(row: &LinearRow, values: &[Frac]) -> Result<Frac, NumberPast>
     requires { HasValues row.now values.now }
     ensures exact { IfOk result (λ f. value_of f ≡ level (valuation_of values.now) row.now) }
+    ensures formed { IfOk result (λ _. IsFormed (valuation_of values.now) row.now) }
     ensures past { IfErr result IsPast }
     ensures step { IfErr result (λ e. IsStep (valuation_of values.now) row.now e.op (value_of e.left) (value_of e.right)) }
 {

@@ -12,10 +12,9 @@ use Rattle.lq_pred.specs.SameLaws.{same-is}
 use Rattle.lq_pred.specs.Table.{has_term, all_differ, with_term, numbered, literal_of, by_factors, Extends}
 use Rattle.lq_pred.specs.LinearForm.{one_at, scaled, coefficient, constant_of}
 use Rattle.lq_pred.specs.Points.{Point, form_at, scaled_value}
-use Rattle.lq_pred.proofs.Growing.{Extends-trans}
-use Rattle.lq_pred.proofs.Numbering.{has_term-append, all_differ-with_term}
-use Rattle.lq_pred.proofs.Forms.{has_term-with_term}
-use Rattle.lq_pred.proofs.Again.{Extends-numbered}
+use Rattle.lq_pred.specs.Growing.{Extends-trans}
+use Rattle.lq_pred.specs.Numbering.{has_term-with_term, has_term-append, all_differ-with_term}
+use Rattle.lq_pred.specs.Again.{Extends-numbered}
 
 -- the sum of coefficients times numbers, over the terms of a list
 abbrev pub over : Point → (Sum → ℤ) → List Sum → ℚ

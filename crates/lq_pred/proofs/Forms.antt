@@ -1,19 +1,19 @@
 -- Forms of sums, from those of their operands.
 use Rattle.std.proofs.Common.{◌≡◌, ℕ, zero, suc, ℤ, pos, ◌≤◌, ◌==◌, length, length-append, List, [], ◌∷◌, ◌++◌, Bool, true, false, Option, Some, None, slice_get, ◌⊎◌, inl, inr, Result, Ok, Err, IfOk, OnOk, refl, sym, ap, ap₂, subst, ◌∙◌, FitsSigned, arith, if◌then◌else◌}
 use Rattle.std.proofs.Math.IntN.{◌+ℤ◌, ◌-ℤ◌, ◌*ℤ◌, negsuc}
-use Rattle.std.proofs.lemmas.Bool.{eq-eqb, ne_eqb, or_right}
+use Rattle.std.proofs.lemmas.Bool.{eq-eqb, ne_eqb}
 use Rattle.std.proofs.lemmas.Int.{ints}
 use Rattle.std.specs.Int.{w128}
 use Rattle.std.specs.BTreeMap.{BTreeMap}
 use Rattle.lq_pred.specs.Sum.{Sum, same}
 use Rattle.lq_pred.specs.SameLaws.{same-is, same-from}
-use Rattle.lq_pred.specs.Table.{has_term, index_of, all_differ, with_term, Extends}
+use Rattle.lq_pred.specs.Table.{has_term, index_of, all_differ, Extends}
 use Rattle.lq_pred.specs.LinearForm.{one_at, scaled, OnFactors, HasFit, IsFit, constant_of, coefficient}
 use Rattle.lq_pred.specs.Comparison.{Comparison, CanGather, IsRowOf, entry}
 use Rattle.lq_linear.specs.Row.{Row, IsRow}
 use Rattle.lq_pred.specs.FormOf.{at, AllFit, combined, CanCombine, IsCombined, FormFits, HasForm, IsFormOf}
 use Rattle.lq_pred.specs.declared.form.Form.{Form}
-use Rattle.lq_pred.proofs.Numbering.{index_of-append_present, index_of-append_absent, index_of-absent, index_of-present, index_of-slice_get, slice_get-index_of, has_term-here}
+use Rattle.lq_pred.specs.Numbering.{index_of-append_present, index_of-append_absent, index_of-absent, index_of-present, index_of-slice_get, slice_get-index_of}
 
 -- a form stays one where more terms are numbered
 pub grown : (old new : List Sum) (f : Form) (c : ℤ) (k : Sum → ℤ) → HasForm old f c k → Extends old new → HasForm new f c k
@@ -129,17 +129,6 @@ one_form terms f s i has is c k fits = record {
     by t false e =
         ap (λ b. if b then pos 1 else pos 0)
         (ne_eqb i (index_of terms t) (λ h. let w = number_alone terms s t has (sym is ∙ h) in let r = same-from s t w in cc (e, r)))
-
-pub has_term-with_term : (terms : List Sum) (t : Sum) → has_term (with_term terms t) t ≡ true
-has_term-with_term terms t = by (has_term terms t) refl
-  where
-    by : (b : Bool) → has_term terms t ≡ b → has_term (if b then terms else terms ++ t ∷ []) t ≡ true
-    by true e = e
-    by false e = has_last terms
-      where
-        has_last : (l : List Sum) → has_term (l ++ t ∷ []) t ≡ true
-        has_last [] = has_term-here t []
-        has_last (u ∷ l) = or_right (same t u) (has_term (l ++ t ∷ []) t) (has_last l)
 
 -- what fits of a sum or a difference, so that its operands' forms can be combined
 pub fit_parts : (subtract : Bool) (old terms : List Sum) (f g : Form) (c d : ℤ) (k l : Sum → ℤ) → all_differ terms ≡ true

@@ -5,7 +5,7 @@ use Rattle.std.proofs.lemmas.List.{map_push}
 use Rattle.lq_pred.specs.Sum.{Sum, same}
 use Rattle.lq_pred.specs.TermView.{sum_of}
 use Rattle.lq_pred.specs.Table.{has_term, index_of, with_term, all_differ}
-use Rattle.lq_pred.proofs.Numbering.{all_differ-with_term}
+use Rattle.lq_pred.specs.Numbering.{all_differ-with_term}
 use Rattle.lq_pred.specs.declared.term.Term.{Term}
 
 pub list_any-keys : (s : Sum) (keys : List Term) → list_any (λ k. same s (sum_of k)) keys ≡ has_term (map sum_of keys) s

@@ -1,10 +1,7 @@
 pub mod TermForms
-pub mod Numbering
 pub mod Keys
 pub mod Merging
-pub mod Growing
 pub mod Forms
-pub mod Again
 pub mod RowParts
 pub mod Readings
 pub mod WholeNumbers
@@ -12,3 +9,4 @@ pub mod NnfViews
 pub mod WholePoints
 pub mod FormSums
 pub mod RowLevels
+pub mod Each

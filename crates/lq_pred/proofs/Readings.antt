@@ -8,7 +8,7 @@ use Rattle.lq_pred.specs.Formula.{Formula, truth, falsity, flag, objects, conjun
 use Rattle.lq_pred.specs.declared.symbol.Symbol.{Symbol}
 use Rattle.lq_pred.specs.Reading.{Reading, Readings, flag_is, objects_are, all_of, any_of, none, more, pair_of, reading_of, Gathers, AllGather, gathers_yes, gathers_no, gathers_row, gathers_flag, gathers_objects, gathers_all, gathers_any, gather_none, gather_more, AllFitIn}
 use Rattle.lq_pred.specs.NnfView.{joined_reading, constant_reading}
-use Rattle.lq_pred.proofs.Numbering.{index_of-append_present, index_of-append_absent, index_of-absent}
+use Rattle.lq_pred.specs.Numbering.{index_of-append_present, index_of-append_absent, index_of-absent}
 
 pub row_grown : (old new : List Sum) (c : Comparison) (r : Row) → IsRowOf old c r → Extends old new → IsRowOf new c r
 row_grown old new c r h x = record {

@@ -1,7 +1,7 @@
 -- The level of a comparison's row is the difference of its sides, so a reading of rows is met exactly where that of comparisons is.
-use Rattle.std.proofs.Common.{◌≡◌, ◌≢◌, inl, inr, ℕ, suc, ℤ, pos, ◌+◌, ◌<◌, ◌≤◌, ◌==◌, length, List, [], ◌∷◌, ◌++◌, Bool, true, false, Some, All, MatchBool, slice_get, refl, sym, ap, ap₂, subst, ◌∙◌, arith, if◌then◌else◌}
+use Rattle.std.proofs.Common.{Option, None, zero, ◌≡◌, ◌≢◌, inl, inr, ℕ, suc, ℤ, pos, ◌+◌, ◌≤◌, ◌==◌, length, List, [], ◌∷◌, ◌++◌, Bool, true, false, Some, All, MatchBool, slice_get, refl, sym, ap, ap₂, subst, ◌∙◌, arith, if◌then◌else◌}
 use Rattle.std.proofs.Math.IntN.{◌-ℤ◌}
-use Rattle.std.proofs.lemmas.Bool.{eqb-true, eq-eqb, ne_eqb}
+use Rattle.std.proofs.lemmas.Bool.{eqb-true, eq-eqb}
 use Rattle.std.proofs.lemmas.List.Elements.{All-head, All-tail}
 use Rattle.lq_math.specs.Rational.{ℚ, whole as rational, ◌+ℚ◌, ◌-ℚ◌, ◌*ℚ◌}
 use Rattle.lq_math.specs.RationalOrder.{◌≤ℚ◌}
@@ -17,15 +17,11 @@ use Rattle.lq_pred.specs.Comparison.{Comparison, entry, row_coefficient, IsRowOf
 use Rattle.lq_pred.specs.Reading.{Reading, Readings, Gathers, AllGather, gathers_yes, gathers_no, gathers_row, gathers_flag, gathers_objects, gathers_all, gathers_any, gather_none, gather_more}
 use Rattle.lq_pred.specs.Points.{Point, difference_at, ComparisonHolds, Meets, MeetsAll, MeetsAny}
 use Rattle.lq_pred.specs.RowMeaning.{AgreesOn, numbers_at, number_or_zero, point_by, MeetsRows, MeetsAllRows, MeetsAnyRow}
-use Rattle.lq_pred.proofs.Numbering.{index_of-slice_get, index_of-present, index_of-absent, index_of-append_present}
-use Rattle.lq_pred.proofs.Growing.{Extends-trans, Extends-refl}
-use Rattle.lq_pred.proofs.Again.{Extends-numbered}
-use Rattle.lq_pred.proofs.RowParts.{entry-past}
+use Rattle.lq_pred.specs.Numbering.{index_of-slice_get, index_of-present, index_of-absent, index_of-append_present}
+use Rattle.lq_pred.specs.Growing.{Extends-trans, Extends-refl}
+use Rattle.lq_pred.specs.Again.{Extends-numbered}
+use Rattle.lq_pred.proofs.RowParts.{entry-below, entry-past, parts_once}
 use Rattle.lq_pred.proofs.FormSums.{over, over-zero, over-minus, form_sum, stands_numbered, all_differ-numbered}
-
--- what stands past the first pair
-entry-later : (e : ℕ × ℤ) (es : List (ℕ × ℤ)) (q : ℕ) → e.0 < q → entry (e ∷ es) q ≡ entry es q
-entry-later e es q h = ap (λ b. if b then e.1 else entry es q) (ne_eqb e.0 q (λ x. absurd (omega (arith, h, x))))
 
 entry-first : (e : ℕ × ℤ) (es : List (ℕ × ℤ)) (q : ℕ) → e.0 ≡ q → entry (e ∷ es) q ≡ e.1
 entry-first e es q h = ap (λ b. if b then e.1 else entry es q) (eq-eqb e.0 q h)
@@ -66,8 +62,8 @@ parts_sum v p F (t ∷ ts) low (e ∷ es) a z w f = by (e.0 == low) refl (parts_
     by true h here there =
         let same : e.0 ≡ low = eqb-true e.0 low h in
         let rest = here (subst (λ x. AscendsFrom (suc x) es) same a.1) (All-tail (λ part. part.1 ≢ pos 0) e es z)
-        (λ q g. sym (entry-later e es q (omega (arith, same, g))) ∙ w q (omega (arith, g)))
-        (λ k u g. let r = f (suc k) u g in (sym (entry-later e es (suc low + k) (omega (arith, same))) ∙ ap (entry (e ∷ es)) (next low k) ∙ r.0, ap v (next low k) ∙ r.1)) in
+        (λ q g. sym (entry-below e es q (omega (arith, same, g))) ∙ w q (omega (arith, g)))
+        (λ k u g. let r = f (suc k) u g in (sym (entry-below e es (suc low + k) (omega (arith, same))) ∙ ap (entry (e ∷ es)) (next low k) ∙ r.0, ap v (next low k) ∙ r.1)) in
         let first = f 0 t refl in
         let factor : e.1 ≡ F t = sym (entry-first e es (low + 0) (same ∙ sym (start low))) ∙ first.0 in
         let number : v e.0 ≡ p.number t = ap v (same ∙ sym (start low)) ∙ first.1 in
@@ -78,6 +74,11 @@ parts_sum v p F (t ∷ ts) low (e ∷ es) a z w f = by (e.0 == low) refl (parts_
         let nothing : F t ≡ pos 0 = sym ((f 0 t refl).0) ∙ ap (entry (e ∷ es)) (start low) ∙ entry-past (suc low) low (e ∷ es) (above, a.1) (omega arith) in
         without_pair p F t ts (sum_at v (e ∷ es)) nothing
         (there (above, a.1) z (λ q g. w q (omega (arith, g))) (λ k u g. let r = f (suc k) u g in (ap (entry (e ∷ es)) (next low k) ∙ r.0, ap v (next low k) ∙ r.1)))
+
+past_end : (ts : List Sum) (q : ℕ) → slice_get ts q ≡ None → length ts ≤ q
+past_end [] q h = omega arith
+past_end (t ∷ ts) zero h = cc
+past_end (t ∷ ts) (suc q) h = let k = past_end ts q h in omega (arith, k)
 
 slice_get-append_right : (xs ys : List Sum) (k : ℕ) → slice_get (xs ++ ys) (length xs + k) ≡ slice_get ys k
 slice_get-append_right [] ys k = ap (slice_get ys) (omega arith)
@@ -158,3 +159,18 @@ numbers_agree terms p k t h = ap (number_or_zero p) h
 
 pub point_agrees : (terms : List Sum) (v : Valuation) (holds : Symbol → Bool) (class_of : Sum → ℕ) → all_differ terms ≡ true → AgreesOn terms v (point_by terms v holds class_of)
 point_agrees terms v holds class_of d k t h = ap v (sym (index_of-slice_get terms k t d h))
+
+-- a comparison has one row
+pub row_once : (terms : List Sum) (c : Comparison) (row other : Row) → all_differ terms ≡ true → IsRowOf terms c row → IsRowOf terms c other → row ≡ other
+row_once terms c row other d r s =
+    let parts : row.parts ≡ other.parts =
+    parts_once 0 row.parts other.parts r.formed.ascending s.formed.ascending r.formed.nonzero s.formed.nonzero (λ q. same q (slice_get terms q) refl) in
+    let constant : row.constant ≡ other.constant = r.constant ∙ sym s.constant in
+    let equal : row.equal ≡ other.equal = r.equal ∙ sym s.equal in
+    λ i. record { parts = parts i; constant = constant i; equal = equal i }
+  where
+    same : (q : ℕ) (o : Option Sum) → slice_get terms q ≡ o → entry row.parts q ≡ entry other.parts q
+    same q None h = let past : length terms ≤ q = past_end terms q h in r.within q past ∙ sym (s.within q past)
+    same q (Some t) h =
+        let i : index_of terms t ≡ q = index_of-slice_get terms q t d h in
+        ap (entry row.parts) (sym i) ∙ r.coefficients t ∙ sym (s.coefficients t) ∙ ap (entry other.parts) i

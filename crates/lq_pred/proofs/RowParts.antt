@@ -1,13 +1,14 @@
 -- The coefficients of a form, as the parts of a row.
-use Rattle.std.proofs.Common.{◌≡◌, ◌≢◌, ℕ, suc, ℤ, pos, ◌<◌, ◌≤◌, ◌==◌, List, [], ◌∷◌, Bool, true, false, not, cond, filter, Some, unwrap_or, All, slice_index_or, refl, sym, ap, subst, ◌∙◌, arith, if◌then◌else◌}
+use Rattle.std.proofs.Common.{◌≡◌, ◌≢◌, ℕ, suc, ℤ, pos, ◌<◌, ◌≤◌, ◌==◌, nat_lt, List, [], ◌∷◌, Bool, true, false, not, cond, filter, Some, unwrap_or, All, slice_index_or, refl, sym, ap, ap₂, subst, ◌∙◌, arith, if◌then◌else◌}
 use Rattle.std.specs.Ordering.{nat_cmp, int_eq}
 use Rattle.std.specs.List.{AllByRecursion}
 use Rattle.std.specs.List.Sorted.{IsStrictlySortedBy}
 use Rattle.std.specs.Map.{keys_of, lookup}
 use Rattle.std.specs.BTreeMap.{BTreeMap, is_at, IsOrdered}
-use Rattle.std.specs.declared.cmp.Ordering.TheVariants.{Less}
-use Rattle.std.proofs.lemmas.Bool.{eqb-true, ne_eqb}
-use Rattle.std.proofs.lemmas.List.Elements.{filter_passes}
+use Rattle.std.specs.declared.cmp.Ordering.TheVariants.{Less, Equal, Greater}
+use Rattle.std.specs.declared.cmp.Ordering.{Ordering}
+use Rattle.std.proofs.lemmas.Bool.{eqb-true, eq-eqb, ne_eqb}
+use Rattle.std.proofs.lemmas.List.Elements.{filter_passes, All-head, All-tail}
 use Rattle.std.proofs.lemmas.Bool.Decides.{nat_tests, Decides-int_eq}
 use Rattle.lq_linear.specs.Row.{Row, AscendsFrom, IsRow}
 use Rattle.lq_pred.specs.Comparison.{entry}
@@ -43,6 +44,12 @@ ascends-filter p low (e ∷ es) h = by (p e) (ascends-filter p (suc e.0) es h.1)
     by : (b : Bool) → AscendsFrom (suc e.0) (filter p es) → AscendsFrom low (cond b (e ∷ filter p es) (filter p es))
     by true r = (h.0, r)
     by false r = let q = h.0 in weaken low (suc e.0) (filter p es) (omega (arith, q)) r
+
+pub entry-below : (e : ℕ × ℤ) (es : List (ℕ × ℤ)) (q : ℕ) → e.0 < q → entry (e ∷ es) q ≡ entry es q
+entry-below e es q h = ap (λ b. if b then e.1 else entry es q) (ne_eqb e.0 q (λ x. absurd (omega (arith, h, x))))
+
+pub entry-here : (e : ℕ × ℤ) (es : List (ℕ × ℤ)) → entry (e ∷ es) e.0 ≡ e.1
+entry-here e es = ap (λ b. if b then e.1 else entry es e.0) (eq-eqb e.0 e.0 refl)
 
 pub entry-past : (low q : ℕ) (es : List (ℕ × ℤ)) → AscendsFrom low es → q < low → entry es q ≡ pos 0
 entry-past low q [] h w = refl
@@ -97,3 +104,52 @@ row_parts es parts row h e w = record {
   ascending = subst (AscendsFrom 0) (sym (w ∙ e)) (ascends-filter is_nonzero 0 es h);
   nonzero = subst (All (λ part. part.1 ≢ pos 0)) (sym (w ∙ e)) (nonzero-filter es);
 }
+
+-- the numbers of a row's terms are below n where nothing stands from n on
+pub parts_within : (n low : ℕ) (es : List (ℕ × ℤ)) → AscendsFrom low es → All (λ e. e.1 ≢ pos 0) es → ((q : ℕ) → n ≤ q → entry es q ≡ pos 0) → AllByRecursion (λ e. e.0 < n) es
+parts_within n low [] h z w = tt
+parts_within n low (e ∷ es) h z w = (by (nat_lt e.0 n) refl, parts_within n (suc e.0) es h.1 (All-tail (λ e. e.1 ≢ pos 0) e es z) (λ q k. rest q k (nat_lt e.0 q) refl))
+  where
+    first : entry (e ∷ es) e.0 ≡ e.1
+    first = ap (λ b. if b then e.1 else entry es e.0) (eq-eqb e.0 e.0 refl)
+
+    by : (b : Bool) → nat_lt e.0 n ≡ b → e.0 < n
+    by true k = grind (arith, nat_tests)
+    by false k = let m : n ≤ e.0 = grind (arith, nat_tests) in absurd (All-head (λ e. e.1 ≢ pos 0) e es z (sym first ∙ w e.0 m))
+
+    rest : (q : ℕ) → n ≤ q → (b : Bool) → nat_lt e.0 q ≡ b → entry es q ≡ pos 0
+    rest q k true l =
+        let m : e.0 < q = grind (arith, nat_tests) in
+        sym (ap (λ b. if b then e.1 else entry es q) (ne_eqb e.0 q (λ x. absurd (omega (arith, m, x))))) ∙ w q k
+    rest q k false l = let m : q < suc e.0 = grind (arith, nat_tests) in entry-past (suc e.0) q es h.1 m
+
+-- pairs that ascend and aren't 0 are determined by what stands at each number
+pub parts_once : (low : ℕ) (es fs : List (ℕ × ℤ)) → AscendsFrom low es → AscendsFrom low fs → All (λ e. e.1 ≢ pos 0) es → All (λ e. e.1 ≢ pos 0) fs
+    → ((q : ℕ) → entry es q ≡ entry fs q) → es ≡ fs
+parts_once low [] [] a b y z h = refl
+parts_once low [] (f ∷ fs) a b y z h = absurd (All-head (λ e. e.1 ≢ pos 0) f fs z (sym (entry-here f fs) ∙ sym (h f.0)))
+parts_once low (e ∷ es) [] a b y z h = absurd (All-head (λ e. e.1 ≢ pos 0) e es y (sym (entry-here e es) ∙ h e.0))
+parts_once low (e ∷ es) (f ∷ fs) a b y z h = by (nat_cmp e.0 f.0) refl (parts_once (suc e.0) es fs)
+  where
+    by : (o : Ordering) → nat_cmp e.0 f.0 ≡ o
+        → (AscendsFrom (suc e.0) es → AscendsFrom (suc e.0) fs → All (λ e. e.1 ≢ pos 0) es → All (λ e. e.1 ≢ pos 0) fs → ((q : ℕ) → entry es q ≡ entry fs q) → es ≡ fs)
+        → (e ∷ es) ≡ (f ∷ fs)
+    by Less o rest =
+        let m : e.0 < f.0 = from_less e.0 f.0 o in
+        absurd (All-head (λ e. e.1 ≢ pos 0) e es y (sym (entry-here e es) ∙ h e.0 ∙ entry-past f.0 e.0 (f ∷ fs) (omega arith, b.1) m))
+    by Greater o rest =
+        let m : f.0 < e.0 = grind (arith, nat_tests) in
+        absurd (All-head (λ e. e.1 ≢ pos 0) f fs z (sym (entry-here f fs) ∙ sym (h f.0) ∙ entry-past e.0 f.0 (e ∷ es) (omega arith, a.1) m))
+    by Equal o rest =
+        let k : e.0 ≡ f.0 = grind (arith, nat_tests) in
+        let v : e.1 ≡ f.1 = sym (entry-here e es) ∙ h e.0 ∙ ap (entry (f ∷ fs)) k ∙ entry-here f fs in
+        let pair : e ≡ f = λ i. (k i, v i) in
+        let tail : AscendsFrom (suc e.0) fs = subst (λ n. AscendsFrom (suc n) fs) (sym k) b.1 in
+        ap₂ (λ x xs. x ∷ xs) pair
+        (rest a.1 tail (All-tail (λ e. e.1 ≢ pos 0) e es y) (All-tail (λ e. e.1 ≢ pos 0) f fs z)
+        (λ q. later q (nat_lt e.0 q) refl k tail))
+      where
+        later : (q : ℕ) (c : Bool) → nat_lt e.0 q ≡ c → e.0 ≡ f.0 → AscendsFrom (suc e.0) fs → entry es q ≡ entry fs q
+        later q true l k tail = let m : e.0 < q = grind (arith, nat_tests) in sym (entry-below e es q m) ∙ h q ∙ entry-below f fs q (omega (arith, m, k))
+        later q false l k tail =
+            let m : q < suc e.0 = grind (arith, nat_tests) in entry-past (suc e.0) q es a.1 m ∙ sym (entry-past (suc e.0) q fs tail m)

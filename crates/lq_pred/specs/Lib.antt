@@ -17,3 +17,6 @@ pub mod Points
 pub mod Implication
 pub mod Literals
 pub mod RowMeaning
+pub mod Numbering
+pub mod Growing
+pub mod Again

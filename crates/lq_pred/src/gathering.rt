@@ -18,7 +18,7 @@ use std::alloc::{AllocError, Global};
 use std::collections::BTreeMap;
 
 // Numbers the terms of a term that a table numbers, an inner one before the outer.
-#[tactic(auto, using(crate::proofs::Growing::growing))]
+#[tactic(auto, using(crate::specs::Growing::growing))]
 pub(crate) fn number_terms(
     term: &Term,
     alloc: Global,
@@ -56,7 +56,7 @@ pub(crate) fn number_terms(
 }
 
 // The form of a variable or an application whose inner terms are numbered.
-#[tactic(auto, using(crate::proofs::Growing::growing))]
+#[tactic(auto, using(crate::specs::Growing::growing))]
 fn atom(term: &Term, alloc: Global, table: &mut TermTable) -> Result<Form, GatherError>
     ensures numbered { OnOk result (terms_of table.new ≡ with_term (terms_of table.old) (sum_of term.now)) }
     ensures form { IfOk result (λ f. HasForm (terms_of table.new) f (pos 0) (one_at (sum_of term.now))) }
@@ -68,7 +68,7 @@ fn atom(term: &Term, alloc: Global, table: &mut TermTable) -> Result<Form, Gathe
 }
 
 // The form of an application of two arguments.
-#[tactic(auto, using(crate::proofs::Growing::growing))]
+#[tactic(auto, using(crate::specs::Growing::growing))]
 fn application(
     term: &Term,
     left: &Term,
@@ -87,7 +87,7 @@ fn application(
 }
 
 // The linear form of a term.
-#[tactic(auto, using(crate::proofs::Growing::growing))]
+#[tactic(auto, using(crate::specs::Growing::growing))]
 fn form(term: &Term, alloc: Global, table: &mut TermTable) -> Result<Form, GatherError>
     ensures numbered { OnOk result (terms_of table.new ≡ numbered (terms_of table.old) (sum_of term.now)) }
     ensures form { IfOk result (λ f. IsFormOf (terms_of table.new) f (sum_of term.now)) }
@@ -158,7 +158,7 @@ fn whole_constant(left: i128, right: i128, added: i128) -> Option<i128>
 
 /// The row of `left - right + added`, read "at most 0", or "is 0" where `equal` is set. Terms that the
 /// table lacks are added to it, an inner one before the outer.
-#[tactic(auto, using(crate::proofs::Growing::growing))]
+#[tactic(auto, using(crate::specs::Growing::growing))]
 pub fn gather(
     alloc: Global,
     left: &Term,

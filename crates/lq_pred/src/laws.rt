@@ -1,4 +1,4 @@
-ghost use Rattle.std.specs.Prelude.{true, false, ◌≡◌, ◌↔◌, ℕ, Bool, List, IsTrue};
+ghost use Rattle.std.specs.Prelude.{true, false, ◌≡◌, ◌↔◌, ℕ, Bool, List, All, length, IsTrue, ◌<◌};
 ghost use Rattle.lq_linear.specs.Row.{Row, Valuation, level, RowHolds};
 ghost use Rattle.lq_pred.specs.declared.symbol.Symbol.{Symbol};
 ghost use Rattle.lq_pred.specs.Comparison.{Comparison, IsRowOf};
@@ -23,7 +23,7 @@ pub fn whole_numbers_are_a_point()
 
 /// The row of a comparison has the comparison's difference as its level, at any valuation that gives each
 /// numbered term its number at the point. So a reading of rows is met exactly where the reading of
-/// comparisons that it gathers is. Each point has such a valuation, and each valuation such a point.
+/// comparisons that it gathers is. A comparison has one row, whose terms are numbered. Each point has such a valuation, and each valuation such a point.
 pub fn rows_say_what_comparisons_say()
     ensures level { (terms : List Sum) (v : Valuation) (p : Point) (c : Comparison) (row : Row) → IsTrue (all_differ terms) → AgreesOn terms v p
         → IsRowOf terms c row → level v row ≡ difference_at p c }
@@ -31,6 +31,8 @@ pub fn rows_say_what_comparisons_say()
         → IsRowOf terms c row → RowHolds v row ↔ ComparisonHolds p c }
     ensures reading { (terms : List Sum) (v : Valuation) (p : Point) (reading : Reading Comparison) (rows : Reading Row) → IsTrue (all_differ terms) → AgreesOn terms v p
         → Gathers terms reading rows → MeetsRows v p rows ↔ Meets p reading }
+    ensures once { (terms : List Sum) (c : Comparison) (row other : Row) → IsTrue (all_differ terms) → IsRowOf terms c row → IsRowOf terms c other → row ≡ other }
+    ensures within { (terms : List Sum) (c : Comparison) (row : Row) → IsRowOf terms c row → All (λ part. part.0 < length terms) row.parts }
     ensures valuation { (terms : List Sum) (p : Point) → AgreesOn terms (numbers_at terms p) p }
     ensures point { (terms : List Sum) (v : Valuation) (holds : Symbol → Bool) (class_of : Sum → ℕ) → IsTrue (all_differ terms)
         → AgreesOn terms v (point_by terms v holds class_of) }

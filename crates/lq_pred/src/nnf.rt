@@ -51,6 +51,12 @@ impl Nnfs {
         self.items.get(at)
     }
 
+    pub fn as_slice(&self) -> &[Nnf]
+        ensures { result.now ≡ nnf_items self.now }
+    {
+        self.items.as_slice()
+    }
+
     pub fn push(&mut self, nnf: Nnf) -> Result<(), AllocError>
         ensures ok { OnOk result (nnf_items self.new ≡ nnf_items self.old ++ nnf ∷ []) }
         ensures err { OnErr result (nnf_items self.new ≡ nnf_items self.old) }

@@ -1,7 +1,9 @@
 ghost use Rattle.std.specs.Prelude.{◌≡◌, [], ◌∷◌, ◌++◌, length, slice_get, IfOk, OnOk, OnErr};
 ghost use Rattle.std.specs.Option.{option_copied};
 
+use crate::gathering::number_terms;
 use crate::symbol::Symbol;
+use crate::table::TermTable;
 use crate::term::Term;
 use lq_name::CompareOp;
 use lq_num::NumberPast;
@@ -24,6 +26,9 @@ pub enum Pred {
 
 impl Pred {
     ghost use Rattle.lq_pred.specs.PredView.{formula_of};
+    ghost use Rattle.lq_pred.specs.Reading.{formula_numbered};
+    ghost use Rattle.lq_pred.specs.Table.{Extends};
+    ghost use Rattle.lq_pred.specs.TableView.{terms_of};
 
     /// An equal predicate.
     #[cycle(copy)]
@@ -40,6 +45,27 @@ impl Pred {
             Pred::And(p, q) => Ok(Pred::And(p.boxed(alloc)?, q.boxed(alloc)?)),
             Pred::Or(p, q) => Ok(Pred::Or(p.boxed(alloc)?, q.boxed(alloc)?)),
             Pred::Iff(p, q) => Ok(Pred::Iff(p.boxed(alloc)?, q.boxed(alloc)?)),
+        }
+    }
+
+    /// Numbers the terms of the predicate that a table numbers, in the order of its text, an inner one
+    /// before the outer.
+    #[tactic(auto, using(crate::specs::Growing::growing))]
+    pub fn number_terms(&self, alloc: Global, table: &mut TermTable) -> Result<(), AllocError>
+        ensures numbered { OnOk result (terms_of table.new ≡ formula_numbered (terms_of table.old) (formula_of self.now)) }
+        ensures grows { Extends (terms_of table.old) (terms_of table.new) }
+    {
+        match self {
+            Pred::True | Pred::False | Pred::Flag(_) | Pred::Same(_, _) => Ok(()),
+            Pred::Compare(_, a, b) => {
+                number_terms(a, alloc, table)?;
+                number_terms(b, alloc, table)
+            }
+            Pred::Not(p) => p.number_terms(alloc, table),
+            Pred::And(p, q) | Pred::Or(p, q) | Pred::Iff(p, q) => {
+                p.number_terms(alloc, table)?;
+                q.number_terms(alloc, table)
+            }
         }
     }
 
@@ -82,6 +108,12 @@ impl Preds {
         self.items.get(at)
     }
 
+    pub fn as_slice(&self) -> &[Pred]
+        ensures { result.now ≡ pred_items self.now }
+    {
+        self.items.as_slice()
+    }
+
     pub fn push(&mut self, pred: Pred) -> Result<(), AllocError>
         ensures ok { OnOk result (pred_items self.new ≡ pred_items self.old ++ pred ∷ []) }
         ensures err { OnErr result (pred_items self.new ≡ pred_items self.old) }
@@ -107,6 +139,26 @@ impl Preds {
 pub struct Closed {
     pub hypotheses: Preds,
     pub goal: Pred,
+}
+
+impl Closed {
+    ghost use Rattle.std.specs.Prelude.{◌≡◌, IfOk};
+    ghost use Rattle.lq_pred.specs.Implication.{terms_in};
+    ghost use Rattle.lq_pred.specs.PredView.{implication_of};
+    ghost use Rattle.lq_pred.specs.TableView.{terms_of};
+
+    /// The terms of the hypotheses and then of the goal, numbered by their first appearance, an inner one
+    /// before the outer.
+    pub fn terms(&self, alloc: Global) -> Result<TermTable, AllocError>
+        ensures { IfOk result (λ table. terms_of table ≡ terms_in (implication_of self.now)) }
+    {
+        let mut table = TermTable::new(alloc)?;
+        for pred in self.hypotheses.as_slice() {
+            pred.number_terms(alloc, &mut table)?;
+        }
+        self.goal.number_terms(alloc, &mut table)?;
+        Ok(table)
+    }
 }
 
 /// Why no verdict on an implication came.

@@ -14,8 +14,8 @@ pub struct TermTable {
 }
 
 impl TermTable {
-    ghost use Rattle.std.specs.Prelude.{◌≡◌, ◌<◌, IsTrue, List, [], length, slice_get, Some, IfOk, OnOk, OnErr};
-    ghost use Rattle.lq_pred.specs.Table.{all_differ, index_of, with_term, Extends};
+    ghost use Rattle.std.specs.Prelude.{◌≡◌, ◌<◌, IsTrue, List, [], length, slice_get, Some, IfOk, OnOk, OnErr, IfSome, is_some};
+    ghost use Rattle.lq_pred.specs.Table.{all_differ, has_term, index_of, with_term, Extends};
     ghost use Rattle.lq_pred.specs.TermView.{sum_of};
     ghost use Rattle.lq_pred.specs.TableView.{terms_of};
 
@@ -41,6 +41,15 @@ impl TermTable {
         ensures { slice_get (terms_of self.now) at ≡ Some (sum_of result.now) }
     {
         &self.terms[at as usize]
+    }
+
+    /// The number of a term, and None where the table lacks it.
+    pub fn find(&self, term: &Term) -> Option<u64>
+        ensures number { IfSome result (λ at. at ≡ index_of (terms_of self.now) (sum_of term.now)) }
+        ensures whether { is_some result ≡ has_term (terms_of self.now) (sum_of term.now) }
+    {
+        let at = self.terms.get_index_of(term)?;
+        Some(at as u64)
     }
 
     // The number of a term, the next one where the table lacks it.

@@ -23,7 +23,7 @@ use std::alloc::{AllocError, Global};
 /// "both or neither". Terms that the table lacks are added to it in the order of the predicate's
 /// text. (The reading of integer comparisons over the rationals that Rondon, Kawaguchi and Jhala
 /// leave to their prover, 2008.)
-#[tactic(auto, using(crate::proofs::Growing::growing))]
+#[tactic(auto, using(crate::specs::Growing::growing))]
 pub fn tighten(
     alloc: Global,
     pred: &Pred,
@@ -127,7 +127,7 @@ fn asked_relation(op: CompareOp, positive: bool) -> Relation
 }
 
 // The reading of a comparison or of its negation.
-#[tactic(auto, using(crate::proofs::Growing::growing))]
+#[tactic(auto, using(crate::specs::Growing::growing))]
 fn compare(
     op: CompareOp,
     positive: bool,

@@ -2,7 +2,8 @@ use Rattle.std.proofs.Common.{ap, ◌∙◌}
 use Rattle.lq_pred.specs.Table.{has_term}
 use Rattle.lq_pred.specs.TableView.{terms_of}
 use Rattle.lq_pred.specs.TermView.{sum_of}
-use Rattle.lq_pred.proofs.Forms.{one_form, has_term-with_term}
+use Rattle.lq_pred.specs.Numbering.{has_term-with_term}
+use Rattle.lq_pred.proofs.Forms.{one_form}
 use Rattle.lq_pred.proofs.gathering.atom.Goals as goal
 
 pub returns-clause-form : goal.returns-clause-form

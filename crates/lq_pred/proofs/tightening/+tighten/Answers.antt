@@ -6,8 +6,8 @@ use Rattle.lq_pred.specs.Reading.{reading_of, formula_numbered, Gathers}
 use Rattle.lq_pred.specs.TableView.{terms_of}
 use Rattle.lq_pred.specs.TermView.{sum_of}
 use Rattle.lq_pred.specs.declared.nnf.Nnf as nnf
-use Rattle.lq_pred.proofs.Again.{formula_again}
-use Rattle.lq_pred.proofs.Growing.{Extends-same, Extends-trans}
+use Rattle.lq_pred.specs.Again.{formula_again}
+use Rattle.lq_pred.specs.Growing.{Extends-same, Extends-trans}
 use Rattle.lq_pred.proofs.NnfViews.{view-flag, view-same}
 use Rattle.lq_pred.proofs.Readings.{gathers_grown, truth_gathers, falsity_gathers, flag_gathers, objects_gathers, conjunction_gathers, disjunction_gathers, equivalence_gathers}
 use Rattle.lq_pred.proofs.tightening.+tighten.Goals as goal

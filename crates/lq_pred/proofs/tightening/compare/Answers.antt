@@ -2,8 +2,8 @@ use Rattle.std.proofs.Common.{◌∙◌, ap}
 use Rattle.lq_pred.specs.Table.{numbered}
 use Rattle.lq_pred.specs.TableView.{terms_of}
 use Rattle.lq_pred.specs.TermView.{sum_of}
-use Rattle.lq_pred.proofs.Again.{sides_again, turned_again}
-use Rattle.lq_pred.proofs.Growing.{Extends-same}
+use Rattle.lq_pred.specs.Again.{sides_again, turned_again}
+use Rattle.lq_pred.specs.Growing.{Extends-same}
 use Rattle.lq_pred.proofs.tightening.compare.Goals as goal
 
 pub read-requires-clause-numbered : goal.read-requires-clause-numbered

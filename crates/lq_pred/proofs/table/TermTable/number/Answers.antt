@@ -3,7 +3,7 @@ use Rattle.lq_pred.specs.Sum.{same}
 use Rattle.lq_pred.specs.Table.{index_of}
 use Rattle.lq_pred.specs.TermView.{sum_of}
 use Rattle.lq_pred.proofs.Keys.{list_any-keys, position_or_len-keys, position-is, keys_with, distinct_with}
-use Rattle.lq_pred.proofs.Numbering.{with_term-present, index_of-with_term}
+use Rattle.lq_pred.specs.Numbering.{with_term-present, index_of-with_term}
 use Rattle.lq_pred.proofs.table.TermTable.number.Goals as goal
 
 pub returns-in-Some-clause-added : goal.returns-in-Some-clause-added

@@ -115,3 +115,14 @@ index_of-with_term terms t = by (has_term terms t) refl
     by : (b : Bool) → has_term terms t ≡ b → index_of (if b then terms else terms ++ t ∷ []) t ≡ index_of terms t
     by true h = refl
     by false h = index_of-push terms t h ∙ sym (index_of-absent terms t h)
+
+pub has_term-with_term : (terms : List Sum) (t : Sum) → has_term (with_term terms t) t ≡ true
+has_term-with_term terms t = by (has_term terms t) refl
+  where
+    by : (b : Bool) → has_term terms t ≡ b → has_term (if b then terms else terms ++ t ∷ []) t ≡ true
+    by true e = e
+    by false e = has_last terms
+      where
+        has_last : (l : List Sum) → has_term (l ++ t ∷ []) t ≡ true
+        has_last [] = has_term-here t []
+        has_last (u ∷ l) = or_right (same t u) (has_term (l ++ t ∷ []) t) (has_last l)

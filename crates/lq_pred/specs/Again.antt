@@ -4,9 +4,8 @@ use Rattle.lq_pred.specs.Sum.{Sum, whole, var, neg, add, sub, mul, div, rem, len
 use Rattle.lq_pred.specs.Table.{has_term, with_term, numbered, literal_of, by_factors, Extends}
 use Rattle.lq_pred.specs.Formula.{Formula, truth, falsity, flag, compare, objects, negation, conjunction, disjunction, equivalence}
 use Rattle.lq_pred.specs.Reading.{formula_numbered}
-use Rattle.lq_pred.proofs.Growing.{Extends-refl, Extends-trans, Extends-with_term}
-use Rattle.lq_pred.proofs.Numbering.{has_term-append, with_term-present}
-use Rattle.lq_pred.proofs.Forms.{has_term-with_term}
+use Rattle.lq_pred.specs.Growing.{Extends-refl, Extends-trans, Extends-with_term}
+use Rattle.lq_pred.specs.Numbering.{has_term-with_term, has_term-append, with_term-present}
 
 pub Extends-numbered : (terms : List Sum) (s : Sum) → Extends terms (numbered terms s)
 Extends-numbered terms (whole n) = Extends-refl terms

@@ -1,0 +1,12 @@
+pub mod Numbered
+pub mod Stages
+pub mod Values
+pub mod Differences
+pub mod Plains
+pub mod Staged
+pub mod Variables
+pub mod Ungathered
+pub mod Steps
+pub mod Nearness
+pub mod Meaning
+pub mod Knowing

@@ -1,0 +1,48 @@
+-- What an answer on a straight-line list means.
+use Rattle.std.specs.Prelude.{◌≡◌, ◌≤◌, ◌+◌, ◌^◌, ℕ, false, List, [], ◌∷◌, All, Some, slice_get, take, unsigned_abs}
+use Rattle.lq_pred.specs.Comparison.{Comparison, CanGather, row_constant}
+use Rattle.lq_pred.specs.Formula.{Formula}
+use Rattle.lq_pred.specs.Implication.{Implication, terms_in, IsPoint, MeetsEach, IsValid}
+use Rattle.lq_pred.specs.Literals.{each_literals, implication_literals}
+use Rattle.lq_pred.specs.Points.{Point, Meets}
+use Rattle.lq_pred.specs.Reading.{reading_of, AllFitIn}
+
+-- each literal of the implication can be gathered
+abbrev pub CanBeGathered : Implication → Type 0
+CanBeGathered i = All CanGather (implication_literals i)
+
+-- the sizes of the constants of the rows, in all
+abbrev pub sizes : List Comparison → ℕ
+sizes [] = 0
+sizes (c ∷ cs) = unsigned_abs (row_constant c) + sizes cs
+
+-- the sizes of the constants of the implication's literals, in all
+abbrev pub sizes_of : Implication → ℕ
+sizes_of i = sizes (implication_literals i)
+
+-- The implication of this number is the first one that isn't valid: the point meets its hypotheses and its negated goal.
+pub record IsFirstFailing (is : List Implication) (k : ℕ) (p : Point) : Type 0 where
+  pub failing : Implication
+  pub at : slice_get is k ≡ Some failing
+  pub gathered : All CanBeGathered is
+  pub before : All IsValid (take k is)
+  pub point : IsPoint failing p
+  pub hypotheses : MeetsEach p failing.hypotheses
+  pub goal : Meets p (reading_of false failing.goal)
+
+-- The implication of this number is the first one with a literal that can't be gathered, and the first such literal is its goal's.
+pub record IsFirstUngathered (is : List Implication) (k : ℕ) (goal : Formula) : Type 0 where
+  pub ungathered : Implication
+  pub at : slice_get is k ≡ Some ungathered
+  pub earlier : All CanBeGathered (take k is)
+  pub hypotheses : All CanGather (each_literals ungathered.hypotheses)
+  pub is_goal : ungathered.goal ≡ goal
+  pub cannot : AllFitIn (reading_of false goal) → ⊥
+
+-- The implication of this number is the first one that wasn't decided: its sizes sum to 2 ^ 126 or more.
+pub record IsFirstLarge (is : List Implication) (k : ℕ) : Type 0 where
+  pub large : Implication
+  pub at : slice_get is k ≡ Some large
+  pub gathered : All CanBeGathered is
+  pub before : All IsValid (take k is)
+  pub sized : 2 ^ 126 ≤ sizes_of large

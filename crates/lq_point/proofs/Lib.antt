@@ -1,0 +1,12 @@
+pub mod Reading
+pub mod Items
+pub mod Size
+pub mod Order
+pub mod Numbers
+pub mod Apart
+pub mod Agreement
+pub mod TwoArguments
+pub mod Walks
+pub mod Earlier
+pub mod Covers
+pub mod Literal

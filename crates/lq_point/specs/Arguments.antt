@@ -1,0 +1,11 @@
+-- The arguments of an application.
+use Rattle.std.specs.Prelude.{◌≡◌, List}
+use Rattle.lq_pred.specs.Sum.{Sum, mul, div, rem}
+use Rattle.lq_pred.specs.Table.{numbered}
+
+-- the list has every term of the arguments of an application of two numbers that a table numbers
+abbrev pub HasArguments : List Sum → Sum → Type 0
+HasArguments l (mul a b) = (numbered l a ≡ l) × (numbered l b ≡ l)
+HasArguments l (div a b) = (numbered l a ≡ l) × (numbered l b ≡ l)
+HasArguments l (rem a b) = (numbered l a ≡ l) × (numbered l b ≡ l)
+HasArguments l _ = Unit {0}
