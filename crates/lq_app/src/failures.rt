@@ -2,16 +2,16 @@
 ghost use Rattle.std.specs.Prelude.{◌≡◌, ℕ, List, ◌+◌, ◌<◌, ◌≤◌, ◌^◌, ◌++◌, length, codes, IfOk, OnOk};
 ghost use Rattle.lq_pred.specs.TermView.{sum_of};
 ghost use Rattle.lq_pred.specs.PredView.{formula_of};
-ghost use Rattle.lq_demand.specs.PointView.{point_seen, point_terms};
+ghost use Rattle.lq_point.specs.Values.{as_point, values_of, table_of};
 ghost use Rattle.lq_straight.specs.Scope.{AreOrdinals};
 ghost use Rattle.lq_app.specs.Texts.{frac_text, past_text, term_text, formula_text};
 ghost use Rattle.lq_app.specs.Judgement.{head_at, ShowsPoint};
 
 use crate::texts::{Names, push_fraction, push_past, push_pred, push_term};
 use itoa::Buffer;
-use lq_demand::PointStub;
 use lq_name::TextBuf;
 use lq_num::{Frac, NumberPast};
+use lq_point::Point;
 use lq_pred::{Pred, Term};
 use lq_straight::place_of;
 use std::alloc::{AllocError, Global};
@@ -60,14 +60,15 @@ fn push_value(
 }
 
 // A line for each term of a point.
-fn push_point(line: &mut Vec<u8>, names: &Names, point: &PointStub) -> Result<(), AllocError>
+fn push_point(line: &mut Vec<u8>, names: &Names, point: &Point) -> Result<(), AllocError>
     requires { AreOrdinals names.now.text.now names.now.items.now names.now.ordinals.now }
     ensures { OnOk result ((lines : List ℕ) × (line.new.items ≡ line.old.items ++ lines)
-        × ShowsPoint names.now.text.now names.now.items.now (point_seen point.now) (point_terms point.now) lines) }
+        × ShowsPoint names.now.text.now names.now.items.now (as_point point.now) (table_of (values_of point.now)) lines) }
 {
-    let table = point.table();
+    let values = point.values();
+    let table = values.table();
     for at in 0..table.len() {
-        push_value(line, names, table.term(at), &point.number(at))?;
+        push_value(line, names, table.term(at), &values.number(at))?;
     }
     Ok(())
 }
@@ -78,13 +79,13 @@ pub(crate) fn rejected_report(
     names: &Names,
     number: usize,
     at: usize,
-    point: &PointStub,
+    point: &Point,
 ) -> Result<TextBuf, AllocError>
     requires text { length names.now.text.now ≤ 2 ^ 24 }
     requires number { number < 2 ^ 32 }
     requires ordinals { AreOrdinals names.now.text.now names.now.items.now names.now.ordinals.now }
     ensures { IfOk result (λ r. (lines : List ℕ) × (r ≡ head_at (codes "rejected\n") names.now.text.now number at ++ lines)
-        × ShowsPoint names.now.text.now names.now.items.now (point_seen point.now) (point_terms point.now) lines) }
+        × ShowsPoint names.now.text.now names.now.items.now (as_point point.now) (table_of (values_of point.now)) lines) }
 {
     let mut report = report_head(alloc, b"rejected\n", names.text, number, at)?;
     push_point(&mut report, names, point)?;

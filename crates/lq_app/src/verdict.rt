@@ -20,9 +20,10 @@ use crate::laws::one_judgement;
 use crate::report::{unbuilt_report, unknown_report};
 use crate::steps::lines_of;
 use crate::texts::Names;
-use lq_demand::{Asked, PointStub, ask};
+use lq_demand::{Asked, ask};
 use lq_name::{Binder, TextBuf};
 use lq_num::NumberPast;
+use lq_point::Point;
 use lq_pred::{Pred, Stop};
 use lq_straight::{
     Assertion, Item, ReadError, ScopeError, Span, ordinals, read_program, resolve,
@@ -147,7 +148,7 @@ fn rejected(
     items: &[Item<Span>],
     scoped: &[Item<Binder>],
     number: usize,
-    point: &PointStub,
+    point: &Point,
 ) -> Result<Judgement, AllocError>
     requires text { length text.now ≤ 2 ^ 24 }
     requires items { length items.now ≤ 2 ^ 24 }
