@@ -8,3 +8,5 @@ pub mod Gathered
 pub mod Answer
 pub mod Staging
 pub mod Closed
+pub mod AskedView
+pub mod Deciding

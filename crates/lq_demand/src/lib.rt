@@ -2,11 +2,16 @@
 //! of difference rows.
 #![tactic(auto)]
 
+mod asking;
 mod closed;
+mod deciding;
 mod gathered;
 mod lines;
 mod solution;
 mod solve;
 mod stage;
+#[cfg(test)]
+mod tests;
 
+pub use asking::{Asked, ask};
 pub use lines::{Line, Lines};

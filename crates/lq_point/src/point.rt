@@ -49,7 +49,8 @@ impl Point {
             classes,
             mut table,
         } = values;
-        if !is_point(alloc, numbers.as_slice(), &classes, &mut table, implication)? {
+        let meets = is_point(alloc, numbers.as_slice(), &classes, &mut table, implication)?;
+        if !meets {
             return Ok(None);
         }
         let values = PointValues {
