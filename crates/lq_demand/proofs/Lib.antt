@@ -10,3 +10,4 @@ pub mod Steps
 pub mod Nearness
 pub mod Meaning
 pub mod Knowing
+pub mod Counterexample
