@@ -10,7 +10,8 @@ use Rattle.lq_app.specs.declared.status.Status.{Status}
 use Rattle.lq_app.specs.declared.status.Status.TheVariants.{Good, Rejected, Undecided, Refused, Usage, File, SinkFault, Memory}
 use Rattle.lq_app.specs.Ends.{Ends, WritesAll}
 use Rattle.lq_app.specs.Command.{file_named, usage_line}
-use Rattle.lq_app.specs.Judgement.{IsPastNumber, IsJudgement, IsByNumber, Agree, IsOneJudgement}
+use Rattle.lq_app.specs.Judgement.{IsUngathered, IsPastNumber, IsJudgement, IsByNumber, Agree, IsOneJudgement, HasSmallDemands}
+use Rattle.lq_app.proofs.Judged.{decided_is}
 use Rattle.lq_app.specs.Report.{Visit, IsHanded, IsFileFault, IsVerdict, IsDue, IsByNumberHere, SameReport, IsDetermined}
 
 -- what is held under the name that was named
@@ -235,3 +236,17 @@ failure_due words v old new Good ends rose = absurd (omega (arith, ends.1.3.calm
 failure_due words v old new Refused ends rose = absurd (omega (arith, ends.1.3.calm))
 failure_due words v old new Rejected ends rose = absurd (omega (arith, ends.1.3.calm))
 failure_due words v old new Undecided ends rose = absurd (omega (arith, ends.1.3.calm))
+
+-- A text whose constants are small is undecided only by a comparison that can't be gathered.
+pub decided_here : (words : List (List ℕ)) (v : Visit) (old new : Option (List ℕ)) (status : Status) → Ends (IsDue words v) old new status → status ≡ Undecided
+    → (name text report : List ℕ) × (file_named words ≡ Some name) × IsHanded v name text × (HasSmallDemands text → IsUngathered text report)
+decided_here words v old new Undecided ends is =
+    let due = ends.1 in
+    (due.0, due.1, ends.0, due.2, due.3, λ small. decided_is due.1 ends.0 small due.4)
+decided_here words v old new Good ends is = absurd cc
+decided_here words v old new Rejected ends is = absurd cc
+decided_here words v old new Refused ends is = absurd cc
+decided_here words v old new Usage ends is = absurd cc
+decided_here words v old new File ends is = absurd cc
+decided_here words v old new SinkFault ends is = absurd cc
+decided_here words v old new Memory ends is = absurd cc

@@ -2,7 +2,7 @@ ghost use Rattle.std.specs.Prelude.{◌≡◌, ◌⊎◌, ◌<◌, ◌-◌, ◌^
 ghost use Rattle.lq_io.specs.Causes.{Rose};
 ghost use Rattle.lq_io.specs.Folder.{Files};
 ghost use Rattle.lq_app.specs.Command.{file_named};
-ghost use Rattle.lq_app.specs.Judgement.{IsAccepted, IsRejected, IsUngathered, IsPastNumber, IsRefused};
+ghost use Rattle.lq_app.specs.Judgement.{IsAccepted, IsRejected, IsUngathered, IsPastNumber, IsRefused, HasSmallDemands};
 ghost use Rattle.lq_app.specs.Report.{visit, IsDue, IsHanded, IsFileFault, IsByNumberHere};
 ghost use Rattle.lq_app.specs.Ends.{Ends};
 
@@ -39,6 +39,9 @@ pub fn run_words<F: Folder, K: Sink>(
         × IsHanded (visit F.files F.absents F.failures folder.old folder.new) name text × IsRejected text report }
     ensures undecided { result ≡ Status.Undecided → (name text report : List ℕ) × (file_named words.now ≡ Some name)
         × IsHanded (visit F.files F.absents F.failures folder.old folder.new) name text × (IsUngathered text report ⊎ IsPastNumber text report) }
+    // Where the constants are small, nothing is undecided in solving.
+    ensures decided { result ≡ Status.Undecided → (name text report : List ℕ) × (file_named words.now ≡ Some name)
+        × IsHanded (visit F.files F.absents F.failures folder.old folder.new) name text × (HasSmallDemands text → IsUngathered text report) }
     ensures sink { result ≡ Status.SinkFault → Rose (K.faults out.old) (K.faults out.new) }
     ensures memory { result ≡ Status.Memory → K.taken out.new ≡ K.taken out.old }
     // Only a fault of the sink or want of memory comes in place of what is due: the usage line for

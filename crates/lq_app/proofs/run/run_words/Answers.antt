@@ -1,5 +1,5 @@
 use Rattle.lq_app.specs.Report.{visit}
-use Rattle.lq_app.proofs.Determined.{exact, usage_due, failure_due}
+use Rattle.lq_app.proofs.Determined.{exact, usage_due, failure_due, decided_here}
 use Rattle.lq_app.proofs.run.run_words.Goals as goal
 
 pub returns-clause-exact : goal.returns-clause-exact
@@ -10,3 +10,6 @@ returns-clause-only_usage g c = λ none. usage_due c.args.words.now (visit g.F.F
 
 pub returns-clause-only_file : goal.returns-clause-only_file
 returns-clause-only_file g c = λ rose. failure_due c.args.words.now (visit g.F.Folder.files g.F.Folder.absents g.F.Folder.failures c.args.folder.now c.run.new.folder) (g.K.Sink.taken c.args.out.now) (g.K.Sink.taken c.run.new.out) c.run.result c.run.ensures.report rose
+
+pub returns-clause-decided : goal.returns-clause-decided
+returns-clause-decided g c = λ is. decided_here c.args.words.now (visit g.F.Folder.files g.F.Folder.absents g.F.Folder.failures c.args.folder.now c.run.new.folder) (g.K.Sink.taken c.args.out.now) (g.K.Sink.taken c.run.new.out) c.run.result c.run.ensures.report is
