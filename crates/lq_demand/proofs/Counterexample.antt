@@ -53,7 +53,7 @@ counterexample_of law all i rows same values p differ r e s terms numbers table 
   terms = table ∙ terms;
   point = point;
   hypotheses = meets_known law all i.hypotheses r.problem.known v (as_point p) agrees r.of.known hold.0;
-  goal = meets_gathered law all false i.goal r.problem.goal v (as_point p) agrees r.of.goal hold.1.0
+  goal = meets_gathered law all false i.goal r.problem.goal v (as_point p) agrees r.of.goal hold.1.0;
 }
   where
     v : Valuation
@@ -95,8 +95,8 @@ literals_small all i p h =
     let s = plain_sides false i.goal h.goal.plain in
     subst (All (IsSmall (sizes_of i))) (sym e)
     (All-append (IsSmall (sizes_of i)) (known_comparisons i.hypotheses ++ comparison_as false i.goal ∷ []) []
-        (All-push (IsSmall (sizes_of i)) (known_comparisons i.hypotheses) (comparison_as false i.goal)
-        (known_small all (sizes_of i) i.hypotheses p.known h.known (omega arith)) (record { left = s.0; right = s.1; size = omega arith }))
+    (All-push (IsSmall (sizes_of i)) (known_comparisons i.hypotheses) (comparison_as false i.goal)
+    (known_small all (sizes_of i) i.hypotheses p.known h.known (omega arith)) (record { left = s.0; right = s.1; size = omega arith }))
     (λ k d l. absurd (omega arith)))
 
 pub large_of : (all : List Sum) (i : Implication) (rows same : List Row) (values : List Frac) (e : NumberPast) → IsTrue (all_differ all) → IsProblemRows all i rows → same ≡ rows
@@ -110,5 +110,5 @@ large_of all i rows same values e differ r q s within step past =
     let constant = ap unsigned_abs step.is.constant in
     let size = small.size in
     let large : 2 ^ 126 ≤ row_sizes same =
-        large_by_step (row_sizes same) (length all) (valuation_of values) step.its_row e s.near taken.0 taken.1 (omega arith) step.step past in
+    large_by_step (row_sizes same) (length all) (valuation_of values) step.its_row e s.near taken.0 taken.1 (omega arith) step.step past in
     omega arith

@@ -91,9 +91,10 @@ all_signed : (i j low : ℕ) (parts : List (ℕ × ℤ)) → AscendsFrom low par
     → ((q : ℕ) → low ≤ q → entry parts q ≢ pos 0 → IsSigned i j (q, entry parts q)) → AllSigned i j parts
 unfolding AllSigned
 all_signed i j low [] u n signed = tt
-all_signed i j low (part ∷ parts) u n signed =
-    (subst (λ x. IsSigned i j (part.0, x)) here (signed part.0 u.0 (λ e. n 0 part (omega arith) (sym here ∙ e))),
-    all_signed i j (suc part.0) parts u.1 (λ k d l. n (suc k) d (omega arith)) (λ q l e. subst (λ x. IsSigned i j (q, x)) (further q l) (signed q (let m = u.0 in omega arith) (λ z. e (sym (further q l) ∙ z)))))
+all_signed i j low (part ∷ parts) u n signed = (
+  subst (λ x. IsSigned i j (part.0, x)) here (signed part.0 u.0 (λ e. n 0 part (omega arith) (sym here ∙ e))),
+  all_signed i j (suc part.0) parts u.1 (λ k d l. n (suc k) d (omega arith)) (λ q l e. subst (λ x. IsSigned i j (q, x)) (further q l) (signed q (let m = u.0 in omega arith) (λ z. e (sym (further q l) ∙ z)))),
+)
   where
     here : (if part.0 == part.0 then part.1 else entry parts part.0) ≡ part.1
     here = ap (λ b. if b then part.1 else entry parts part.0) (eq-eqb part.0 part.0 refl)

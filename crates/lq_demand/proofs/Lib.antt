@@ -11,3 +11,4 @@ pub mod Nearness
 pub mod Meaning
 pub mod Knowing
 pub mod Counterexample
+pub mod Verdicts

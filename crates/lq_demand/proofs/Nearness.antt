@@ -39,10 +39,10 @@ times_one a = omega (arith, ints)
 sum_fits : (a c : ℤ) → FitsSigned w128 a → FitsSigned w128 c → FitsSigned w128 (a +ℤ c) → HasNoSumForm a c 1 1 → ⊥
 sum_fits a c f g h past =
     past 1 one_one (record {
-        multiple = omega arith;
-        first = subst (FitsSigned w128) (sym (times_one a)) f;
-        second = subst (FitsSigned w128) (sym (times_one c)) g;
-        total = subst (FitsSigned w128) (ap₂ (λ x y. x +ℤ y) (sym (times_one a)) (sym (times_one c))) h
+      multiple = omega arith;
+      first = subst (FitsSigned w128) (sym (times_one a)) f;
+      second = subst (FitsSigned w128) (sym (times_one c)) g;
+      total = subst (FitsSigned w128) (ap₂ (λ x y. x +ℤ y) (sym (times_one a)) (sym (times_one c))) h;
     })
 
 no_sum_past : (f g : Frac) (a c : ℤ) → value_of f ≡ whole a → value_of g ≡ whole c → FitsSigned w128 a → FitsSigned w128 c → FitsSigned w128 (a +ℤ c)
@@ -57,11 +57,11 @@ no_sum_past f g a c ef eg fa fc fs past =
 no_product_past : (f g : Frac) (a c : ℤ) → value_of f ≡ whole a → value_of g ≡ whole c → FitsSigned w128 (a *ℤ c) → IsPastBy Mul f g → ⊥
 no_product_past f g a c ef eg fits past =
     past (a *ℤ c) 1 (record {
-        positive = omega arith;
-        lowest = λ k p q. eq-one_of_dvd-one q;
-        same = sym (ap₂ (λ x y. x *ℚ y) ef eg ∙ whole-product a c);
-        numer_fits = fits;
-        denom_fits = omega arith
+      positive = omega arith;
+      lowest = λ k p q. eq-one_of_dvd-one q;
+      same = sym (ap₂ (λ x y. x *ℚ y) ef eg ∙ whole-product a c);
+      numer_fits = fits;
+      denom_fits = omega arith;
     })
 
 -- ---- sums of difference rows

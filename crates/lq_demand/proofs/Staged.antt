@@ -38,8 +38,8 @@ gathered_more a b s p r x g = record {
     more = g.of_row.more ++ x.more;
     front = x.is ∙ ap (λ l. l ++ x.more) g.of_row.front ∙ append_assoc g.of_row.terms g.of_row.more x.more;
     differ = g.of_row.differ;
-    is = g.of_row.is
-  }
+    is = g.of_row.is;
+  };
 }
 
 pub all_gathered_more : (a b : List Sum) (ps : List Formula) (rows : List Row) → Extends a b → AreGathered a ps rows → AreGathered b ps rows
@@ -101,37 +101,35 @@ pub assume_step : (a b : List Sum) (steps : List Step) (old new : Staging) (p : 
     → new.stages.items ≡ old.stages.items → new.assumed.items ≡ old.assumed.items ++ row ∷ [] → IsStaging a steps old → IsStaging b (steps ++ assume p ∷ []) new
 assume_step a b steps old new p row x g taken same more s = record {
   known = subst (λ l. AreGathered b l (known_in new.stages.items ++ new.assumed.items)) (sym (assumed_append steps (assume p ∷ [])))
-    (subst (AreGathered b (assumed_in steps ++ p ∷ [])) rows
-    (gathered_push b (assumed_in steps) (known_in old.stages.items ++ old.assumed.items) p row (all_gathered_more a b _ _ x s.known) g));
+      (subst (AreGathered b (assumed_in steps ++ p ∷ [])) rows
+      (gathered_push b (assumed_in steps) (known_in old.stages.items ++ old.assumed.items) p row (all_gathered_more a b _ _ x s.known) g));
   problems = subst (λ l. AreProblems b l (problems_of new.stages.items)) (sym (implications_append [] steps (assume p ∷ []) ∙ append-nil (implications_of steps)))
-    (subst (λ l. AreProblems b (implications_of steps) (problems_of l)) (sym same) (problems_more a b _ _ x s.problems));
+      (subst (λ l. AreProblems b (implications_of steps) (problems_of l)) (sym same) (problems_more a b _ _ x s.problems));
   stages_taken = subst (All (IsStageTaken (length b))) (sym same) (stages_more (length a) (length b) old.stages.items (longer a b x) s.stages_taken);
   assumed_taken = subst (All (IsTaken (length b))) (sym more)
-    (All-push (IsTaken (length b)) old.assumed.items row (all_taken_more (length a) (length b) old.assumed.items (longer a b x) s.assumed_taken) taken);
+      (All-push (IsTaken (length b)) old.assumed.items row (all_taken_more (length a) (length b) old.assumed.items (longer a b x) s.assumed_taken) taken);
   count = let e = ap count_of same in let n = ap length more in let m = length-append old.assumed.items (row ∷ []) in let o = length-append steps (assume p ∷ []) in
-    let k = s.count in omega arith
+      let k = s.count in omega arith;
 }
   where
     rows : (known_in old.stages.items ++ old.assumed.items) ++ row ∷ [] ≡ known_in new.stages.items ++ new.assumed.items
     rows = append_assoc (known_in old.stages.items) old.assumed.items (row ∷ []) ∙ ap₂ (λ l m. known_in l ++ m) (sym same) (sym more)
 
-
 pub demand_step : (a b : List Sum) (steps : List Step) (old new : Staging) (p : Formula) (s : Stage) → Extends a b → IsGathered b false p s.goal → IsTaken (length b) s.goal
     → s.assumed.items ≡ old.assumed.items → new.stages.items ≡ old.stages.items ++ s ∷ [] → new.assumed.items ≡ [] → IsStaging a steps old → IsStaging b (steps ++ demand p ∷ []) new
 demand_step a b steps old new p s x g taken same more none h = record {
   known = subst (λ l. AreGathered b l (known_in new.stages.items ++ new.assumed.items)) (sym (assumed_append steps (demand p ∷ []) ∙ append-nil (assumed_in steps)))
-    (subst (AreGathered b (assumed_in steps)) rows (all_gathered_more a b _ _ x h.known));
+      (subst (AreGathered b (assumed_in steps)) rows (all_gathered_more a b _ _ x h.known));
   problems = subst (λ l. AreProblems b l (problems_of new.stages.items)) (sym (implications_append [] steps (demand p ∷ [])))
-    (subst (AreProblems b (implications_of steps ++ implication (assumed_in steps) p ∷ [])) (sym (ap problems_of more ∙ stages_push [] old.stages.items s))
-    (problems_push b (implications_of steps) (problems_of old.stages.items) (implication (assumed_in steps) p) (problem_after (known_in old.stages.items) s) (problems_more a b _ _ x h.problems)
-    (record { known = subst (λ l. AreGathered b (assumed_in steps) (known_in old.stages.items ++ l)) (sym same) (all_gathered_more a b _ _ x h.known); goal = g })));
+      (subst (AreProblems b (implications_of steps ++ implication (assumed_in steps) p ∷ [])) (sym (ap problems_of more ∙ stages_push [] old.stages.items s))
+      (problems_push b (implications_of steps) (problems_of old.stages.items) (implication (assumed_in steps) p) (problem_after (known_in old.stages.items) s) (problems_more a b _ _ x h.problems)
+      (record { known = subst (λ l. AreGathered b (assumed_in steps) (known_in old.stages.items ++ l)) (sym same) (all_gathered_more a b _ _ x h.known); goal = g })));
   stages_taken = subst (All (IsStageTaken (length b))) (sym more) (All-push (IsStageTaken (length b)) old.stages.items s (stages_more (length a) (length b) old.stages.items (longer a b x) h.stages_taken)
-    (subst (All (IsTaken (length b))) (sym same) (all_taken_more (length a) (length b) old.assumed.items (longer a b x) h.assumed_taken), taken));
+      (subst (All (IsTaken (length b))) (sym same) (all_taken_more (length a) (length b) old.assumed.items (longer a b x) h.assumed_taken), taken));
   assumed_taken = subst (All (IsTaken (length b))) (sym none) (λ k d l. absurd (omega arith));
   count = let e = ap count_of more in let n = count_push old.stages.items s in let m = ap length same in let z = ap length none in let o = length-append steps (demand p ∷ []) in
-    let k = h.count in omega arith
+      let k = h.count in omega arith;
 }
   where
     rows : known_in old.stages.items ++ old.assumed.items ≡ known_in new.stages.items ++ new.assumed.items
     rows = ap (λ l. known_in old.stages.items ++ l) (sym same) ∙ sym (known_push old.stages.items s) ∙ sym (append-nil _) ∙ ap₂ (λ l m. known_in l ++ m) (sym more) (sym none)
-

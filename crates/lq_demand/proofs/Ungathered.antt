@@ -41,7 +41,7 @@ ungathered_at all steps front back s p (Past j pred) h at past = record {
   earlier = subst (All CanBeGathered) (sym (ap (λ l. take j l) split ∙ take_at (implications_of front) _ j (sym count))) (problems_gather all (implications_of front) (problems_of s.stages.items) h.problems);
   hypotheses = hypotheses_gather all (assumed_in front) _ h.known;
   is_goal = sym past.1;
-  cannot = λ f. past.2 (subst (λ q. AllFitIn (reading_of false q)) past.1 f)
+  cannot = λ f. past.2 (subst (λ q. AllFitIn (reading_of false q)) past.1 f);
 }
   where
     count : j ≡ length (implications_of front)

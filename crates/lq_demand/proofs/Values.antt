@@ -36,13 +36,13 @@ pub solution_by : (t : Table) (terms : ℕ) (rows : List Row) (values : List Fra
 solution_by t terms rows values taken at s near apart v = record {
   count = v.count;
   holds = all_hold_same terms (table_point t) (valuation_of values) rows (λ k l. sym (v.same k l)) taken
-    (solves_numbered (table_point t) 0 rows (subst (Solves (table_point t)) at s));
+      (solves_numbered (table_point t) 0 rows (subst (Solves (table_point t)) at s));
   near = record {
     at = value_at t;
     whole_at = v.same;
     value = λ k l. sized _ (near k l);
-    difference = λ j k l m. sized _ (apart j k l m)
-  }
+    difference = λ j k l m. sized _ (apart j k l m);
+  };
 }
   where
     size : constants (table_rows t) ≡ row_sizes rows

@@ -197,8 +197,8 @@ pub problem_gathers : (all : List Sum) (i : Implication) (p : Problem) → IsPro
 problem_gathers all i p h =
     subst (All CanGather) (sym (problem_literals all i p h))
     (All-append CanGather (known_comparisons i.hypotheses ++ comparison_as false i.goal ∷ []) []
-        (All-push CanGather (known_comparisons i.hypotheses) (comparison_as false i.goal) (known_gather all i.hypotheses p.known h.known)
-        (gathers_one false i.goal h.goal.plain h.goal.fits))
+    (All-push CanGather (known_comparisons i.hypotheses) (comparison_as false i.goal) (known_gather all i.hypotheses p.known h.known)
+    (gathers_one false i.goal h.goal.plain h.goal.fits))
     (λ k d l. absurd (omega arith)))
 
 pub problems_gather : (all : List Sum) (is : List Implication) (ps : List Problem) → AreProblems all is ps → All CanBeGathered is

@@ -7,7 +7,7 @@ ghost use Rattle.lq_pred.specs.PredView.{formula_of};
 ghost use Rattle.lq_pred.specs.declared.pred.Pred.{Pred};
 ghost use Rattle.lq_pred.specs.declared.pred.Stop.TheVariants as stop;
 ghost use Rattle.lq_demand.specs.Answer.{CanBeGathered, IsFirstUngathered, IsFirstLarge};
-ghost use Rattle.lq_demand.specs.AskedView.{FailsAt, IsAnswer};
+ghost use Rattle.lq_demand.specs.AskedView.{FailsAt, IsAnswer, StopsBy};
 ghost use Rattle.lq_demand.specs.Deciding.{IsFirstInvalid};
 ghost use Rattle.lq_demand.specs.LinesView.{steps_of};
 ghost use Rattle.lq_demand.specs.Plain.{IsPlainStep};
@@ -64,8 +64,7 @@ fn answer(alloc: Global, lines: &Lines) -> Result<Asked, AllocError>
     match first_open(alloc, table.len(), lines.len() as u64, &stages) {
         Ok(None) => Ok(Asked::Valid),
         Ok(Some(number)) => failing(alloc, lines, number),
-        Err(Halt::Number(number, past)) => Ok(Asked::Stops(number, Stop::Number(past))),
-        Err(Halt::OutOfMemory) => Err(AllocError),
+        Err(halt) => stopped(halt),
     }
 }
 
@@ -78,7 +77,16 @@ fn failing(alloc: Global, lines: &Lines, number: usize) -> Result<Asked, AllocEr
     match decide(alloc, number, &closed) {
         Ok(Some(point)) => Ok(Asked::Fails(number, point)),
         Ok(None) => unreachable!(),
-        Err(Halt::Number(number, past)) => Ok(Asked::Stops(number, Stop::Number(past))),
-        Err(Halt::OutOfMemory) => Err(AllocError),
+        Err(halt) => stopped(halt),
+    }
+}
+
+/// The answer where a demand isn't decided.
+fn stopped(halt: Halt) -> Result<Asked, AllocError>
+    ensures { IfOk result (StopsBy halt) }
+{
+    match halt {
+        Halt::Number(number, past) => Ok(Asked::Stops(number, Stop::Number(past))),
+        Halt::OutOfMemory => Err(AllocError),
     }
 }

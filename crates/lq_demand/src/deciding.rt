@@ -16,11 +16,7 @@ use std::alloc::Global;
 
 /// A point that meets the hypotheses and the negated goal of the implication of this number, where there is
 /// one.
-pub(crate) fn decide(
-    alloc: Global,
-    number: usize,
-    closed: &Closed,
-) -> Result<Option<Point>, Halt>
+pub(crate) fn decide(alloc: Global, number: usize, closed: &Closed) -> Result<Option<Point>, Halt>
     requires { IsAskable (implication_of closed.now) }
     ensures some { IfOk result (λ found. IfSome found (IsCounterexample (implication_of closed.now))) }
     ensures none { IfOk result (λ found. IfNone found (IsValid (implication_of closed.now))) }

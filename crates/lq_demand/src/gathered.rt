@@ -20,12 +20,8 @@ fn row_in(reading: Nnf) -> Option<LinearRow>
 {
     match reading {
         Nnf::Row(row) => Some(row),
-        Nnf::Yes
-        | Nnf::No
-        | Nnf::Flag(_, _)
-        | Nnf::Same(_, _, _)
-        | Nnf::All(_)
-        | Nnf::Any(_) => None,
+        Nnf::Yes | Nnf::No | Nnf::Flag(_, _) | Nnf::Same(_, _, _) | Nnf::All(_) | Nnf::Any(_) =>
+            None,
     }
 }
 

@@ -6,7 +6,7 @@ use Rattle.lq_demand.proofs.closed.closed_at.Given as goal
 
 abbrev pub invariant-loop-line : goal.invariant-loop-line
 invariant-loop-line l = record {
-    hypotheses : map formula_of l.hypotheses.items.items ≡ assumed_in (take l.line-index (map step_of l.lines.items.items));
-    demands : l.demands ≡ length (implications_of (take l.line-index (map step_of l.lines.items.items)));
-    within : l.demands ≤ l.number;
+  hypotheses : map formula_of l.hypotheses.items.items ≡ assumed_in (take l.line-index (map step_of l.lines.items.items));
+  demands : l.demands ≡ length (implications_of (take l.line-index (map step_of l.lines.items.items)));
+  within : l.demands ≤ l.number;
 }

@@ -8,7 +8,7 @@ use Rattle.lq_demand.proofs.closed.rows_of.Given as goal
 
 abbrev pub invariant-loop-pred : goal.invariant-loop-pred
 invariant-loop-pred l = record {
-    known : AreGathered (terms_of l.table) (take l.pred-index (map formula_of l.closed.hypotheses.items.items)) l.rows.items;
-    terms : terms_of l.table ≡ each_numbered [] (take l.pred-index (map formula_of l.closed.hypotheses.items.items));
-    taken : All (IsTaken (length (terms_of l.table))) l.rows.items;
+  known : AreGathered (terms_of l.table) (take l.pred-index (map formula_of l.closed.hypotheses.items.items)) l.rows.items;
+  terms : terms_of l.table ≡ each_numbered [] (take l.pred-index (map formula_of l.closed.hypotheses.items.items));
+  taken : All (IsTaken (length (terms_of l.table))) l.rows.items;
 }

@@ -47,9 +47,12 @@ returns-in-Err-Past-clause-halt c =
     let past = c.in-Err-Past.ensures.past c.in-Err-Past.past c.in-Err-Past.field-0-is in
     let step = c.in-Err-Past.ensures.step c.in-Err-Past.past c.in-Err-Past.field-0-is in
     let solved = rw c.in-Ok-Some.field-0-is at c.in-Ok-Some.ensures.some in
-    let literals = implication_literals (implication_of c.args.closed.now) in
-    (refl, past, large_of (terms_of c.rows_of.new.table) (implication_of c.args.closed.now) c.in_ok-rows.rows.items c.deref.result.now c.in-Ok-Some.numbers.items c.in-Err-Past.past
-        c.len.ensures.distinct c.in_ok-rows.ensures.rows c.deref.ensures.value (subst (λ n. IsSolution n c.deref.result.now c.in-Ok-Some.numbers.items) c.len.ensures.count solved)
-        c.rows_say_what_comparisons_say.ensures.within
-        (subst (λ l. IsStepOf literals (terms_of c.rows_of.new.table) l c.in-Err-Past.past) c.new-values.ensures.numbers
-        (subst (λ l. IsStepOf literals l (numbers_of c.new-values.result) c.in-Err-Past.past) c.new-values.ensures.table step)) past)
+    let literals = implication_literals (implication_of c.args.closed.now) in (
+      refl,
+      past,
+      large_of (terms_of c.rows_of.new.table) (implication_of c.args.closed.now) c.in_ok-rows.rows.items c.deref.result.now c.in-Ok-Some.numbers.items c.in-Err-Past.past
+          c.len.ensures.distinct c.in_ok-rows.ensures.rows c.deref.ensures.value (subst (λ n. IsSolution n c.deref.result.now c.in-Ok-Some.numbers.items) c.len.ensures.count solved)
+          c.rows_say_what_comparisons_say.ensures.within
+          (subst (λ l. IsStepOf literals (terms_of c.rows_of.new.table) l c.in-Err-Past.past) c.new-values.ensures.numbers
+          (subst (λ l. IsStepOf literals l (numbers_of c.new-values.result) c.in-Err-Past.past) c.new-values.ensures.table step)) past,
+    )

@@ -14,15 +14,15 @@ pub returns-clause-row : goal.returns-clause-row
 returns-clause-row c =
     let is = gathered_row (terms_of c.tighten.new.table) c.args.positive (formula_of c.args.pred.now) c.in-Some.row _ c.requires c.in_ok-reading.ensures.reading c.in-Some.ensures.some in
     record {
-        plain = c.requires;
-        fits = c.in_ok-reading.ensures.fits;
-        of_row = record {
-            terms = terms_of c.tighten.new.table;
-            more = [];
-            front = sym (append-nil (terms_of c.tighten.new.table));
-            differ = c.len-count.ensures.distinct;
-            is = is
-        }
+      plain = c.requires;
+      fits = c.in_ok-reading.ensures.fits;
+      of_row = record {
+        terms = terms_of c.tighten.new.table;
+        more = [];
+        front = sym (append-nil (terms_of c.tighten.new.table));
+        differ = c.len-count.ensures.distinct;
+        is = is;
+      };
     }
 
 pub returns-clause-taken : goal.returns-clause-taken

@@ -16,7 +16,7 @@ is_open-requires c =
     let fits = known_fits c.args.stages.now c.loop-k.k c.index-stages-k.result at in
     let count = ap length e in
     let taken : IsStageTaken c.args.terms c.index-stages-k.result =
-        subst (IsStageTaken c.args.terms) (sym c.index-stages-k.is) (c.requires.taken c.loop-k.k c.index-stages-k.result c.loop-k-test.true) in
+    subst (IsStageTaken c.args.terms) (sym c.index-stages-k.is) (c.requires.taken c.loop-k.k c.index-stages-k.result c.loop-k-test.true) in
     (subst (IsGoing c.loop-k.engine) (sym e) c.loop-k.invariant.going, (subst (λ n. IsStageTaken n c.index-stages-k.result) (sym c.loop-k.invariant.terms) taken, omega (arith, c.requires.room, c.loop-k.invariant.rows)))
 
 at_true : (A B : Type 0) (b : Bool) → b ≡ true → MatchBool b A B → A
@@ -31,10 +31,10 @@ returns-then-can-clause-some c =
     let e : rows_in (table_rows c.loop-k.engine) ≡ k = known_by _ k c.loop-k.invariant.going.standing in
     let at : slice_get c.args.stages.now c.loop-k.k ≡ Some c.index-stages-k.result = slice_get_read _ _ _ _ refl c.loop-k-test.true c.index-stages-k.is in
     record {
-        problem = problem_after k c.index-stages-k.result;
-        at = stage_problem [] c.args.stages.now c.loop-k.k c.index-stages-k.result at;
-        before = c.loop-k.invariant.none;
-        solvable = subst (λ l. IsSolvable (problem_after l c.index-stages-k.result)) e (at_true _ _ c.in-Ok.can c.if-can.true c.in-Ok.ensures.solvable)
+      problem = problem_after k c.index-stages-k.result;
+      at = stage_problem [] c.args.stages.now c.loop-k.k c.index-stages-k.result at;
+      before = c.loop-k.invariant.none;
+      solvable = subst (λ l. IsSolvable (problem_after l c.index-stages-k.result)) e (at_true _ _ c.in-Ok.can c.if-can.true c.in-Ok.ensures.solvable);
     }
 
 pub returns-in-Err-clause-halt : goal.returns-in-Err-clause-halt
@@ -52,13 +52,13 @@ loop-k-preserved c =
     let e : rows_in (table_rows c.loop-k.engine) ≡ k = known_by _ k c.loop-k.invariant.going.standing in
     let at : slice_get c.args.stages.now c.loop-k.k ≡ Some c.index-stages-k.result = slice_get_read _ _ _ _ refl c.loop-k-test.true c.index-stages-k.is in
     record {
-        going = subst (IsGoing c.is_open.new.engine) (ap (λ l. l ++ c.index-stages-k.result.assumed.items) e ∙ sym (known_more c.args.stages.now c.loop-k.k c.index-stages-k.result at))
-            (at_false _ _ c.in-Ok.can c.if-can.false c.in-Ok.ensures.going);
-        none = none_more (problems_of c.args.stages.now) c.loop-k.k (problem_after k c.index-stages-k.result) c.loop-k.invariant.none
-            (stage_problem [] c.args.stages.now c.loop-k.k c.index-stages-k.result at)
-            (subst (λ l. IsSolvable (problem_after l c.index-stages-k.result) → ⊥) e (at_false _ _ c.in-Ok.can c.if-can.false c.in-Ok.ensures.solvable));
-        terms = cc (c.is_open.ensures.limits, c.loop-k.invariant.terms);
-        rows = cc (c.is_open.ensures.limits, c.loop-k.invariant.rows)
+      going = subst (IsGoing c.is_open.new.engine) (ap (λ l. l ++ c.index-stages-k.result.assumed.items) e ∙ sym (known_more c.args.stages.now c.loop-k.k c.index-stages-k.result at))
+          (at_false _ _ c.in-Ok.can c.if-can.false c.in-Ok.ensures.going);
+      none = none_more (problems_of c.args.stages.now) c.loop-k.k (problem_after k c.index-stages-k.result) c.loop-k.invariant.none
+          (stage_problem [] c.args.stages.now c.loop-k.k c.index-stages-k.result at)
+          (subst (λ l. IsSolvable (problem_after l c.index-stages-k.result) → ⊥) e (at_false _ _ c.in-Ok.can c.if-can.false c.in-Ok.ensures.solvable));
+      terms = cc (c.is_open.ensures.limits, c.loop-k.invariant.terms);
+      rows = cc (c.is_open.ensures.limits, c.loop-k.invariant.rows);
     }
 
 pub returns-clause-none : goal.returns-clause-none

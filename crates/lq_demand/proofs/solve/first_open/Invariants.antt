@@ -9,8 +9,8 @@ ghost-is_open a = rows_in (table_rows a.engine.now)
 
 abbrev pub invariant-loop-k : goal.invariant-loop-k
 invariant-loop-k l = record {
-    going : IsGoing l.engine (known_in (take l.k l.stages));
-    none : NoneBefore (problems_of l.stages) l.k;
-    terms : l.engine.terms ≡ l.terms;
-    rows : l.engine.rows ≡ l.rows;
+  going : IsGoing l.engine (known_in (take l.k l.stages));
+  none : NoneBefore (problems_of l.stages) l.k;
+  terms : l.engine.terms ≡ l.terms;
+  rows : l.engine.rows ≡ l.rows;
 }
