@@ -1,16 +1,18 @@
 -- At most one status and one report are due.
-use Rattle.std.proofs.Common.{◌≡◌, ◌⊎◌, inl, inr, ℕ, ◌<◌, ◌-◌, ◌^◌, List, [], length, Option, Some, None, Ok, Err, refl, sym, ap, ◌∙◌, subst, arith}
+use Rattle.std.proofs.Common.{◌≡◌, ◌⊎◌, ⊎_elim, inl, inr, ℕ, ◌<◌, ◌-◌, ◌^◌, List, [], length, Option, Some, None, Result, Ok, Err, refl, sym, ap, ◌∙◌, subst, arith}
 use Rattle.std.specs.Prelude.{codes}
 use Rattle.lq_io.specs.Folder.{Files}
+use Rattle.lq_app.specs.declared.verdict.Judgement.{Judgement}
 use Rattle.lq_app.specs.declared.verdict.Judgement.TheVariants as judgement
-use Rattle.lq_app.specs.declared.verdict.Refusal.TheVariants.{Code}
+use Rattle.lq_app.specs.declared.verdict.Refusal.{Refusal}
+use Rattle.lq_app.specs.declared.verdict.Refusal.TheVariants as refusal
 use Rattle.lq_app.specs.declared.status.Status.{Status}
 use Rattle.lq_app.specs.declared.status.Status.TheVariants.{Good, Rejected, Undecided, Refused, Usage, File, SinkFault, Memory}
-use Rattle.lq_app.specs.Ends.{Ends}
+use Rattle.lq_app.specs.Ends.{Ends, WritesAll}
 use Rattle.lq_app.specs.Command.{file_named, usage_line}
-use Rattle.lq_app.specs.Judgement.{IsJudgement}
-use Rattle.lq_app.specs.Report.{Visit, IsHanded, IsFileFault, IsVerdict, IsDue, IsDetermined}
-use Rattle.lq_app.proofs.Unique.{judged_once}
+use Rattle.lq_app.specs.Judgement.{IsUngathered, IsPastNumber, IsJudgement, IsByNumber, Agree, IsOneJudgement, HasSmallDemands}
+use Rattle.lq_app.proofs.Judged.{decided_is}
+use Rattle.lq_app.specs.Report.{Visit, IsHanded, IsFileFault, IsVerdict, IsDue, IsByNumberHere, SameReport, IsDetermined}
 
 -- what is held under the name that was named
 same_name : (words : List (List ℕ)) (name other : List ℕ) → file_named words ≡ Some name → file_named words ≡ Some other → name ≡ other
@@ -19,36 +21,80 @@ same_name words name other e f = cc
 same_text : (v : Visit) (held : Files) (name text other : List ℕ) → v.files ≡ Some held → IsHanded v name text → IsHanded v name other → text ≡ other
 same_text v held name text other told is also = let a = is.holds held told in let b = also.holds held told in cc
 
--- two verdicts on one text are one
-good_with : (text : List ℕ) (t : Status) (r q : List ℕ) → IsJudgement text (Ok (judgement.Accepted [])) → r ≡ codes "accepted\n" → IsVerdict text t q → (Good ≡ t) × (r ≡ q)
-good_with text Good r q a is b = (refl, is ∙ sym b.1)
-good_with text Refused r q a is b = absurd (let same = judged_once text (Ok (judgement.Accepted [])) (Err (Code b.0 q)) a b.1 in cc)
-good_with text Rejected r q a is b = absurd b.1
-good_with text Undecided r q a is b = absurd b
-good_with text Usage r q a is b = absurd b
-good_with text File r q a is b = absurd b
-good_with text SinkFault r q a is b = absurd b
-good_with text Memory r q a is b = absurd b
+-- the judgement of a verdict
+abbrev judgement_of : Status → List ℕ → List ℕ → ℕ → Result Judgement Refusal
+judgement_of Good r explained code = Ok (judgement.Accepted [])
+judgement_of Rejected r explained code = Ok (judgement.Rejected r explained)
+judgement_of Undecided r explained code = Ok (judgement.Undecided r)
+judgement_of Refused r explained code = Err (refusal.Code code r)
+judgement_of Usage r explained code = Err refusal.Memory
+judgement_of File r explained code = Err refusal.Memory
+judgement_of SinkFault r explained code = Err refusal.Memory
+judgement_of Memory r explained code = Err refusal.Memory
 
-refused_with : (text : List ℕ) (t : Status) (c : ℕ) (r q : List ℕ) → IsJudgement text (Err (Code c r)) → IsVerdict text t q → (Refused ≡ t) × (r ≡ q)
-refused_with text Good c r q a b = absurd (let same = judged_once text (Err (Code c r)) (Ok (judgement.Accepted [])) a b.0 in cc)
-refused_with text Refused c r q a b = (refl, let same = judged_once text (Err (Code c r)) (Err (Code b.0 q)) a b.1 in cc)
-refused_with text Rejected c r q a b = absurd b.1
-refused_with text Undecided c r q a b = absurd b
-refused_with text Usage c r q a b = absurd b
-refused_with text File c r q a b = absurd b
-refused_with text SinkFault c r q a b = absurd b
-refused_with text Memory c r q a b = absurd b
+-- the text may be undecided by a number, and this is so
+abbrev ByNumber : List ℕ → Status → List ℕ → Type 0
+ByNumber text s r = (s ≡ Undecided) × IsPastNumber text r
 
-verdicts : (text : List ℕ) (s t : Status) (r q : List ℕ) → IsVerdict text s r → IsVerdict text t q → (s ≡ t) × (r ≡ q)
-verdicts text Good t r q a b = good_with text t r q a.0 a.1 b
-verdicts text Refused t r q a b = refused_with text t a.0 r q a.1 b
-verdicts text Rejected t r q a b = absurd a.1
-verdicts text Undecided t r q a b = absurd a
-verdicts text Usage t r q a b = absurd a
-verdicts text File t r q a b = absurd a
-verdicts text SinkFault t r q a b = absurd a
-verdicts text Memory t r q a b = absurd a
+by_number : (text : List ℕ) (s : Status) (r explained : List ℕ) (code : ℕ) → IsByNumber text (judgement_of s r explained code) → ByNumber text s r
+by_number text Undecided r e c is = (refl, is)
+by_number text Good r e c is = absurd is
+by_number text Rejected r e c is = absurd is
+by_number text Refused r e c is = absurd is
+by_number text Usage r e c is = absurd is
+by_number text File r e c is = absurd is
+by_number text SinkFault r e c is = absurd is
+by_number text Memory r e c is = absurd is
+
+-- what a verdict tells besides its report
+record Told (text : List ℕ) (s : Status) (r : List ℕ) : Type 0 where
+  explained : List ℕ
+  code : ℕ
+  due : IsJudgement text (judgement_of s r explained code)
+  accepted : s ≡ Good → r ≡ codes "accepted\n"
+
+told_of : (text : List ℕ) (s : Status) (r : List ℕ) → IsVerdict text s r → Told text s r
+told_of text Good r a = record { explained = []; code = 0; due = a.0; accepted = λ e. a.1 }
+told_of text Rejected r a = record { explained = a.0; code = 0; due = a.1; accepted = λ e. absurd cc }
+told_of text Undecided r a = record { explained = []; code = 0; due = a; accepted = λ e. absurd cc }
+told_of text Refused r a = record { explained = []; code = a.0; due = a.1; accepted = λ e. absurd cc }
+told_of text Usage r a = absurd a
+told_of text File r a = absurd a
+told_of text SinkFault r a = absurd a
+told_of text Memory r a = absurd a
+
+-- judgements that agree are told alike
+told_alike : (text : List ℕ) (s t : Status) (r q : List ℕ) (a : Told text s r) (b : Told text t q) → Agree (judgement_of s r a.explained a.code) (judgement_of t q b.explained b.code) → (s ≡ t) × SameReport s r q
+told_alike text Good Good r q a b agree = (refl, a.accepted refl ∙ sym (b.accepted refl))
+told_alike text Good Rejected r q a b agree = absurd cc
+told_alike text Good Undecided r q a b agree = absurd cc
+told_alike text Good Refused r q a b agree = absurd cc
+told_alike text Rejected Good r q a b agree = absurd cc
+told_alike text Rejected Rejected r q a b agree = (refl, agree.0)
+told_alike text Rejected Undecided r q a b agree = absurd cc
+told_alike text Rejected Refused r q a b agree = absurd cc
+told_alike text Undecided Good r q a b agree = absurd cc
+told_alike text Undecided Rejected r q a b agree = absurd cc
+told_alike text Undecided Undecided r q a b agree = (refl, cc)
+told_alike text Undecided Refused r q a b agree = absurd cc
+told_alike text Refused Good r q a b agree = absurd cc
+told_alike text Refused Rejected r q a b agree = absurd cc
+told_alike text Refused Undecided r q a b agree = absurd cc
+told_alike text Refused Refused r q a b agree = (refl, cc)
+told_alike text Usage t r q a b agree = absurd a.due
+told_alike text File t r q a b agree = absurd a.due
+told_alike text SinkFault t r q a b agree = absurd a.due
+told_alike text Memory t r q a b agree = absurd a.due
+told_alike text s t r q a b agree = absurd b.due
+
+-- two verdicts on one text agree, or one is by a number
+verdicts : IsOneJudgement → (text : List ℕ) (s t : Status) (r q : List ℕ) → IsVerdict text s r → IsVerdict text t q → ((s ≡ t) × SameReport s r q) ⊎ (ByNumber text s r ⊎ ByNumber text t q)
+verdicts law text s t r q is also =
+    let a = told_of text s r is in
+    let b = told_of text t q also in
+    ⊎_elim (λ agree. inl (told_alike text s t r q a b agree))
+    (λ number. inr (⊎_elim (λ n. inl (by_number text s r a.explained a.code n)) (λ n. inr (by_number text t q b.explained b.code n)) number))
+    (law text (judgement_of s r a.explained a.code) (judgement_of t q b.explained b.code) a.due b.due)
 
 -- two faults of one file are one
 faults : (v : Visit) (held : Files) (name r q : List ℕ) → v.files ≡ Some held → v.failures_now < 2 ^ 64 - 1 → IsFileFault v name r → IsFileFault v name q → r ≡ q
@@ -71,8 +117,15 @@ fault_or_handed v held name text r told low (inr (inr a)) h =
     let same : long.0 ≡ text = cc in
     omega (arith, ap length same, long.2, h.bound)
 
+-- the same status, and the same report but for the point that is shown
+abbrev SameDue : Status → Status → List ℕ → List ℕ → Type 0
+SameDue s t r q = (s ≡ t) × SameReport s r q
+
+abbrev Either : List (List ℕ) → Visit → Status → Status → List ℕ → List ℕ → Type 0
+Either words v s t r q = SameDue s t r q ⊎ (IsByNumberHere words v s r ⊎ IsByNumberHere words v t q)
+
 -- a run with no command, with a file that doesn't come, and with a text
-usage_with : (words : List (List ℕ)) (v : Visit) (t : Status) (r q : List ℕ) → file_named words ≡ None → r ≡ usage_line → IsDue words v t q → (Usage ≡ t) × (r ≡ q)
+usage_with : (words : List (List ℕ)) (v : Visit) (t : Status) (r q : List ℕ) → file_named words ≡ None → r ≡ usage_line → IsDue words v t q → SameDue Usage t r q
 usage_with words v Usage r q none is b = (refl, is ∙ sym b.2)
 usage_with words v File r q none is b = absurd (let some = b.1 in cc)
 usage_with words v Good r q none is b = absurd (let some = b.2 in cc)
@@ -82,60 +135,85 @@ usage_with words v Undecided r q none is b = absurd (let some = b.2 in cc)
 usage_with words v SinkFault r q none is b = absurd b
 usage_with words v Memory r q none is b = absurd b
 
-judged_with : (words : List (List ℕ)) (v : Visit) (held : Files) (s : Status) (name text : List ℕ) (t : Status) (r q : List ℕ) → v.files ≡ Some held → v.failures_now < 2 ^ 64 - 1
-    → file_named words ≡ Some name → IsHanded v name text → IsVerdict text s r → IsDue words v t q → (s ≡ t) × (r ≡ q)
-judged_with words v held s name text t r q told low named handed verdict due = by_status t due
+-- a verdict on a text that was handed over
+judged_with : IsOneJudgement → (words : List (List ℕ)) (v : Visit) (held : Files) (s : Status) (name text : List ℕ) (t : Status) (r q : List ℕ) → v.files ≡ Some held → v.failures_now < 2 ^ 64 - 1
+    → file_named words ≡ Some name → IsHanded v name text → IsVerdict text s r → IsDue words v t q → Either words v s t r q
+judged_with law words v held s name text t r q told low named handed verdict due = by_status t due
   where
     text_is : (other there : List ℕ) → file_named words ≡ Some other → IsHanded v other there → there ≡ text
     text_is other there also h = same_text v held name there text told (subst (λ (n : List ℕ). IsHanded v n there) (same_name words other name also named) h) handed
 
-    by_status : (t : Status) → IsDue words v t q → (s ≡ t) × (r ≡ q)
+    here : (u : Status) (w : List ℕ) → ByNumber text u w → IsByNumberHere words v u w
+    here u w n = (n.0, (name, text, named, handed, n.1))
+
+    with_verdict : (u : Status) → IsVerdict text u q → Either words v s u r q
+    with_verdict u also =
+        ⊎_elim (λ same. inl same) (λ number. inr (⊎_elim (λ n. inl (here s r n)) (λ n. inr (here u q n)) number)) (verdicts law text s u r q verdict also)
+
+    by_status : (u : Status) → IsDue words v u q → Either words v s u r q
     by_status Usage b = absurd (let none = b.0 in cc)
     by_status File b = absurd (fault_or_handed v held name text q told low (subst (λ (n : List ℕ). IsFileFault v n q) (same_name words b.0 name b.1 named) b.2) handed)
-    by_status Good b = verdicts text s Good r q verdict (subst (λ (l : List ℕ). IsVerdict l Good q) (text_is b.0 b.1 b.2 b.3) b.4)
-    by_status Refused b = verdicts text s Refused r q verdict (subst (λ (l : List ℕ). IsVerdict l Refused q) (text_is b.0 b.1 b.2 b.3) b.4)
-    by_status Rejected b = absurd b.4.1
-    by_status Undecided b = absurd b.4
+    by_status Good b = with_verdict Good (subst (λ (l : List ℕ). IsVerdict l Good q) (text_is b.0 b.1 b.2 b.3) b.4)
+    by_status Refused b = with_verdict Refused (subst (λ (l : List ℕ). IsVerdict l Refused q) (text_is b.0 b.1 b.2 b.3) b.4)
+    by_status Rejected b = with_verdict Rejected (subst (λ (l : List ℕ). IsVerdict l Rejected q) (text_is b.0 b.1 b.2 b.3) b.4)
+    by_status Undecided b = with_verdict Undecided (subst (λ (l : List ℕ). IsVerdict l Undecided q) (text_is b.0 b.1 b.2 b.3) b.4)
     by_status SinkFault b = absurd b
     by_status Memory b = absurd b
 
 fault_with : (words : List (List ℕ)) (v : Visit) (held : Files) (name : List ℕ) (t : Status) (r q : List ℕ) → v.files ≡ Some held → v.failures_now < 2 ^ 64 - 1
-    → file_named words ≡ Some name → IsFileFault v name r → IsDue words v t q → (File ≡ t) × (r ≡ q)
+    → file_named words ≡ Some name → IsFileFault v name r → IsDue words v t q → SameDue File t r q
 fault_with words v held name t r q told low named fault due = by_status t due
   where
     handed_is : (other text : List ℕ) → file_named words ≡ Some other → IsHanded v other text → ⊥
     handed_is other text also h = fault_or_handed v held name text r told low fault (subst (λ (n : List ℕ). IsHanded v n text) (same_name words other name also named) h)
 
-    by_status : (t : Status) → IsDue words v t q → (File ≡ t) × (r ≡ q)
+    by_status : (u : Status) → IsDue words v u q → SameDue File u r q
     by_status Usage b = absurd (let none = b.0 in cc)
     by_status File b = (refl, faults v held name r q told low fault (subst (λ (n : List ℕ). IsFileFault v n q) (same_name words b.0 name b.1 named) b.2))
     by_status Good b = absurd (handed_is b.0 b.1 b.2 b.3)
     by_status Refused b = absurd (handed_is b.0 b.1 b.2 b.3)
-    by_status Rejected b = absurd b.4.1
-    by_status Undecided b = absurd b.4
+    by_status Rejected b = absurd (handed_is b.0 b.1 b.2 b.3)
+    by_status Undecided b = absurd (handed_is b.0 b.1 b.2 b.3)
     by_status SinkFault b = absurd b
     by_status Memory b = absurd b
 
-pub determined : IsDetermined
-determined words v held Usage t r q told low a b = usage_with words v t r q a.0 a.2 b
-determined words v held File t r q told low a b = fault_with words v held a.0 t r q told low a.1 a.2 b
-determined words v held Good t r q told low a b = judged_with words v held Good a.0 a.1 t r q told low a.2 a.3 a.4 b
-determined words v held Refused t r q told low a b = judged_with words v held Refused a.0 a.1 t r q told low a.2 a.3 a.4 b
-determined words v held Rejected t r q told low a b = absurd a.4.1
-determined words v held Undecided t r q told low a b = absurd a.4
-determined words v held SinkFault t r q told low a b = absurd a
-determined words v held Memory t r q told low a b = absurd a
+pub determined : IsOneJudgement → IsDetermined
+determined law words v held Usage t r q told low a b = inl (usage_with words v t r q a.0 a.2 b)
+determined law words v held File t r q told low a b = inl (fault_with words v held a.0 t r q told low a.1 a.2 b)
+determined law words v held Good t r q told low a b = judged_with law words v held Good a.0 a.1 t r q told low a.2 a.3 a.4 b
+determined law words v held Refused t r q told low a b = judged_with law words v held Refused a.0 a.1 t r q told low a.2 a.3 a.4 b
+determined law words v held Rejected t r q told low a b = judged_with law words v held Rejected a.0 a.1 t r q told low a.2 a.3 a.4 b
+determined law words v held Undecided t r q told low a b = judged_with law words v held Undecided a.0 a.1 t r q told low a.2 a.3 a.4 b
+determined law words v held SinkFault t r q told low a b = absurd a
+determined law words v held Memory t r q told low a b = absurd a
 
--- At most a fault of the sink or want of memory comes in place of what is due.
-pub exact : (words : List (List ℕ)) (v : Visit) (held : Files) (old new : Option (List ℕ)) (status due : Status) (report : List ℕ) → Ends (IsDue words v) old new status → v.files ≡ Some held → v.failures_now < 2 ^ 64 - 1 → IsDue words v due report → (status ≡ due) ⊎ ((status ≡ SinkFault) ⊎ (status ≡ Memory))
-exact words v held old new Memory due report ends told low is = inr (inr refl)
-exact words v held old new SinkFault due report ends told low is = inr (inl refl)
-exact words v held old new Good due report ends told low is = inl (determined words v held Good due ends.0 report told low ends.1 is).0
-exact words v held old new Rejected due report ends told low is = inl (determined words v held Rejected due ends.0 report told low ends.1 is).0
-exact words v held old new Undecided due report ends told low is = inl (determined words v held Undecided due ends.0 report told low ends.1 is).0
-exact words v held old new Refused due report ends told low is = inl (determined words v held Refused due ends.0 report told low ends.1 is).0
-exact words v held old new Usage due report ends told low is = inl (determined words v held Usage due ends.0 report told low ends.1 is).0
-exact words v held old new File due report ends told low is = inl (determined words v held File due ends.0 report told low ends.1 is).0
+-- some report is due by which the text is undecided by a number
+abbrev pub MayStop : List (List ℕ) → Visit → Type 0
+MayStop words v = (report : List ℕ) × IsByNumberHere words v Undecided report
+
+may_stop : (words : List (List ℕ)) (v : Visit) (s : Status) (r : List ℕ) → IsByNumberHere words v s r → MayStop words v
+may_stop words v s r is = (r, (refl, is.1))
+
+due_or_number : (words : List (List ℕ)) (v : Visit) (s t : Status) (r q : List ℕ) → Either words v s t r q → (s ≡ t) ⊎ MayStop words v
+due_or_number words v s t r q either =
+    ⊎_elim (λ same. inl same.0) (λ number. inr (⊎_elim (λ n. may_stop words v s r n) (λ n. may_stop words v t q n) number)) either
+
+written : IsOneJudgement → (words : List (List ℕ)) (v : Visit) (held : Files) (status due : Status) (report : List ℕ) (old new : Option (List ℕ)) → WritesAll (IsDue words v) old new status → v.files ≡ Some held → v.failures_now < 2 ^ 64 - 1 → IsDue words v due report
+    → (status ≡ due) ⊎ ((status ≡ SinkFault) ⊎ ((status ≡ Memory) ⊎ MayStop words v))
+written law words v held status due report old new all told low is =
+    ⊎_elim (λ same. inl same) (λ stop. inr (inr (inr stop))) (due_or_number words v status due all.0 report (determined law words v held status due all.0 report told low all.1 is))
+
+-- At most a fault of the sink, want of memory or a number in solving comes in place of what is due.
+pub exact : IsOneJudgement → (words : List (List ℕ)) (v : Visit) (held : Files) (old new : Option (List ℕ)) (status due : Status) (report : List ℕ) → Ends (IsDue words v) old new status → v.files ≡ Some held → v.failures_now < 2 ^ 64 - 1 → IsDue words v due report
+    → (status ≡ due) ⊎ ((status ≡ SinkFault) ⊎ ((status ≡ Memory) ⊎ MayStop words v))
+exact law words v held old new Memory due report ends told low is = inr (inr (inl refl))
+exact law words v held old new SinkFault due report ends told low is = inr (inl refl)
+exact law words v held old new Good due report ends told low is = written law words v held Good due report old new ends told low is
+exact law words v held old new Rejected due report ends told low is = written law words v held Rejected due report old new ends told low is
+exact law words v held old new Undecided due report ends told low is = written law words v held Undecided due report old new ends told low is
+exact law words v held old new Refused due report ends told low is = written law words v held Refused due report old new ends told low is
+exact law words v held old new Usage due report ends told low is = written law words v held Usage due report old new ends told low is
+exact law words v held old new File due report ends told low is = written law words v held File due report old new ends told low is
 
 -- Other words than a command are answered by the usage line.
 pub usage_due : (words : List (List ℕ)) (v : Visit) (old new : Option (List ℕ)) (status : Status) → Ends (IsDue words v) old new status → file_named words ≡ None → (status ≡ Usage) ⊎ ((status ≡ SinkFault) ⊎ (status ≡ Memory))
@@ -158,3 +236,17 @@ failure_due words v old new Good ends rose = absurd (omega (arith, ends.1.3.calm
 failure_due words v old new Refused ends rose = absurd (omega (arith, ends.1.3.calm))
 failure_due words v old new Rejected ends rose = absurd (omega (arith, ends.1.3.calm))
 failure_due words v old new Undecided ends rose = absurd (omega (arith, ends.1.3.calm))
+
+-- A text whose constants are small is undecided only by a comparison that can't be gathered.
+pub decided_here : (words : List (List ℕ)) (v : Visit) (old new : Option (List ℕ)) (status : Status) → Ends (IsDue words v) old new status → status ≡ Undecided
+    → (name text report : List ℕ) × (file_named words ≡ Some name) × IsHanded v name text × (HasSmallDemands text → IsUngathered text report)
+decided_here words v old new Undecided ends is =
+    let due = ends.1 in
+    (due.0, due.1, ends.0, due.2, due.3, λ small. decided_is due.1 ends.0 small due.4)
+decided_here words v old new Good ends is = absurd cc
+decided_here words v old new Rejected ends is = absurd cc
+decided_here words v old new Refused ends is = absurd cc
+decided_here words v old new Usage ends is = absurd cc
+decided_here words v old new File ends is = absurd cc
+decided_here words v old new SinkFault ends is = absurd cc
+decided_here words v old new Memory ends is = absurd cc

@@ -1,9 +1,6 @@
-pub mod Lexing
-pub mod Parsing
-pub mod Unique
-pub mod Kept
-pub mod Scoping
-pub mod Names
-pub mod Running
-pub mod Sending
+pub mod Plain
+pub mod Asserted
+pub mod Points
+pub mod Judged
 pub mod Determined
+pub mod Sending

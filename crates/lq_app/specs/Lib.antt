@@ -1,11 +1,5 @@
-pub mod Words
-pub mod Tokens
-pub mod Program
-pub mod Front
-pub mod Places
-pub mod Scope
-pub mod Visible
-pub mod Meaning
+pub mod Texts
+pub mod Steps
 pub mod Judgement
 pub mod Command
 pub mod Report

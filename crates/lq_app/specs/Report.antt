@@ -4,7 +4,7 @@ use Rattle.lq_io.specs.Causes.{Rose}
 use Rattle.lq_io.specs.Folder.{Files}
 use Rattle.lq_app.specs.declared.verdict.Judgement.TheVariants as judgement
 use Rattle.lq_app.specs.declared.verdict.Refusal.TheVariants.{Code}
-use Rattle.lq_app.specs.Judgement.{IsJudgement}
+use Rattle.lq_app.specs.Judgement.{IsJudgement, IsPastNumber, DifferInPoints}
 use Rattle.lq_app.specs.declared.status.Status.{Status}
 use Rattle.lq_app.specs.declared.status.Status.TheVariants.{Good, Rejected, Undecided, Refused, Usage, File, SinkFault, Memory}
 use Rattle.lq_app.specs.Command.{file_named, usage_line}
@@ -77,6 +77,24 @@ IsDue words v Undecided report = IsJudged words v Undecided report
 IsDue words v SinkFault report = ⊥
 IsDue words v Memory report = ⊥
 
--- Where the folder tells and its count of failures is not at the end, one status and one report are due.
+-- the text that was handed over may be undecided by a number, and this is so
+abbrev pub IsByNumberHere : List (List ℕ) → Visit → Status → List ℕ → Type 0
+IsByNumberHere words v status report =
+    (status ≡ Undecided) × ((name text : List ℕ) × (file_named words ≡ Some name) × IsHanded v name text × IsPastNumber text report)
+
+-- The reports are one, but for the point that a rejection shows.
+abbrev pub SameReport : Status → List ℕ → List ℕ → Type 0
+SameReport Rejected r q = DifferInPoints r q
+SameReport Good r q = r ≡ q
+SameReport Undecided r q = r ≡ q
+SameReport Refused r q = r ≡ q
+SameReport Usage r q = r ≡ q
+SameReport File r q = r ≡ q
+SameReport SinkFault r q = r ≡ q
+SameReport Memory r q = r ≡ q
+
+-- Where the folder tells and its count of failures is not at the end, two statuses and reports that are due are one, but for the
+-- point that a rejection shows, unless one of them is undecided by a number.
 abbrev pub IsDetermined : Type 0
-IsDetermined = (words : List (List ℕ)) (v : Visit) (held : Files) (s t : Status) (r q : List ℕ) → v.files ≡ Some held → v.failures_now < 2 ^ 64 - 1 → IsDue words v s r → IsDue words v t q → (s ≡ t) × (r ≡ q)
+IsDetermined = (words : List (List ℕ)) (v : Visit) (held : Files) (s t : Status) (r q : List ℕ) → v.files ≡ Some held → v.failures_now < 2 ^ 64 - 1 → IsDue words v s r → IsDue words v t q
+    → ((s ≡ t) × SameReport s r q) ⊎ (IsByNumberHere words v s r ⊎ IsByNumberHere words v t q)

@@ -1,33 +1,20 @@
 // Laws of the definitions. Nothing is run.
-ghost use Rattle.lq_app.specs.Program.{IsOneProgram};
-ghost use Rattle.lq_app.specs.Scope.{IsOneScope, IsOneUnknown, IsUnknownOrResolved};
-ghost use Rattle.lq_app.specs.Meaning.{StaysOver};
 ghost use Rattle.lq_app.specs.Judgement.{IsOneJudgement};
 ghost use Rattle.lq_app.specs.Report.{IsDetermined};
 
-/// A text is at most one program.
-pub fn one_program()
-    ensures { IsOneProgram }
-{}
+use lq_straight::{one_program, one_scope};
 
-/// A program is bound in at most one way, has at most one first unknown name, and not both.
-pub fn one_scope()
-    ensures resolved { IsOneScope }
-    ensures unknown { IsOneUnknown }
-    ensures either { IsUnknownOrResolved }
-{}
-
-/// What a run has come to doesn't change with more steps.
-pub fn over_stays()
-    ensures { StaysOver }
-{}
-
-/// At most one judgement on a text is due.
+/// Two judgements on a text that are due agree, but for the point that a rejection shows, unless one is undecided by a number.
 pub fn one_judgement()
     ensures { IsOneJudgement }
-{}
+{
+    one_program();
+    one_scope();
+}
 
-/// At most one status and report are due for some words, where the folder tells what it holds.
+/// Two statuses and reports that are due for some words agree so, where the folder tells what it holds.
 pub fn one_report()
     ensures { IsDetermined }
-{}
+{
+    one_judgement();
+}

@@ -2,16 +2,18 @@
 #![tactic(auto)]
 
 mod answer;
+mod failures;
 mod laws;
 mod report;
 mod run;
 mod send;
-mod small;
 mod status;
+mod steps;
+mod texts;
 mod verdict;
 mod words;
 
-pub use laws::{one_judgement, one_program, one_report, one_scope, over_stays};
+pub use laws::{one_judgement, one_report};
 pub use run::run_words;
 pub use status::Status;
 pub use verdict::{Judgement, Refusal, judge};

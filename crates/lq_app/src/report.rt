@@ -3,9 +3,9 @@ ghost use Rattle.lq_app.specs.Command.{usage_line};
 ghost use Rattle.lq_app.specs.Judgement.{unbuilt_line, unknown_line};
 ghost use Rattle.lq_app.specs.Report.{file_line};
 
-use crate::small::{Span, name_bytes, place_of};
 use itoa::Buffer;
 use lq_name::TextBuf;
+use lq_straight::{Span, name_bytes, place_of};
 use std::alloc::{AllocError, Global};
 
 // A line on a file.

@@ -1,12 +1,13 @@
-ghost use Rattle.std.specs.Prelude.{◌≡◌, ◌≢◌, ◌⊎◌, ◌<◌, ◌-◌, ◌^◌, List, ℕ, Some, None};
+ghost use Rattle.std.specs.Prelude.{◌≡◌, ◌⊎◌, ◌<◌, ◌-◌, ◌^◌, List, ℕ, Some, None};
 ghost use Rattle.lq_io.specs.Causes.{Rose};
 ghost use Rattle.lq_io.specs.Folder.{Files};
 ghost use Rattle.lq_app.specs.Command.{file_named};
-ghost use Rattle.lq_app.specs.Judgement.{IsAccepted, IsRefused};
-ghost use Rattle.lq_app.specs.Report.{visit, IsDue, IsHanded, IsFileFault};
+ghost use Rattle.lq_app.specs.Judgement.{IsAccepted, IsRejected, IsUngathered, IsPastNumber, IsRefused, HasSmallDemands};
+ghost use Rattle.lq_app.specs.Report.{visit, IsDue, IsHanded, IsFileFault, IsByNumberHere};
 ghost use Rattle.lq_app.specs.Ends.{Ends};
 
 use crate::answer::answer_to;
+use crate::laws::one_judgement;
 use crate::send::send;
 use crate::{Status, Words};
 use lq_io::{Folder, Sink};
@@ -34,23 +35,31 @@ pub fn run_words<F: Folder, K: Sink>(
         × (file_named words.now ≡ Some name)
         × IsHanded (visit F.files F.absents F.failures folder.old folder.new) name text
         × IsRefused text code report }
-    ensures never { (result ≢ Status.Rejected) × (result ≢ Status.Undecided) }
+    ensures rejected { result ≡ Status.Rejected → (name text report : List ℕ) × (file_named words.now ≡ Some name)
+        × IsHanded (visit F.files F.absents F.failures folder.old folder.new) name text × IsRejected text report }
+    ensures undecided { result ≡ Status.Undecided → (name text report : List ℕ) × (file_named words.now ≡ Some name)
+        × IsHanded (visit F.files F.absents F.failures folder.old folder.new) name text × (IsUngathered text report ⊎ IsPastNumber text report) }
+    // Where the constants are small, nothing is undecided in solving.
+    ensures decided { result ≡ Status.Undecided → (name text report : List ℕ) × (file_named words.now ≡ Some name)
+        × IsHanded (visit F.files F.absents F.failures folder.old folder.new) name text × (HasSmallDemands text → IsUngathered text report) }
     ensures sink { result ≡ Status.SinkFault → Rose (K.faults out.old) (K.faults out.new) }
     ensures memory { result ≡ Status.Memory → K.taken out.new ≡ K.taken out.old }
     // Only a fault of the sink or want of memory comes in place of what is due: the usage line for
-    // other words than a command, a fault of the file where the folder failed, and whatever is due
-    // where the folder tells.
+    // other words than a command, a fault of the file where the folder failed, and where the folder tells
+    // whatever is due. There also a number in solving may come in its place, or in place of it what is due without it.
     ensures only_usage { file_named words.now ≡ None
         → (result ≡ Status.Usage) ⊎ ((result ≡ Status.SinkFault) ⊎ (result ≡ Status.Memory)) }
     ensures only_file { F.failures folder.old < F.failures folder.new
         → (result ≡ Status.File) ⊎ ((result ≡ Status.SinkFault) ⊎ (result ≡ Status.Memory)) }
     ensures exact { (held : Files) (due : Status) (report : List ℕ) → F.files folder.old ≡ Some held → F.failures folder.new < 2 ^ 64 - 1
         → IsDue words.now (visit F.files F.absents F.failures folder.old folder.new) due report
-        → (result ≡ due) ⊎ ((result ≡ Status.SinkFault) ⊎ (result ≡ Status.Memory)) }
+        → (result ≡ due) ⊎ ((result ≡ Status.SinkFault) ⊎ ((result ≡ Status.Memory)
+        ⊎ ((cause : List ℕ) × IsByNumberHere words.now (visit F.files F.absents F.failures folder.old folder.new) Status.Undecided cause))) }
     // What is accepted is safe: on every input, any number of steps meets no fault.
     ensures safe { result ≡ Status.Good → (name text : List ℕ) × (file_named words.now ≡ Some name)
         × IsHanded (visit F.files F.absents F.failures folder.old folder.new) name text × IsAccepted text }
 {
+    one_judgement();
     run(alloc, words, folder, out)
 }
 

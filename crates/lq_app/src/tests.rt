@@ -56,6 +56,14 @@ fn reports_by_text(rt: HostRuntime) -> Result<(), Fail> {
         ("let x = 1 $", UNBUILT, 3),
         ("let x = 1 (* no blank *)", UNBUILT, 3),
         ("let x = 1 let () = assert (x<-1)", UNBUILT, 3),
+        ("let x = 1 let () = assert (x<=>1)", UNBUILT, 3),
+        ("let x = 1 let () = assert (x<>1)", UNBUILT, 3),
+        ("let x = 1 let () = assert (x->1)", UNBUILT, 3),
+        ("let x = 1 let () = assert (x = 1)", UNBUILT, 3),
+        ("let x = 1 let () = assert x", UNBUILT, 3),
+        ("let () = assert (1 + 1 < 2)", UNBUILT, 3),
+        ("let () = assert (1 < 2) 3", UNBUILT, 3),
+        ("let assert = 1", UNBUILT, 3),
         ("let _ = 1", UNBUILT, 3),
         ("let while = 1", UNBUILT, 3),
         ("let print_int = 1", UNBUILT, 3),
@@ -64,6 +72,21 @@ fn reports_by_text(rt: HostRuntime) -> Result<(), Fail> {
         ("let X = 1", UNBUILT, 3),
         ("let y = z", "refused 6 Unknown in program at 1:9: z\n", 3),
         ("let y = y", "refused 6 Unknown in program at 1:9: y\n", 3),
+        (
+            "let () = assert (y < z)",
+            "refused 6 Unknown in program at 1:18: y\n",
+            3,
+        ),
+        (
+            "let y = 1 let () = assert (y < z) let () = assert (w < 1)",
+            "refused 6 Unknown in program at 1:32: z\n",
+            3,
+        ),
+        (
+            "let () = assert (x < 1) let x = 0",
+            "refused 6 Unknown in program at 1:18: x\n",
+            3,
+        ),
         (
             "let a = 1\n\n let b = a\nlet c =   b' + 1 let d = e",
             "refused 6 Unknown in program at 4:11: b'\n",
@@ -87,6 +110,154 @@ fn reports_by_text(rt: HostRuntime) -> Result<(), Fail> {
     }
     let (_, written) = checked(alloc, vec![in alloc; 200u8, 10, 0]?)?;
     assert_eq!(rt; written.as_slice(), UNBUILT.as_bytes());
+    Ok(())
+}
+
+const REJECTED: &str = "rejected\ndemand 1 at 1:10: assertion\n";
+
+#[test]
+fn verdicts_by_text(rt: HostRuntime) -> Result<(), Fail> {
+    let alloc = rt.alloc();
+    let cases = [
+        (
+            "let x = read_int ()\nlet () = assert (x <= x + 1)\n",
+            "accepted\n",
+            0,
+        ),
+        ("let () = assert (1 < 1)\n", REJECTED, 1),
+        (
+            "let () = assert (1 < 2) let () = assert (2 <= 2) let () = assert (2 > 1) let () = assert (-2 >= -2)",
+            "accepted\n",
+            0,
+        ),
+        ("let () = assert (3 <= 2)", REJECTED, 1),
+        ("let () = assert (2 > 2)", REJECTED, 1),
+        ("let () = assert (1 >= 2)", REJECTED, 1),
+        (
+            "let()=assert(0>=-1)let()=assert(-1<0)let()=assert(-1<= -1)",
+            "accepted\n",
+            0,
+        ),
+        (
+            "let x = 5 let y = x + 2 let () = assert (y >= 7) let () = assert (y < 8)",
+            "accepted\n",
+            0,
+        ),
+        (
+            "let x = read_int () let y = x let () = assert (x <= y) let () = assert (y <= x)",
+            "accepted\n",
+            0,
+        ),
+        (
+            "let x = read_int () let y = x + 1 let z = x + 3 let () = assert (y + 1 < z) let () = assert (x < z - 2)",
+            "accepted\n",
+            0,
+        ),
+        // A name that is defined again is no contradiction, and a later definition of it has a number.
+        (
+            "let x = 1 let x = 2 let () = assert (x >= 2)",
+            "accepted\n",
+            0,
+        ),
+        (
+            "let x = 1\nlet x = x + 1\nlet () = assert (x < 2)",
+            "rejected\ndemand 1 at 3:10: assertion\nx = 1\nx@2 = 2\n",
+            1,
+        ),
+        // The first demand that isn't valid is told, and an assertion leaves nothing behind.
+        (
+            "let x = -3 let () = assert (x < 0)\n  let () = assert (x >= 0) let () = assert (0 < 0)",
+            "rejected\ndemand 2 at 2:12: assertion\nx = -3\n",
+            1,
+        ),
+        (
+            "let () = assert (1 < 1) let () = assert (1 < 1)",
+            REJECTED,
+            1,
+        ),
+        // What can't be gathered is told before a demand that fails.
+        (
+            "let x = read_int ()\nlet () = assert (x <= 170141183460469231731687303715884105727)",
+            "undecided\ndemand 1 at 2:10: assertion\nnumber past in x <= 170141183460469231731687303715884105727\n",
+            2,
+        ),
+        (
+            "let x = read_int () let x = x let () = assert (x < 10)\nlet () = assert (x <= 170141183460469231731687303715884105727)",
+            "undecided\ndemand 2 at 2:10: assertion\nnumber past in x@2 <= 170141183460469231731687303715884105727\n",
+            2,
+        ),
+        (
+            "let y = 1\nlet () = assert (-170141183460469231731687303715884105727 > y + 3)",
+            "undecided\ndemand 1 at 2:10: assertion\nnumber past in -170141183460469231731687303715884105727 > y + 3\n",
+            2,
+        ),
+        (
+            "let y = 1\nlet () = assert (y - 2 < -170141183460469231731687303715884105727)",
+            "rejected\ndemand 1 at 2:10: assertion\ny = 1\n",
+            1,
+        ),
+        (
+            "let x = 85070591730234615865843651857942052863 let () = assert (x > 0)",
+            "accepted\n",
+            0,
+        ),
+    ];
+    for (text, report, status) in cases {
+        let (ended, written) = checked(alloc, Vec::from_slice(alloc, text.as_bytes())?)?;
+        assert_eq!(rt; ended.number(), status, "at {text}");
+        assert_eq!(rt; written.as_slice(), report.as_bytes(), "at {text}");
+    }
+    Ok(())
+}
+
+// The bytes between the two, as a number.
+fn number_between(text: &[u8], before: &str, behind: &str) -> Option<i128> {
+    let rest = text.strip_prefix(before.as_bytes())?;
+    let number = rest.strip_suffix(behind.as_bytes())?;
+    match std::str::from_utf8(number) {
+        Ok(number) => number.parse::<i128>().ok(),
+        Err(_) => None,
+    }
+}
+
+#[test]
+fn points_by_text(rt: HostRuntime) -> Result<(), Fail> {
+    let alloc = rt.alloc();
+    let text = b"let x = read_int ()\nlet () = assert (x < 10)\n".as_slice();
+    let (ended, written) = checked(alloc, Vec::from_slice(alloc, text)?)?;
+    assert_eq!(rt; ended, Status::Rejected);
+    let head = "rejected\ndemand 1 at 2:10: assertion\nx = ";
+    let number = number_between(&written, head, "\n").ok_or("no number")?;
+    assert!(rt; number >= 10);
+
+    let text = b"let x = read_int ()\nlet x = x + 1\nlet () = assert (x < 10)".as_slice();
+    let (ended, written) = checked(alloc, Vec::from_slice(alloc, text)?)?;
+    assert_eq!(rt; ended, Status::Rejected);
+    let head = "rejected\ndemand 1 at 3:10: assertion\nx@2 = ";
+    let middle = "\nx = ";
+    let whole = str::from_utf8(&written)?;
+    let (first, second) = whole.split_once(middle).ok_or("no second line")?;
+    let later = number_between(first.as_bytes(), head, "").ok_or("no number")?;
+    let earlier = number_between(second.as_bytes(), "", "\n").ok_or("no number")?;
+    assert!(rt; later >= 10);
+    assert_eq!(rt; later.checked_sub(1), Some(earlier));
+    Ok(())
+}
+
+// Sizes that sum to more than 2 ^ 126: the number on the way is past 128 bits.
+#[test]
+fn numbers_past(rt: HostRuntime) -> Result<(), Fail> {
+    let alloc = rt.alloc();
+    let text = b"let x = read_int ()
+let y = x + 85070591730234615865843651857942052864
+let z = y + 85070591730234615865843651857942052864
+let w = z + 85070591730234615865843651857942052864
+let () = assert (x <= w)"
+        .as_slice();
+    let (ended, written) = checked(alloc, Vec::from_slice(alloc, text)?)?;
+    assert_eq!(rt; ended, Status::Undecided);
+    let head = b"undecided\ndemand 1 at 5:10: assertion\nnumber past ".as_slice();
+    assert!(rt; written.starts_with(head));
     Ok(())
 }
 

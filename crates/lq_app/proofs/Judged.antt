@@ -1,0 +1,204 @@
+-- Two judgements that are due agree.
+use Rattle.std.specs.Prelude.{slice_get, codes, false}
+use Rattle.std.proofs.Common.{◌≡◌, ◌⊎◌, inl, inr, ⊎_elim, ℕ, zero, suc, ◌<◌, ◌^◌, ◌++◌, List, [], ◌∷◌, take, All, Some, Result, Ok, Err, sym, ap, subst, ◌∙◌, arith}
+use Rattle.std.proofs.lemmas.Bool.{cases_lt}
+use Rattle.std.proofs.lemmas.List.Elements.{All-head, All-tail}
+use Rattle.lq_name.specs.declared.name.Binder.{Binder}
+use Rattle.lq_pred.specs.Formula.{Formula}
+use Rattle.lq_pred.specs.Points.{Point}
+use Rattle.lq_pred.specs.Comparison.{CanGather}
+use Rattle.lq_pred.specs.Reading.{reading_of, AllFitIn}
+use Rattle.lq_pred.specs.Literals.{negative, literals_of}
+use Rattle.lq_pred.specs.Implication.{Implication, IsValid}
+use Rattle.lq_demand.specs.Answer.{CanBeGathered, sizes_of, IsFirstFailing, IsFirstUngathered}
+use Rattle.lq_straight.specs.declared.token.Span.{Span}
+use Rattle.lq_straight.specs.declared.item.Item.{Item}
+use Rattle.lq_straight.specs.declared.item.Assertion.{Assertion}
+use Rattle.lq_straight.specs.Program.{IsOneProgram}
+use Rattle.lq_straight.specs.Places.{line_of, column_of}
+use Rattle.lq_straight.specs.Scope.{Resolves, IsFirstUnknown, IsOneScope, IsOneUnknown, IsUnknownOrResolved}
+use Rattle.lq_straight.specs.Demands.{goal_of, implications_of, assertions_of}
+use Rattle.lq_app.specs.declared.verdict.Judgement.{Judgement}
+use Rattle.lq_app.specs.declared.verdict.Refusal.{Refusal}
+use Rattle.lq_app.specs.declared.verdict.Judgement.TheVariants.{Accepted, Rejected, Undecided}
+use Rattle.lq_app.specs.declared.verdict.Refusal.TheVariants.{Code, Memory}
+use Rattle.lq_app.specs.Judgement.{Bound, demands, IsAccepted, IsRejected, IsUngathered, IsPastNumber, IsRefused, IsJudgement, HasSmallDemands, DifferInPoints, IsOneJudgement, head_at, unknown_line}
+use Rattle.lq_app.specs.Texts.{formula_text}
+use Rattle.lq_app.proofs.Asserted.{goal_at, goal_literals, goal_fits}
+
+-- the laws of reading and binding
+pub record Laws : Type 0 where
+  pub program : IsOneProgram
+  pub scope : IsOneScope
+  pub unknown : IsOneUnknown
+  pub either : IsUnknownOrResolved
+
+-- a text is bound in one way
+items_once : Laws → (text : List ℕ) (a b : Bound text) → a.items ≡ b.items
+items_once laws text a b = laws.program text a.items b.items a.bound.program b.bound.program
+
+scoped_once : Laws → (text : List ℕ) (a b : Bound text) → a.scoped ≡ b.scoped
+scoped_once laws text a b =
+    laws.scope text b.items a.scoped b.scoped (subst (λ (l : List (Item Span)). Resolves text l a.scoped) (items_once laws text a b) a.bound.resolves) b.bound.resolves
+
+-- what holds of all holds of one, and of one of the first
+all_at : {A : Type 0} (P : A → Type 0) (xs : List A) (k : ℕ) (x : A) → All P xs → slice_get xs k ≡ Some x → P x
+all_at P [] k x all is = absurd cc
+all_at P (y ∷ xs) zero x all is = let same : y ≡ x = cc in subst P same (All-head P y xs all)
+all_at P (y ∷ xs) (suc k) x all is = all_at P xs k x (All-tail P y xs all) is
+
+taken_at : {A : Type 0} (xs : List A) (n k : ℕ) (x : A) → k < n → slice_get xs k ≡ Some x → slice_get (take n xs) k ≡ Some x
+taken_at [] n k x lt is = absurd cc
+taken_at (y ∷ xs) zero k x lt is = absurd (omega arith)
+taken_at (y ∷ xs) (suc n) zero x lt is = is
+taken_at (y ∷ xs) (suc n) (suc k) x lt is = taken_at xs n k x (omega arith) is
+
+before_at : {A : Type 0} (P : A → Type 0) (xs : List A) (n k : ℕ) (x : A) → All P (take n xs) → k < n → slice_get xs k ≡ Some x → P x
+before_at P xs n k x all lt is = all_at P (take n xs) k x all (taken_at xs n k x lt is)
+
+-- numbers of which neither is below the other
+same_number : (n m : ℕ) → (n < m → ⊥) → (m < n → ⊥) → n ≡ m
+same_number n m a b = ⊎_elim (λ lt. absurd (a lt)) (λ le. ⊎_elim (λ lt. absurd (b lt)) (λ ge. omega arith) (cases_lt m n)) (cases_lt n m)
+
+failing_is_invalid : (list : List Implication) (k : ℕ) (p : Point) (f : IsFirstFailing list k p) → IsValid f.failing → ⊥
+failing_is_invalid list k p f valid = valid p f.point f.hypotheses f.goal
+
+not_after : (list : List Implication) (k m : ℕ) (p q : Point) → IsFirstFailing list k p → IsFirstFailing list m q → k < m → ⊥
+not_after list k m p q f g lt = failing_is_invalid list k p f (before_at IsValid list m k f.failing g.before lt f.at)
+
+one_failing : (list : List Implication) (k m : ℕ) (p q : Point) → IsFirstFailing list k p → IsFirstFailing list m q → k ≡ m
+one_failing list k m p q f g = same_number k m (not_after list k m p q f g) (not_after list m k q p g f)
+
+-- a demand that isn't gathered has a literal that can't be
+cannot_be : (scoped : List (Item Binder)) (k : ℕ) (p : Formula) (f : IsFirstUngathered (implications_of scoped) k p) → CanBeGathered f.ungathered → ⊥
+cannot_be scoped k p f can =
+    let a = goal_at [] scoped k f.ungathered f.at in
+    let goal : f.ungathered.goal ≡ goal_of a.0 = a.1 in
+    let fits = goal_fits a.0 (subst (λ (q : Formula). All CanGather (literals_of negative q)) goal (goal_literals f.ungathered can)) in
+    f.cannot (subst (λ (q : Formula). AllFitIn (reading_of false q)) (sym goal ∙ f.is_goal) fits)
+
+ungathered_not_after : (scoped : List (Item Binder)) (k m : ℕ) (p q : Formula) → IsFirstUngathered (implications_of scoped) k p → IsFirstUngathered (implications_of scoped) m q → k < m → ⊥
+ungathered_not_after scoped k m p q f g lt = cannot_be scoped k p f (before_at CanBeGathered (implications_of scoped) m k f.ungathered g.earlier lt f.at)
+
+one_ungathered : (scoped : List (Item Binder)) (k m : ℕ) (p q : Formula) → IsFirstUngathered (implications_of scoped) k p → IsFirstUngathered (implications_of scoped) m q → k ≡ m
+one_ungathered scoped k m p q f g = same_number k m (ungathered_not_after scoped k m p q f g) (ungathered_not_after scoped m k q p g f)
+
+gathered_or_not : (scoped : List (Item Binder)) (k : ℕ) (p : Formula) → IsFirstUngathered (implications_of scoped) k p → All CanBeGathered (implications_of scoped) → ⊥
+gathered_or_not scoped k p f all = cannot_be scoped k p f (all_at CanBeGathered (implications_of scoped) k f.ungathered all f.at)
+
+-- the assertion of one number
+one_assertion : (scoped others : List (Item Binder)) (k m : ℕ) (a b : Assertion Binder) → scoped ≡ others → k ≡ m → slice_get (assertions_of scoped) k ≡ Some a → slice_get (assertions_of others) m ≡ Some b → a ≡ b
+one_assertion scoped others k m a b e f is also =
+    let there : slice_get (assertions_of others) m ≡ Some a = subst (λ (n : ℕ). slice_get (assertions_of others) n ≡ Some a) f (subst (λ (l : List (Item Binder)). slice_get (assertions_of l) k ≡ Some a) e is) in
+    cc
+
+-- two rejections show the same demand
+rejected_once : Laws → (text r q : List ℕ) → IsRejected text r → IsRejected text q → DifferInPoints r q
+rejected_once laws text r q a b =
+    let scoped = scoped_once laws text a.of b.of in
+    let first = subst (λ (l : List (Item Binder)). IsFirstFailing (implications_of l) a.number a.point) scoped a.first in
+    let number = one_failing (demands b.of) a.number b.number a.point b.point first b.first in
+    let assertion = one_assertion a.of.scoped b.of.scoped a.number b.number a.assertion b.assertion scoped number a.asserted b.asserted in
+    let head : head_at (codes "rejected\n") text b.number b.assertion.at ≡ head_at (codes "rejected\n") text a.number a.assertion.at =
+    ap (λ (n : ℕ). head_at (codes "rejected\n") text n b.assertion.at) (sym number) ∙ ap (λ (s : Assertion Binder). head_at (codes "rejected\n") text a.number s.at) (sym assertion) in
+    record {
+      number = a.number;
+      line = line_of text a.assertion.at;
+      column = column_of text a.assertion.at;
+      lines = a.lines;
+      others = b.lines;
+      written = a.written;
+      also = b.written ∙ ap (λ (l : List ℕ). l ++ b.lines) head;
+    }
+
+-- the formula of a first implication that can't be gathered
+one_formula : (list : List Implication) (k m : ℕ) (p q : Formula) → k ≡ m → IsFirstUngathered list k p → IsFirstUngathered list m q → p ≡ q
+one_formula list k m p q e f g =
+    let there : slice_get list m ≡ Some f.ungathered = subst (λ (n : ℕ). slice_get list n ≡ Some f.ungathered) e f.at in
+    let here : Some f.ungathered ≡ Some g.ungathered = sym there ∙ g.at in
+    let same : f.ungathered ≡ g.ungathered = cc in
+    sym f.is_goal ∙ ap (λ (i : Implication). i.goal) same ∙ g.is_goal
+
+abbrev ungathered_text : List ℕ → List (Item Span) → ℕ → Assertion Binder → Formula → List ℕ
+ungathered_text text items number assertion formula =
+    head_at (codes "undecided\n") text number assertion.at ++ codes "number past in " ++ formula_text text items formula ++ codes "\n"
+
+-- two judgements on a comparison that can't be gathered are one
+ungathered_once : Laws → (text r q : List ℕ) → IsUngathered text r → IsUngathered text q → r ≡ q
+ungathered_once laws text r q a b =
+    let items = items_once laws text a.of b.of in
+    let scoped = scoped_once laws text a.of b.of in
+    let first = subst (λ (l : List (Item Binder)). IsFirstUngathered (implications_of l) a.number a.formula) scoped a.first in
+    let number = one_ungathered b.of.scoped a.number b.number a.formula b.formula first b.first in
+    let assertion = one_assertion a.of.scoped b.of.scoped a.number b.number a.assertion b.assertion scoped number a.asserted b.asserted in
+    let formula = one_formula (demands b.of) a.number b.number a.formula b.formula number first b.first in
+    a.written
+    ∙ ap (λ (l : List (Item Span)). ungathered_text text l a.number a.assertion a.formula) items
+    ∙ ap (λ (n : ℕ). ungathered_text text b.of.items n a.assertion a.formula) number
+    ∙ ap (λ (s : Assertion Binder). ungathered_text text b.of.items b.number s a.formula) assertion
+    ∙ ap (ungathered_text text b.of.items b.number b.assertion) formula
+    ∙ sym b.written
+
+-- a text is refused, or is bound
+bound_or_refused : Laws → (text r : List ℕ) (c : ℕ) → Bound text → IsRefused text c r → ⊥
+bound_or_refused laws text r c p (inl b) = b.1 p.items p.bound.program
+bound_or_refused laws text r c p (inr b) =
+    let unknown = b.1.1 in
+    let same = laws.program text unknown.items p.items unknown.program p.bound.program in
+    laws.either text p.items p.scoped b.1.0 (subst (λ (l : List (Item Span)). IsFirstUnknown text l b.1.0) same unknown.first) p.bound.resolves
+
+-- two refusals are one
+one_refusal : Laws → (text : List ℕ) (c d : ℕ) (r q : List ℕ) → IsRefused text c r → IsRefused text d q → (c ≡ d) × (r ≡ q)
+one_refusal laws text c d r q (inl a) (inl b) = (a.0 ∙ sym b.0, a.2 ∙ sym b.2)
+one_refusal laws text c d r q (inl a) (inr b) = absurd (a.1 b.1.1.items b.1.1.program)
+one_refusal laws text c d r q (inr a) (inl b) = absurd (b.1 a.1.1.items a.1.1.program)
+one_refusal laws text c d r q (inr a) (inr b) =
+    let first = a.1.1 in
+    let also = b.1.1 in
+    let same = laws.program text first.items also.items first.program also.program in
+    let x = laws.unknown text also.items a.1.0 b.1.0 (subst (λ (l : List (Item Span)). IsFirstUnknown text l a.1.0) same first.first) also.first in
+    (a.0 ∙ sym b.0, a.1.2 ∙ ap (unknown_line text) x ∙ sym b.1.2)
+
+accepted_or_rejected : Laws → (text r : List ℕ) → IsAccepted text → IsRejected text r → ⊥
+accepted_or_rejected laws text r a b =
+    let valid = subst (λ (l : List (Item Binder)). All IsValid (implications_of l)) (scoped_once laws text a.of b.of) a.valid in
+    failing_is_invalid (demands b.of) b.number b.point b.first (all_at IsValid (demands b.of) b.number b.first.failing valid b.first.at)
+
+-- where all literals can be gathered nothing is ungathered
+gathered_here : Laws → (text r : List ℕ) (p : Bound text) → All CanBeGathered (demands p) → IsUngathered text r → ⊥
+gathered_here laws text r p all b =
+    gathered_or_not b.of.scoped b.number b.formula b.first (subst (λ (l : List (Item Binder)). All CanBeGathered (implications_of l)) (scoped_once laws text p b.of) all)
+
+pub judged_once : Laws → IsOneJudgement
+judged_once laws text (Ok (Undecided c)) b (inr n) is = inr (inl n)
+judged_once laws text a (Ok (Undecided c)) is (inr n) = inr (inr n)
+judged_once laws text (Ok (Accepted t)) (Ok (Accepted u)) a b = inl (ap (λ (l : List ℕ). Ok (Accepted l)) (a.1 ∙ sym b.1))
+judged_once laws text (Ok (Accepted t)) (Ok (Rejected f e)) a b = absurd (accepted_or_rejected laws text f a.0 b.0)
+judged_once laws text (Ok (Rejected f e)) (Ok (Accepted t)) a b = absurd (accepted_or_rejected laws text f b.0 a.0)
+judged_once laws text (Ok (Rejected f e)) (Ok (Rejected g d)) a b = inl (rejected_once laws text f g a.0 b.0, a.1 ∙ sym b.1)
+judged_once laws text (Ok (Undecided c)) (Ok (Undecided d)) (inl a) (inl b) = inl (ap (λ (l : List ℕ). Ok (Undecided l)) (ungathered_once laws text c d a b))
+judged_once laws text (Ok (Undecided c)) (Ok (Accepted t)) (inl a) b = absurd (gathered_here laws text c b.0.of b.0.gathered a)
+judged_once laws text (Ok (Undecided c)) (Ok (Rejected f e)) (inl a) b = absurd (gathered_here laws text c b.0.of b.0.first.gathered a)
+judged_once laws text (Ok (Accepted t)) (Ok (Undecided c)) a (inl b) = absurd (gathered_here laws text c a.0.of a.0.gathered b)
+judged_once laws text (Ok (Rejected f e)) (Ok (Undecided c)) a (inl b) = absurd (gathered_here laws text c a.0.of a.0.first.gathered b)
+judged_once laws text (Err (Code c r)) (Err (Code d q)) a b = let same = one_refusal laws text c d r q a b in let code = same.0 in let report = same.1 in inl cc
+judged_once laws text (Ok (Accepted t)) (Err (Code c r)) a b = absurd (bound_or_refused laws text r c a.0.of b)
+judged_once laws text (Ok (Rejected f e)) (Err (Code c r)) a b = absurd (bound_or_refused laws text r c a.0.of b)
+judged_once laws text (Ok (Undecided u)) (Err (Code c r)) (inl a) b = absurd (bound_or_refused laws text r c a.of b)
+judged_once laws text (Err (Code c r)) (Ok (Accepted t)) a b = absurd (bound_or_refused laws text r c b.0.of a)
+judged_once laws text (Err (Code c r)) (Ok (Rejected f e)) a b = absurd (bound_or_refused laws text r c b.0.of a)
+judged_once laws text (Err (Code c r)) (Ok (Undecided u)) a (inl b) = absurd (bound_or_refused laws text r c b.of a)
+judged_once laws text (Err Memory) b a is = absurd a
+judged_once laws text a (Err Memory) is b = absurd b
+
+-- a judgement that came is due
+pub judged_is : (text : List ℕ) (r : Result Judgement Refusal) (j : Judgement) → r ≡ Ok j → (r ≡ Err Memory) ⊎ IsJudgement text r → IsJudgement text (Ok j)
+judged_is text r j is judged = ⊎_elim (λ memory. absurd cc) (λ due. subst (IsJudgement text) is due) judged
+
+-- where the constants are small, no number is past 128 bits in solving
+pub decided_is : (text cause : List ℕ) → HasSmallDemands text → IsUngathered text cause ⊎ IsPastNumber text cause → IsUngathered text cause
+decided_is text cause small (inl is) = is
+decided_is text cause small (inr is) =
+    let low = all_at (λ (i : Implication). sizes_of i < 2 ^ 126) (demands is.of) is.number is.first.large (small is.of) is.first.at in
+    let high = is.first.sized in
+    absurd (omega arith)

@@ -1,0 +1,39 @@
+use Rattle.std.proofs.Common.{List, All, Ok, ap, subst, ◌∙◌}
+use Rattle.lq_pred.specs.Implication.{Implication, IsValid}
+use Rattle.lq_pred.specs.declared.pred.Stop.{Stop}
+use Rattle.lq_demand.specs.declared.asking.Asked.{Asked}
+use Rattle.lq_demand.specs.declared.asking.Asked.TheVariants.{Stops}
+use Rattle.lq_demand.specs.Answer.{CanBeGathered, IsFirstLarge}
+use Rattle.lq_demand.specs.AskedView.{FailsAt}
+use Rattle.lq_app.proofs.verdict.judge_bound.Goals as goal
+
+pub returns-in-Valid : goal.returns-in-Valid
+returns-in-Valid c =
+    let is = ap (λ (a : Asked). Ok a) c.in-Valid.is in
+    let same = c.in_ok-lines.ensures.demands in
+    let valid = subst (λ (l : List Implication). All IsValid l) same (c.in_ok-ask.ensures.valid is) in (
+      record {
+        of = record { items = c.args.items.now; scoped = c.args.scoped.now; bound = c.requires.bound };
+        gathered = subst (λ (l : List Implication). All CanBeGathered l) same (c.in_ok-ask.ensures.gathered is);
+        valid = valid;
+        safe = c.valid_programs_are_safe.ensures c.args.text.now c.args.items.now c.args.scoped.now c.requires.bound.resolves valid;
+      },
+      c.from_bytes.ensures ∙ c.new.ensures.items,
+    )
+
+pub rejected-requires-clause-fails : goal.rejected-requires-clause-fails
+rejected-requires-clause-fails c =
+    subst (λ (l : List Implication). FailsAt l c.in-Fails.number c.in-Fails.point) c.in_ok-lines.ensures.demands
+    (c.in_ok-ask.ensures.fails c.in-Fails.number c.in-Fails.point (ap (λ (a : Asked). Ok a) c.in-Fails.is))
+
+pub past_number-requires-clause-first : goal.past_number-requires-clause-first
+past_number-requires-clause-first c =
+    let stop = c.in-Stops-default-Number in
+    let is = stop.is ∙ ap (λ (s : Stop). Stops stop.number s) stop.field-1-is in
+    subst (λ (l : List Implication). IsFirstLarge l stop.number) c.in_ok-lines.ensures.demands (c.in_ok-ask.ensures.number stop.number stop.past (ap (λ (a : Asked). Ok a) is)).1
+
+pub past_number-requires-clause-past : goal.past_number-requires-clause-past
+past_number-requires-clause-past c =
+    let stop = c.in-Stops-default-Number in
+    let is = stop.is ∙ ap (λ (s : Stop). Stops stop.number s) stop.field-1-is in
+    (c.in_ok-ask.ensures.number stop.number stop.past (ap (λ (a : Asked). Ok a) is)).0

@@ -1,0 +1,32 @@
+use Rattle.std.specs.Prelude.{codes}
+use Rattle.std.proofs.Common.{◌++◌, [], ℕ, List, sym, ap, subst, ◌∙◌, arith}
+use Rattle.lq_pred.specs.Sum.{Sum as Term}
+use Rattle.lq_point.specs.Values.{as_point}
+use Rattle.lq_app.specs.Judgement.{head_at, ShowsPoint}
+use Rattle.lq_app.proofs.Asserted.{below}
+use Rattle.lq_app.proofs.verdict.rejected.Goals as goal
+
+pub rejected_report-requires-clause-number : goal.rejected_report-requires-clause-number
+rejected_report-requires-clause-number c =
+    let first = c.requires.fails.first in
+    let lt = below [] c.args.scoped.now c.args.number first.failing first.at in
+    let count = c.requires.bound.resolves.count in
+    omega arith
+
+pub returns : goal.returns
+returns c =
+    let report = c.in_ok-report.ensures in
+    let at = c.in_ok-at.ensures in (
+      record {
+        of = record { items = c.args.items.now; scoped = c.args.scoped.now; bound = c.requires.bound };
+        number = c.args.number;
+        point = as_point c.args.point.now;
+        first = c.requires.fails.first;
+        assertion = at.0;
+        asserted = at.1;
+        lines = report.0;
+        shows = subst (λ (l : List Term). ShowsPoint c.args.text.now c.args.items.now (as_point c.args.point.now) l report.0) c.requires.fails.terms report.2;
+        written = report.1 ∙ ap (λ (n : ℕ). head_at (codes "rejected\n") c.args.text.now c.args.number n ++ report.0) (sym at.2);
+      },
+      c.from_bytes-explained.ensures ∙ c.new.ensures.items,
+    )

@@ -1,0 +1,28 @@
+use Rattle.std.specs.Prelude.{codes}
+use Rattle.std.proofs.Common.{◌++◌, inl, [], ℕ, sym, ap, ◌∙◌, arith}
+use Rattle.lq_pred.specs.PredView.{formula_of}
+use Rattle.lq_app.specs.Texts.{formula_text}
+use Rattle.lq_app.specs.Judgement.{head_at}
+use Rattle.lq_app.proofs.Asserted.{below}
+use Rattle.lq_app.proofs.verdict.ungathered.Goals as goal
+
+pub ungathered_report-requires-clause-number : goal.ungathered_report-requires-clause-number
+ungathered_report-requires-clause-number c =
+    let first = c.requires.first in
+    let lt = below [] c.args.scoped.now c.args.number first.ungathered first.at in
+    let count = c.requires.bound.resolves.count in
+    omega arith
+
+pub returns : goal.returns
+returns c =
+    let at = c.in_ok-at.ensures in
+    inl (record {
+      of = record { items = c.args.items.now; scoped = c.args.scoped.now; bound = c.requires.bound };
+      number = c.args.number;
+      formula = formula_of c.args.pred.now;
+      first = c.requires.first;
+      assertion = at.0;
+      asserted = at.1;
+      written = c.in_ok-report.ensures
+          ∙ ap (λ (n : ℕ). head_at (codes "undecided\n") c.args.text.now c.args.number n ++ codes "number past in " ++ formula_text c.args.text.now c.args.items.now (formula_of c.args.pred.now) ++ codes "\n") (sym at.2);
+    })

@@ -1,0 +1,25 @@
+-- A straight-line program as a list of what is known and what is asked.
+use Rattle.std.specs.Prelude.{List, [], ◌∷◌}
+use Rattle.std.specs.List.{flat_map}
+use Rattle.lq_name.specs.declared.name.Binder.{Binder}
+use Rattle.lq_name.specs.declared.operation.CompareOp.TheVariants.{Eq}
+use Rattle.lq_pred.specs.declared.symbol.Symbol.TheVariants.{Bound}
+use Rattle.lq_pred.specs.Sum.{var}
+use Rattle.lq_pred.specs.Formula.{compare}
+use Rattle.lq_demand.specs.Straight.{Step, assume, demand}
+use Rattle.lq_straight.specs.declared.item.Right.{Right}
+use Rattle.lq_straight.specs.declared.item.Right.TheVariants.{Read, Sum}
+use Rattle.lq_straight.specs.declared.item.Item.{Item}
+use Rattle.lq_straight.specs.declared.item.Item.TheVariants.{Define, Assert}
+use Rattle.lq_straight.specs.Demands.{term_of, goal_of}
+
+abbrev pub definition_steps : Binder → Right Binder → List Step
+definition_steps x (Read place) = []
+definition_steps x (Sum s) = assume (compare Eq (var (Bound x)) (term_of s)) ∷ []
+
+abbrev pub item_steps : Item Binder → List Step
+item_steps (Define x r) = definition_steps x r
+item_steps (Assert a) = demand (goal_of a) ∷ []
+
+abbrev pub steps_in : List (Item Binder) → List Step
+steps_in items = flat_map item_steps items

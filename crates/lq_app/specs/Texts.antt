@@ -1,0 +1,71 @@
+-- How numbers, names and comparisons are written.
+use Rattle.std.specs.Prelude.{ℕ, ℤ, ◌==◌, nat_lt, List, [], ◌++◌, Option, Some, None, slice_get, codes, decimal, if◌then◌else◌}
+use Rattle.std.specs.Fmt.{signed_decimal}
+use Rattle.lq_num.specs.declared.frac.Frac.{Frac}
+use Rattle.lq_num.specs.Value.{numer_of, denom_of}
+use Rattle.lq_num.specs.declared.past.NumOp.{NumOp}
+use Rattle.lq_num.specs.declared.past.NumOp.TheVariants.{Add, Sub, Mul, Div, Neg}
+use Rattle.lq_num.specs.declared.past.NumberPast.{NumberPast}
+use Rattle.lq_name.specs.declared.operation.CompareOp.{CompareOp}
+use Rattle.lq_name.specs.declared.operation.CompareOp.TheVariants.{Eq, Ne, Lt, Le, Gt, Ge}
+use Rattle.lq_pred.specs.declared.symbol.Symbol.TheVariants.{Bound}
+use Rattle.lq_pred.specs.Sum.{Sum as Term, whole, var, add, sub}
+use Rattle.lq_pred.specs.Formula.{Formula, compare}
+use Rattle.lq_straight.specs.declared.token.Span.{Span}
+use Rattle.lq_straight.specs.declared.item.Item.{Item}
+use Rattle.lq_straight.specs.declared.item.Item.TheVariants.{Define, Assert}
+use Rattle.lq_straight.specs.Program.{text_of}
+use Rattle.lq_straight.specs.Scope.{ordinal}
+
+-- a whole number alone, else with its denominator
+abbrev pub fraction_text : ℤ → ℕ → List ℕ
+fraction_text n d = if d == 1 then signed_decimal n else signed_decimal n ++ codes "/" ++ decimal d
+
+abbrev pub frac_text : Frac → List ℕ
+frac_text f = fraction_text (numer_of f) (denom_of f)
+
+-- an operation on two fractions, and a negation of one
+abbrev pub operation_text : NumOp → List ℕ → List ℕ → List ℕ
+operation_text Add left right = left ++ codes " + " ++ right
+operation_text Sub left right = left ++ codes " - " ++ right
+operation_text Mul left right = left ++ codes " * " ++ right
+operation_text Div left right = left ++ codes " / " ++ right
+operation_text Neg left right = codes "-" ++ left
+
+abbrev pub past_text : NumberPast → List ℕ
+past_text e = operation_text e.op (frac_text e.left) (frac_text e.right)
+
+-- the first definition of a name by the name alone, a later one with its number
+abbrev pub with_ordinal : List ℕ → ℕ → List ℕ
+with_ordinal name n = if nat_lt 1 n then name ++ codes "@" ++ decimal n else name
+
+-- an assertion has no name
+abbrev pub item_name : List ℕ → List (Item Span) → ℕ → Option (Item Span) → List ℕ
+item_name text items k None = []
+item_name text items k (Some (Define x r)) = with_ordinal (text_of text x) (ordinal text items k (text_of text x))
+item_name text items k (Some (Assert a)) = []
+
+-- the name of the definition with this number
+abbrev pub binder_name : List ℕ → List (Item Span) → ℕ → List ℕ
+binder_name text items k = item_name text items k (slice_get items k)
+
+-- a term over binders; no other terms stand in straight-line programs
+abbrev pub term_text : List ℕ → List (Item Span) → Term → List ℕ
+term_text text items (whole n) = signed_decimal n
+term_text text items (var (Bound x)) = binder_name text items x.0
+term_text text items (add a b) = term_text text items a ++ codes " + " ++ term_text text items b
+term_text text items (sub a b) = term_text text items a ++ codes " - " ++ term_text text items b
+term_text text items t = []
+
+abbrev pub compare_text : CompareOp → List ℕ
+compare_text Eq = codes " = "
+compare_text Ne = codes " <> "
+compare_text Lt = codes " < "
+compare_text Le = codes " <= "
+compare_text Gt = codes " > "
+compare_text Ge = codes " >= "
+
+-- a comparison; no other formulas stand in straight-line programs
+abbrev pub formula_text : List ℕ → List (Item Span) → Formula → List ℕ
+formula_text text items (compare o a b) = term_text text items a ++ compare_text o ++ term_text text items b
+formula_text text items p = []

@@ -1,0 +1,168 @@
+// How numbers, names and comparisons are written.
+ghost use Rattle.std.specs.Prelude.{◌≡◌, ℕ, ◌+◌, ◌<◌, ◌^◌, ◌++◌, length, slice_get, codes, decimal, OnOk};
+ghost use Rattle.std.specs.Fmt.{signed_decimal};
+ghost use Rattle.lq_pred.specs.TermView.{sum_of};
+ghost use Rattle.lq_pred.specs.PredView.{formula_of};
+ghost use Rattle.lq_straight.specs.Scope.{AreOrdinals};
+ghost use Rattle.lq_app.specs.Texts.{frac_text, past_text, with_ordinal, binder_name, term_text, compare_text, formula_text};
+
+use itoa::Buffer;
+use lq_name::{Binder, CompareOp};
+use lq_num::{Frac, NumOp, NumberPast};
+use lq_pred::{Pred, Symbol, Term};
+use lq_straight::{Item, Span, name_bytes};
+use std::alloc::AllocError;
+
+// What the names of a report are told by.
+#[derive(Clone, Copy)]
+pub(crate) struct Names<'a> {
+    pub(crate) text: &'a [u8],
+    pub(crate) items: &'a [Item<Span>],
+    pub(crate) ordinals: &'a [usize],
+}
+
+fn push_count(line: &mut Vec<u8>, n: u64) -> Result<(), AllocError>
+    ensures { OnOk result (line.new.items ≡ line.old.items ++ decimal n) }
+{
+    let mut number = Buffer::new();
+    line.extend_from_slice(number.format(n).as_bytes())?;
+    Ok(())
+}
+
+fn push_whole(line: &mut Vec<u8>, n: i128) -> Result<(), AllocError>
+    ensures { OnOk result (line.new.items ≡ line.old.items ++ signed_decimal n) }
+{
+    let mut number = Buffer::new();
+    line.extend_from_slice(number.format(n).as_bytes())?;
+    Ok(())
+}
+
+pub(crate) fn push_fraction(line: &mut Vec<u8>, f: &Frac) -> Result<(), AllocError>
+    ensures { OnOk result (line.new.items ≡ line.old.items ++ frac_text f.now) }
+{
+    push_whole(line, f.numer())?;
+    if f.denom() != 1 {
+        line.extend_from_slice(b"/")?;
+        push_whole(line, f.denom())?;
+    }
+    Ok(())
+}
+
+fn push_operation(
+    line: &mut Vec<u8>,
+    left: &Frac,
+    sign: &[u8],
+    right: &Frac,
+) -> Result<(), AllocError>
+    ensures { OnOk result (line.new.items ≡ line.old.items ++ (frac_text left.now ++ sign.now ++ frac_text right.now)) }
+{
+    push_fraction(line, left)?;
+    line.extend_from_slice(sign)?;
+    push_fraction(line, right)
+}
+
+fn push_negation(line: &mut Vec<u8>, f: &Frac) -> Result<(), AllocError>
+    ensures { OnOk result (line.new.items ≡ line.old.items ++ (codes "-" ++ frac_text f.now)) }
+{
+    line.extend_from_slice(b"-")?;
+    push_fraction(line, f)
+}
+
+pub(crate) fn push_past(line: &mut Vec<u8>, past: &NumberPast) -> Result<(), AllocError>
+    ensures { OnOk result (line.new.items ≡ line.old.items ++ past_text past.now) }
+{
+    match past.op {
+        NumOp::Add => push_operation(line, &past.left, b" + ", &past.right),
+        NumOp::Sub => push_operation(line, &past.left, b" - ", &past.right),
+        NumOp::Mul => push_operation(line, &past.left, b" * ", &past.right),
+        NumOp::Div => push_operation(line, &past.left, b" / ", &past.right),
+        NumOp::Neg => push_negation(line, &past.left),
+    }
+}
+
+fn push_with_ordinal(line: &mut Vec<u8>, name: &[u8], ordinal: usize) -> Result<(), AllocError>
+    ensures { OnOk result (line.new.items ≡ line.old.items ++ with_ordinal name.now ordinal) }
+{
+    line.extend_from_slice(name)?;
+    if ordinal > 1 {
+        line.extend_from_slice(b"@")?;
+        push_count(line, ordinal as u64)?;
+    }
+    Ok(())
+}
+
+fn item_at(items: &[Item<Span>], number: usize) -> Option<Item<Span>>
+    ensures { result ≡ slice_get items.now number }
+{
+    items.get(number).copied()
+}
+
+fn ordinal_at(ordinals: &[usize], number: usize) -> Option<usize>
+    ensures { result ≡ slice_get ordinals.now number }
+{
+    ordinals.get(number).copied()
+}
+
+fn push_name(line: &mut Vec<u8>, names: &Names, binder: Binder) -> Result<(), AllocError>
+    requires { AreOrdinals names.now.text.now names.now.items.now names.now.ordinals.now }
+    ensures { OnOk result (line.new.items ≡ line.old.items ++ binder_name names.now.text.now names.now.items.now binder.0) }
+{
+    let number = binder.0 as usize;
+    match item_at(names.items, number) {
+        None | Some(Item::Assert(_)) => Ok(()),
+        Some(Item::Define(name, _)) => {
+            let Some(ordinal) = ordinal_at(names.ordinals, number) else {
+                unreachable!()
+            };
+            push_with_ordinal(line, name_bytes(names.text, name), ordinal)
+        }
+    }
+}
+
+pub(crate) fn push_term(line: &mut Vec<u8>, names: &Names, term: &Term) -> Result<(), AllocError>
+    requires { AreOrdinals names.now.text.now names.now.items.now names.now.ordinals.now }
+    ensures { OnOk result (line.new.items ≡ line.old.items ++ term_text names.now.text.now names.now.items.now (sum_of term.now)) }
+{
+    match term {
+        Term::Whole(n) => push_whole(line, *n),
+        Term::Var(Symbol::Bound(x)) => push_name(line, names, *x),
+        Term::Add(a, b) => {
+            push_term(line, names, a)?;
+            line.extend_from_slice(b" + ")?;
+            push_term(line, names, b)
+        }
+        Term::Sub(a, b) => {
+            push_term(line, names, a)?;
+            line.extend_from_slice(b" - ")?;
+            push_term(line, names, b)
+        }
+        _ => Ok(()),
+    }
+}
+
+fn sign_of(op: CompareOp) -> &'static [u8]
+    ensures { result.now ≡ compare_text op }
+{
+    match op {
+        CompareOp::Eq => b" = ",
+        CompareOp::Ne => b" <> ",
+        CompareOp::Lt => b" < ",
+        CompareOp::Le => b" <= ",
+        CompareOp::Gt => b" > ",
+        CompareOp::Ge => b" >= ",
+    }
+}
+
+pub(crate) fn push_pred(line: &mut Vec<u8>, names: &Names, pred: &Pred) -> Result<(), AllocError>
+    requires { AreOrdinals names.now.text.now names.now.items.now names.now.ordinals.now }
+    ensures { OnOk result (line.new.items ≡ line.old.items ++ formula_text names.now.text.now names.now.items.now (formula_of pred.now)) }
+{
+    match pred {
+        Pred::Compare(op, a, b) => {
+            push_term(line, names, a)?;
+            line.extend_from_slice(sign_of(*op))?;
+            push_term(line, names, b)
+        }
+        _ => Ok(()),
+    }
+}

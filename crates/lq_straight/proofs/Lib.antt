@@ -1,0 +1,12 @@
+pub mod Lexing
+pub mod Parsing
+pub mod NameLists
+pub mod Unique
+pub mod Kept
+pub mod Scoping
+pub mod Names
+pub mod Counting
+pub mod Running
+pub mod Values
+pub mod Bound
+pub mod Safety

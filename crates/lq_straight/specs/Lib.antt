@@ -1,0 +1,9 @@
+pub mod Words
+pub mod Tokens
+pub mod Program
+pub mod Front
+pub mod Places
+pub mod Scope
+pub mod Visible
+pub mod Meaning
+pub mod Demands
