@@ -19,8 +19,9 @@ def with_deep_stack():
 
 
 @contextlib.contextmanager
-def built(crates, source):
-    """Builds the program with this main.rt, over these crates, and gives its path and what it printed."""
+def built(crates, source, proofs=None):
+    """Builds the program with this main.rt, over these crates, and gives its path and what it printed. `proofs` has the texts of
+    the files of its proof by their names."""
     with tempfile.TemporaryDirectory() as folder:
         copy = os.path.join(folder, "copy")
         os.mkdir(copy)
@@ -35,6 +36,10 @@ def built(crates, source):
         os.makedirs(os.path.join(program, "src"))
         with open(os.path.join(program, "src", "main.rt"), "w") as file:
             file.write(source)
+        for name, text in (proofs or {}).items():
+            os.makedirs(os.path.join(program, "proofs", os.path.dirname(name)), exist_ok=True)
+            with open(os.path.join(program, "proofs", name), "w") as file:
+                file.write(text)
         with open(os.path.join(copy, "crates.txt"), "a") as file:
             file.write(f"timed: {' '.join(crates)}\n")
         done = subprocess.run(["rt", "run"], cwd=program, capture_output=True, text=True, preexec_fn=with_deep_stack)
@@ -43,7 +48,7 @@ def built(crates, source):
         yield os.path.join(program, "out", "timed"), done.stdout
 
 
-def run(crates, source):
+def run(crates, source, proofs=None):
     """Runs the program with this main.rt, over these crates, and returns what it printed."""
-    with built(crates, source) as (_, printed):
+    with built(crates, source, proofs) as (_, printed):
         return printed

@@ -1,5 +1,6 @@
 -- A demand for each assertion.
-use Rattle.std.specs.Prelude.{slice_get}
+use Rattle.std.specs.List.{cons_option}
+use Rattle.std.specs.Prelude.{slice_get, ◌+◌}
 use Rattle.std.proofs.Common.{◌≡◌, ℕ, zero, suc, ◌<◌, false, List, [], ◌∷◌, ◌++◌, length, All, Some, refl, sym, ap, arith}
 use Rattle.std.proofs.lemmas.List.Elements.{All-head, All-tail, All-nil, All-cons}
 use Rattle.lq_name.specs.declared.name.Binder.{Binder}
@@ -13,27 +14,63 @@ use Rattle.lq_straight.specs.declared.item.Order.{Order}
 use Rattle.lq_straight.specs.declared.item.Order.TheVariants.{Less, AtMost, Greater, AtLeast}
 use Rattle.lq_straight.specs.declared.item.Assertion.{Assertion}
 use Rattle.lq_straight.specs.declared.item.Item.{Item}
-use Rattle.lq_straight.specs.declared.item.Item.TheVariants as item
-use Rattle.lq_straight.specs.Demands.{term_of, op_of, goal_of, with_definition, implications_from, assertions_of}
+use Rattle.lq_straight.specs.declared.item.ItemNode.{ItemNode}
+use Rattle.lq_straight.specs.declared.item.ItemNode.TheVariants.{Define, Assert, Print}
+use Rattle.lq_straight.specs.Demands.{term_of, goal_of, known_behind, with_demand, implications_from, as_assertion, assertions_of}
+use Rattle.lq_straight.specs.Meaning.{op_of}
+
+-- a demand of items has an assertion of the same number
+abbrev Asserted : List (Item Binder) → Type 0
+Asserted items = (known : List Formula) (k : ℕ) (i : Implication) → slice_get (implications_from known items) k ≡ Some i → (a : Assertion Binder) × (slice_get (assertions_of items) k ≡ Some a)
+
+asserted_behind : (items : List (Item Binder)) → Asserted items → (known : List Formula) (n : ItemNode Binder) (k : ℕ) (i : Implication) → slice_get (with_demand known n (implications_from (known_behind known n) items)) k ≡ Some i
+    → (a : Assertion Binder) × (slice_get (cons_option (as_assertion n) (assertions_of items)) k ≡ Some a)
+asserted_behind items rest known (Define x r) k i is = rest (known_behind known (Define x r)) k i is
+asserted_behind items rest known (Assert a) zero i is = (a, refl)
+asserted_behind items rest known (Assert a) (suc k) i is = rest known k i is
+asserted_behind items rest known (Print e) k i is = rest known k i is
+
+asserted : (items : List (Item Binder)) → Asserted items
+asserted [] known k i is = absurd cc
+asserted (it ∷ items) known k i is = asserted_behind items (asserted items) known it.node k i is
 
 pub asserted_at : (known : List Formula) (items : List (Item Binder)) (k : ℕ) (i : Implication) → slice_get (implications_from known items) k ≡ Some i → (a : Assertion Binder) × (slice_get (assertions_of items) k ≡ Some a)
-asserted_at known [] k i is = absurd cc
-asserted_at known (item.Define x r ∷ items) k i is = asserted_at (with_definition known x r) items k i is
-asserted_at known (item.Assert a ∷ items) zero i is = (a, refl)
-asserted_at known (item.Assert a ∷ items) (suc k) i is = asserted_at known items k i is
+asserted_at known items k i is = asserted items known k i is
+
+-- its number is below that of the items
+abbrev Below : List (Item Binder) → Type 0
+Below items = (known : List Formula) (k : ℕ) (i : Implication) → slice_get (implications_from known items) k ≡ Some i → k < length items
+
+below_behind : (items : List (Item Binder)) → Below items → (known : List Formula) (n : ItemNode Binder) (k : ℕ) (i : Implication) → slice_get (with_demand known n (implications_from (known_behind known n) items)) k ≡ Some i → k < length items + 1
+below_behind items rest known (Define x r) k i is = let lt = rest (known_behind known (Define x r)) k i is in omega arith
+below_behind items rest known (Assert a) zero i is = omega arith
+below_behind items rest known (Assert a) (suc k) i is = let lt = rest known k i is in omega arith
+below_behind items rest known (Print e) k i is = let lt = rest known k i is in omega arith
+
+below_all : (items : List (Item Binder)) → Below items
+below_all [] known k i is = absurd cc
+below_all (it ∷ items) known k i is = let lt = below_behind items (below_all items) known it.node k i is in omega arith
 
 pub below : (known : List Formula) (items : List (Item Binder)) (k : ℕ) (i : Implication) → slice_get (implications_from known items) k ≡ Some i → k < length items
-below known [] k i is = absurd cc
-below known (item.Define x r ∷ items) k i is = let rest = below (with_definition known x r) items k i is in omega arith
-below known (item.Assert a ∷ items) zero i is = omega arith
-below known (item.Assert a ∷ items) (suc k) i is = let rest = below known items k i is in omega arith
+below known items k i is = below_all items known k i is
 
 -- the goal of a demand is that of its assertion
+abbrev HasGoals : List (Item Binder) → Type 0
+HasGoals items = (known : List Formula) (k : ℕ) (i : Implication) → slice_get (implications_from known items) k ≡ Some i → (a : Assertion Binder) × (i.goal ≡ goal_of a)
+
+goals_behind : (items : List (Item Binder)) → HasGoals items → (known : List Formula) (n : ItemNode Binder) (k : ℕ) (i : Implication) → slice_get (with_demand known n (implications_from (known_behind known n) items)) k ≡ Some i
+    → (a : Assertion Binder) × (i.goal ≡ goal_of a)
+goals_behind items rest known (Define x r) k i is = rest (known_behind known (Define x r)) k i is
+goals_behind items rest known (Assert a) zero i is = (a, let same : record { hypotheses = known; goal = goal_of a } ≡ i = cc in ap (λ (j : Implication). j.goal) (sym same))
+goals_behind items rest known (Assert a) (suc k) i is = rest known k i is
+goals_behind items rest known (Print e) k i is = rest known k i is
+
+goals : (items : List (Item Binder)) → HasGoals items
+goals [] known k i is = absurd cc
+goals (it ∷ items) known k i is = goals_behind items (goals items) known it.node k i is
+
 pub goal_at : (known : List Formula) (items : List (Item Binder)) (k : ℕ) (i : Implication) → slice_get (implications_from known items) k ≡ Some i → (a : Assertion Binder) × (i.goal ≡ goal_of a)
-goal_at known [] k i is = absurd cc
-goal_at known (item.Define x r ∷ items) k i is = goal_at (with_definition known x r) items k i is
-goal_at known (item.Assert a ∷ items) zero i is = (a, let same : record { hypotheses = known; goal = goal_of a } ≡ i = cc in ap (λ (j : Implication). j.goal) (sym same))
-goal_at known (item.Assert a ∷ items) (suc k) i is = goal_at known items k i is
+goal_at known items k i is = goals items known k i is
 
 all_left : {A : Type 0} (P : A → Type 0) (xs ys : List A) → All P (xs ++ ys) → All P xs
 all_left P [] ys all = All-nil P

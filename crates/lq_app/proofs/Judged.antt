@@ -1,7 +1,8 @@
 -- Two judgements that are due agree.
 use Rattle.std.specs.Prelude.{slice_get, codes, false}
-use Rattle.std.proofs.Common.{◌≡◌, ◌⊎◌, inl, inr, ⊎_elim, ℕ, zero, suc, ◌<◌, ◌^◌, ◌++◌, List, [], ◌∷◌, take, All, Some, Result, Ok, Err, sym, ap, subst, ◌∙◌, arith}
+use Rattle.std.proofs.Common.{◌≡◌, ◌⊎◌, inl, inr, ⊎_elim, ℕ, zero, suc, ◌<◌, ◌^◌, ◌++◌, List, [], ◌∷◌, take, length, refl, All, Some, Result, Ok, Err, sym, ap, subst, ◌∙◌, arith}
 use Rattle.std.proofs.lemmas.Bool.{cases_lt}
+use Rattle.std.proofs.lemmas.List.{length-map}
 use Rattle.std.proofs.lemmas.List.Elements.{All-head, All-tail}
 use Rattle.lq_name.specs.declared.name.Binder.{Binder}
 use Rattle.lq_pred.specs.Formula.{Formula}
@@ -11,35 +12,94 @@ use Rattle.lq_pred.specs.Reading.{reading_of, AllFitIn}
 use Rattle.lq_pred.specs.Literals.{negative, literals_of}
 use Rattle.lq_pred.specs.Implication.{Implication, IsValid}
 use Rattle.lq_demand.specs.Answer.{CanBeGathered, sizes_of, IsFirstFailing, IsFirstUngathered}
-use Rattle.lq_straight.specs.declared.token.Span.{Span}
+use Rattle.lq_action.specs.Value as value
+use Rattle.lq_action.specs.Value.{Value}
+use Rattle.lq_grammar.specs.Grammar.{start_of}
+use Rattle.lq_grammar.specs.Levels as levels
+use Rattle.lq_grammar.specs.Levels.{IsShallow}
+use Rattle.lq_grammar.specs.Reading.{IsText}
+use Rattle.lq_grammar.specs.declared.kind.Kind.{Kind}
+use Rattle.lq_grammar.specs.declared.symbol.Event.{Event}
+use Rattle.lq_lex.specs.Places.{place_at}
+use Rattle.lq_lex.specs.Reading.{IsTokens, HasOneReading}
+use Rattle.lq_lex.specs.declared.error.LexError.{LexError}
+use Rattle.lq_lex.specs.declared.error.LexError.TheVariants.{BadByte, OpenComment, LiteralPast}
+use Rattle.lq_lex.specs.declared.token.Token.{Token}
+use Rattle.lq_name.specs.declared.place.Place.{Place}
+use Rattle.lq_name.specs.declared.place.TextKind.TheVariants as kind
+use Rattle.lq_parse.specs.Terminals.{kind_of, kinds_of}
+use Rattle.lq_parse.specs.Texts.{place_of, IsSyntax, IsTooDeep}
+use Rattle.lq_parse.specs.Trees.{IsRead, with_names}
+use Rattle.lq_straight.specs.Forms as form
+use Rattle.lq_straight.specs.Forms.{Found, items_in}
+use Rattle.lq_straight.specs.Names.{first_names}
+use Rattle.lq_tree.specs.Items.{ItemTree}
+use Rattle.lq_straight.specs.declared.item.NameAt.{NameAt}
 use Rattle.lq_straight.specs.declared.item.Item.{Item}
 use Rattle.lq_straight.specs.declared.item.Assertion.{Assertion}
-use Rattle.lq_straight.specs.Program.{IsOneProgram}
-use Rattle.lq_straight.specs.Places.{line_of, column_of}
 use Rattle.lq_straight.specs.Scope.{Resolves, IsFirstUnknown, IsOneScope, IsOneUnknown, IsUnknownOrResolved}
 use Rattle.lq_straight.specs.Demands.{goal_of, implications_of, assertions_of}
 use Rattle.lq_app.specs.declared.verdict.Judgement.{Judgement}
 use Rattle.lq_app.specs.declared.verdict.Refusal.{Refusal}
 use Rattle.lq_app.specs.declared.verdict.Judgement.TheVariants.{Accepted, Rejected, Undecided}
 use Rattle.lq_app.specs.declared.verdict.Refusal.TheVariants.{Code, Memory}
-use Rattle.lq_app.specs.Judgement.{Bound, demands, IsAccepted, IsRejected, IsUngathered, IsPastNumber, IsRefused, IsJudgement, HasSmallDemands, DifferInPoints, IsOneJudgement, head_at, unknown_line}
+use Rattle.lq_app.specs.Program.{Program, names_in, IsFaulty, IsStopped, IsTooDeepAt}
+use Rattle.lq_app.specs.Judgement.{Bound, names_of, demands, IsAccepted, IsRejected, IsUngathered, IsPastNumber, HasUnknown, Cause, bad_byte, open_comment, literal_past, stopped, too_deep, unbuilt_form, unknown_name, code_of, line_of, refused_line, unknown_line, IsRefused, IsJudgement, HasSmallDemands, DifferInPoints, IsOneJudgement, head_lines}
 use Rattle.lq_app.specs.Texts.{formula_text}
 use Rattle.lq_app.proofs.Asserted.{goal_at, goal_literals, goal_fits}
 
 -- the laws of reading and binding
 pub record Laws : Type 0 where
-  pub program : IsOneProgram
+  pub lexing : (text : List ℕ) → HasOneReading kind.Program text
+  pub tree : (text : List ℕ) (names : List (List ℕ)) (tokens : List Token) (v w : Value) → IsRead kind.Program text names tokens v → IsRead kind.Program text names tokens w → v ≡ w
+  pub stop : (ks : List Kind) (es : List Event) (at : ℕ) → IsText (start_of kind.Program) ks es → levels.IsSyntax (start_of kind.Program) 250 ks at → ⊥
+  pub deep : (ks : List Kind) (at : ℕ) → IsShallow (start_of kind.Program) 250 ks (length ks) → levels.IsTooDeep (start_of kind.Program) 250 ks at → ⊥
+  pub one : (ks : List Kind) (at to : ℕ) → levels.IsSyntax (start_of kind.Program) 250 ks at → levels.IsTooDeep (start_of kind.Program) 250 ks to → ⊥
+  pub stops : (ks : List Kind) (at to : ℕ) → levels.IsSyntax (start_of kind.Program) 250 ks at → levels.IsSyntax (start_of kind.Program) 250 ks to → at ≡ to
+  pub depths : (ks : List Kind) (at to : ℕ) → levels.IsTooDeep (start_of kind.Program) 250 ks at → levels.IsTooDeep (start_of kind.Program) 250 ks to → at ≡ to
   pub scope : IsOneScope
   pub unknown : IsOneUnknown
   pub either : IsUnknownOrResolved
 
+-- a text has one list of tokens
+tokens_once : Laws → (text : List ℕ) (ts us : List Token) → IsTokens kind.Program text ts → IsTokens kind.Program text us → ts ≡ us
+tokens_once laws text ts us a b = (laws.lexing text).tokens ts us a b
+
+abbrev trees_in : Value → List ItemTree
+trees_in (value.items trees) = trees
+trees_in _ = []
+
+names_once : Laws → (text : List ℕ) (a b : Program text) → names_in a ≡ names_in b
+names_once laws text a b = ap (λ (ts : List Token). with_names text ts first_names) (tokens_once laws text a.tokens b.tokens a.are_tokens b.are_tokens)
+
+trees_once : Laws → (text : List ℕ) (a b : Program text) → a.trees ≡ b.trees
+trees_once laws text a b =
+    let same = tokens_once laws text a.tokens b.tokens a.are_tokens b.are_tokens in
+    let read = subst (λ (ts : List Token). IsRead kind.Program text (with_names text ts first_names) ts (value.items a.trees)) same a.read in
+    (let same : value.items a.trees ≡ value.items b.trees = laws.tree text (names_in b) b.tokens (value.items a.trees) (value.items b.trees) read b.read in ap trees_in same)
+
+-- what a program is recognised as
+found_once : Laws → (text : List ℕ) (a b : Program text) (f g : Found (List (Item NameAt))) → items_in a.trees ≡ f → items_in b.trees ≡ g → f ≡ g
+found_once laws text a b f g is also = sym is ∙ ap items_in (trees_once laws text a b) ∙ also
+
+abbrev items_found : Found (List (Item NameAt)) → List (Item NameAt)
+items_found (form.is l) = l
+items_found (form.unbuilt p) = []
+
+abbrev place_found : Place → Found (List (Item NameAt)) → Place
+place_found other (form.is l) = other
+place_found other (form.unbuilt p) = p
+
+program_items_once : Laws → (text : List ℕ) (a b : Program text) (l m : List (Item NameAt)) → items_in a.trees ≡ form.is l → items_in b.trees ≡ form.is m → l ≡ m
+program_items_once laws text a b l m e f = ap items_found (found_once laws text a b (form.is l) (form.is m) e f)
+
 -- a text is bound in one way
 items_once : Laws → (text : List ℕ) (a b : Bound text) → a.items ≡ b.items
-items_once laws text a b = laws.program text a.items b.items a.bound.program b.bound.program
+items_once laws text a b = program_items_once laws text a.program b.program a.items b.items a.recognised b.recognised
 
 scoped_once : Laws → (text : List ℕ) (a b : Bound text) → a.scoped ≡ b.scoped
 scoped_once laws text a b =
-    laws.scope text b.items a.scoped b.scoped (subst (λ (l : List (Item Span)). Resolves text l a.scoped) (items_once laws text a b) a.bound.resolves) b.bound.resolves
+    laws.scope b.items a.scoped b.scoped (subst (λ (l : List (Item NameAt)). Resolves l a.scoped) (items_once laws text a b) a.resolves) b.resolves
 
 -- what holds of all holds of one, and of one of the first
 all_at : {A : Type 0} (P : A → Type 0) (xs : List A) (k : ℕ) (x : A) → All P xs → slice_get xs k ≡ Some x → P x
@@ -99,12 +159,11 @@ rejected_once laws text r q a b =
     let first = subst (λ (l : List (Item Binder)). IsFirstFailing (implications_of l) a.number a.point) scoped a.first in
     let number = one_failing (demands b.of) a.number b.number a.point b.point first b.first in
     let assertion = one_assertion a.of.scoped b.of.scoped a.number b.number a.assertion b.assertion scoped number a.asserted b.asserted in
-    let head : head_at (codes "rejected\n") text b.number b.assertion.at ≡ head_at (codes "rejected\n") text a.number a.assertion.at =
-    ap (λ (n : ℕ). head_at (codes "rejected\n") text n b.assertion.at) (sym number) ∙ ap (λ (s : Assertion Binder). head_at (codes "rejected\n") text a.number s.at) (sym assertion) in
+    let head : head_lines (codes "rejected\n") b.number b.assertion.place ≡ head_lines (codes "rejected\n") a.number a.assertion.place =
+    ap (λ (n : ℕ). head_lines (codes "rejected\n") n b.assertion.place) (sym number) ∙ ap (λ (s : Assertion Binder). head_lines (codes "rejected\n") a.number s.place) (sym assertion) in
     record {
       number = a.number;
-      line = line_of text a.assertion.at;
-      column = column_of text a.assertion.at;
+      place = a.assertion.place;
       lines = a.lines;
       others = b.lines;
       written = a.written;
@@ -119,13 +178,14 @@ one_formula list k m p q e f g =
     let same : f.ungathered ≡ g.ungathered = cc in
     sym f.is_goal ∙ ap (λ (i : Implication). i.goal) same ∙ g.is_goal
 
-abbrev ungathered_text : List ℕ → List (Item Span) → ℕ → Assertion Binder → Formula → List ℕ
-ungathered_text text items number assertion formula =
-    head_at (codes "undecided\n") text number assertion.at ++ codes "number past in " ++ formula_text text items formula ++ codes "\n"
+abbrev ungathered_text : List (List ℕ) → List (Item NameAt) → ℕ → Assertion Binder → Formula → List ℕ
+ungathered_text names items number assertion formula =
+    head_lines (codes "undecided\n") number assertion.place ++ codes "number past in " ++ formula_text names items formula ++ codes "\n"
 
 -- two judgements on a comparison that can't be gathered are one
 ungathered_once : Laws → (text r q : List ℕ) → IsUngathered text r → IsUngathered text q → r ≡ q
 ungathered_once laws text r q a b =
+    let names = names_once laws text a.of.program b.of.program in
     let items = items_once laws text a.of b.of in
     let scoped = scoped_once laws text a.of b.of in
     let first = subst (λ (l : List (Item Binder)). IsFirstUngathered (implications_of l) a.number a.formula) scoped a.first in
@@ -133,31 +193,124 @@ ungathered_once laws text r q a b =
     let assertion = one_assertion a.of.scoped b.of.scoped a.number b.number a.assertion b.assertion scoped number a.asserted b.asserted in
     let formula = one_formula (demands b.of) a.number b.number a.formula b.formula number first b.first in
     a.written
-    ∙ ap (λ (l : List (Item Span)). ungathered_text text l a.number a.assertion a.formula) items
-    ∙ ap (λ (n : ℕ). ungathered_text text b.of.items n a.assertion a.formula) number
-    ∙ ap (λ (s : Assertion Binder). ungathered_text text b.of.items b.number s a.formula) assertion
-    ∙ ap (ungathered_text text b.of.items b.number b.assertion) formula
+    ∙ ap (λ (l : List (List ℕ)). ungathered_text l a.of.items a.number a.assertion a.formula) names
+    ∙ ap (λ (l : List (Item NameAt)). ungathered_text (names_of b.of) l a.number a.assertion a.formula) items
+    ∙ ap (λ (n : ℕ). ungathered_text (names_of b.of) b.of.items n a.assertion a.formula) number
+    ∙ ap (λ (s : Assertion Binder). ungathered_text (names_of b.of) b.of.items b.number s a.formula) assertion
+    ∙ ap (ungathered_text (names_of b.of) b.of.items b.number b.assertion) formula
     ∙ sym b.written
+
+-- what a text is: it has a fault, it stops, it nests too deeply, or it is a program
+program_or_fault : Laws → (text : List ℕ) (e : LexError) (ts : List Token) → IsTokens kind.Program text ts → IsFaulty text e → ⊥
+program_or_fault laws text e ts is fault = (laws.lexing text).either ts e is fault
+
+program_or_stop : Laws → (text : List ℕ) (place : Place) → Program text → IsStopped text place → ⊥
+program_or_stop laws text place p s =
+    let same = tokens_once laws text s.tokens p.tokens s.are_tokens p.are_tokens in
+    let stop = subst (λ (ts : List Token). IsSyntax kind.Program text ts (place_at kind.Program text (length text)) place) same s.stop in
+    laws.stop (kinds_of text p.tokens) p.read.makes.events stop.0 p.read.makes.reading stop.1
+
+program_or_deep : Laws → (text : List ℕ) (place : Place) → Program text → IsTooDeepAt text place → ⊥
+program_or_deep laws text place p s =
+    let same = tokens_once laws text s.tokens p.tokens s.are_tokens p.are_tokens in
+    let deep = subst (λ (ts : List Token). IsTooDeep kind.Program text ts (place_at kind.Program text (length text)) place) same s.deep in
+    laws.deep (kinds_of text p.tokens) deep.0 (rw (length-map p.tokens (kind_of text)) p.read.shallow) deep.1
+
+stop_or_deep : Laws → (text : List ℕ) (p q : Place) → IsStopped text p → IsTooDeepAt text q → ⊥
+stop_or_deep laws text p q s d =
+    let same = tokens_once laws text d.tokens s.tokens d.are_tokens s.are_tokens in
+    let deep = subst (λ (ts : List Token). IsTooDeep kind.Program text ts (place_at kind.Program text (length text)) q) same d.deep in
+    laws.one (kinds_of text s.tokens) s.stop.0 deep.0 s.stop.1 deep.1
+
+stops_once : Laws → (text : List ℕ) (p q : Place) → IsStopped text p → IsStopped text q → p ≡ q
+stops_once laws text p q a b =
+    let same = tokens_once laws text a.tokens b.tokens a.are_tokens b.are_tokens in
+    let stop = subst (λ (ts : List Token). IsSyntax kind.Program text ts (place_at kind.Program text (length text)) p) same a.stop in
+    stop.2 ∙ ap (place_of b.tokens (place_at kind.Program text (length text))) (laws.stops (kinds_of text b.tokens) stop.0 b.stop.0 stop.1 b.stop.1) ∙ sym b.stop.2
+
+depths_once : Laws → (text : List ℕ) (p q : Place) → IsTooDeepAt text p → IsTooDeepAt text q → p ≡ q
+depths_once laws text p q a b =
+    let same = tokens_once laws text a.tokens b.tokens a.are_tokens b.are_tokens in
+    let deep = subst (λ (ts : List Token). IsTooDeep kind.Program text ts (place_at kind.Program text (length text)) p) same a.deep in
+    deep.2 ∙ ap (place_of b.tokens (place_at kind.Program text (length text))) (laws.depths (kinds_of text b.tokens) deep.0 b.deep.0 deep.1 b.deep.1) ∙ sym b.deep.2
+
+bound_or_cause : Laws → (text : List ℕ) → Bound text → Cause text → ⊥
+bound_or_cause laws text p (bad_byte place c) = program_or_fault laws text (BadByte place) p.program.tokens p.program.are_tokens c
+bound_or_cause laws text p (open_comment place c) = program_or_fault laws text (OpenComment place) p.program.tokens p.program.are_tokens c
+bound_or_cause laws text p (literal_past place c) = program_or_fault laws text (LiteralPast place) p.program.tokens p.program.are_tokens c
+bound_or_cause laws text p (stopped place c) = program_or_stop laws text place p.program c
+bound_or_cause laws text p (too_deep place c) = program_or_deep laws text place p.program c
+bound_or_cause laws text p (unbuilt_form place c) = absurd (let same = found_once laws text p.program c.program (form.is p.items) (form.unbuilt place) p.recognised c.first in cc)
+bound_or_cause laws text p (unknown_name x c) =
+    let same = program_items_once laws text c.program p.program c.items p.items c.recognised p.recognised in
+    laws.either p.items p.scoped x (subst (λ (l : List (Item NameAt)). IsFirstUnknown l x) same c.first) p.resolves
 
 -- a text is refused, or is bound
 bound_or_refused : Laws → (text r : List ℕ) (c : ℕ) → Bound text → IsRefused text c r → ⊥
-bound_or_refused laws text r c p (inl b) = b.1 p.items p.bound.program
-bound_or_refused laws text r c p (inr b) =
-    let unknown = b.1.1 in
-    let same = laws.program text unknown.items p.items unknown.program p.bound.program in
-    laws.either text p.items p.scoped b.1.0 (subst (λ (l : List (Item Span)). IsFirstUnknown text l b.1.0) same unknown.first) p.bound.resolves
+bound_or_refused laws text r c p refused = bound_or_cause laws text p refused.0
+
+unknown_once : Laws → (text : List ℕ) (x y : NameAt) (a : HasUnknown text x) (b : HasUnknown text y) → unknown_line (names_in a.program) x ≡ unknown_line (names_in b.program) y
+unknown_once laws text x y a b =
+    let same = program_items_once laws text a.program b.program a.items b.items a.recognised b.recognised in
+    let one = laws.unknown b.items x y (subst (λ (l : List (Item NameAt)). IsFirstUnknown l x) same a.first) b.first in
+    ap (λ (l : List (List ℕ)). unknown_line l x) (names_once laws text a.program b.program) ∙ ap (unknown_line (names_in b.program)) one
+
+one_cause : Laws → (text : List ℕ) (c d : Cause text) → (code_of c ≡ code_of d) × (line_of c ≡ line_of d)
+one_cause laws text (bad_byte p a) (bad_byte q b) = (refl, let same : p ≡ q = (let one = (laws.lexing text).faults (BadByte p) (BadByte q) a b in cc) in ap (refused_line 1 (codes "BadByte")) same)
+one_cause laws text (bad_byte p a) (open_comment q b) = absurd (let same = (laws.lexing text).faults (BadByte p) (OpenComment q) a b in cc)
+one_cause laws text (bad_byte p a) (literal_past q b) = absurd (let same = (laws.lexing text).faults (BadByte p) (LiteralPast q) a b in cc)
+one_cause laws text (bad_byte p a) (stopped q b) = absurd (program_or_fault laws text (BadByte p) b.tokens b.are_tokens a)
+one_cause laws text (bad_byte p a) (too_deep q b) = absurd (program_or_fault laws text (BadByte p) b.tokens b.are_tokens a)
+one_cause laws text (bad_byte p a) (unbuilt_form q b) = absurd (program_or_fault laws text (BadByte p) b.program.tokens b.program.are_tokens a)
+one_cause laws text (bad_byte p a) (unknown_name q b) = absurd (program_or_fault laws text (BadByte p) b.program.tokens b.program.are_tokens a)
+one_cause laws text (open_comment p a) (bad_byte q b) = absurd (let same = (laws.lexing text).faults (OpenComment p) (BadByte q) a b in cc)
+one_cause laws text (open_comment p a) (open_comment q b) = (refl, let same : p ≡ q = (let one = (laws.lexing text).faults (OpenComment p) (OpenComment q) a b in cc) in ap (refused_line 2 (codes "OpenComment")) same)
+one_cause laws text (open_comment p a) (literal_past q b) = absurd (let same = (laws.lexing text).faults (OpenComment p) (LiteralPast q) a b in cc)
+one_cause laws text (open_comment p a) (stopped q b) = absurd (program_or_fault laws text (OpenComment p) b.tokens b.are_tokens a)
+one_cause laws text (open_comment p a) (too_deep q b) = absurd (program_or_fault laws text (OpenComment p) b.tokens b.are_tokens a)
+one_cause laws text (open_comment p a) (unbuilt_form q b) = absurd (program_or_fault laws text (OpenComment p) b.program.tokens b.program.are_tokens a)
+one_cause laws text (open_comment p a) (unknown_name q b) = absurd (program_or_fault laws text (OpenComment p) b.program.tokens b.program.are_tokens a)
+one_cause laws text (literal_past p a) (bad_byte q b) = absurd (let same = (laws.lexing text).faults (LiteralPast p) (BadByte q) a b in cc)
+one_cause laws text (literal_past p a) (open_comment q b) = absurd (let same = (laws.lexing text).faults (LiteralPast p) (OpenComment q) a b in cc)
+one_cause laws text (literal_past p a) (literal_past q b) = (refl, let same : p ≡ q = (let one = (laws.lexing text).faults (LiteralPast p) (LiteralPast q) a b in cc) in ap (refused_line 3 (codes "LiteralPast")) same)
+one_cause laws text (literal_past p a) (stopped q b) = absurd (program_or_fault laws text (LiteralPast p) b.tokens b.are_tokens a)
+one_cause laws text (literal_past p a) (too_deep q b) = absurd (program_or_fault laws text (LiteralPast p) b.tokens b.are_tokens a)
+one_cause laws text (literal_past p a) (unbuilt_form q b) = absurd (program_or_fault laws text (LiteralPast p) b.program.tokens b.program.are_tokens a)
+one_cause laws text (literal_past p a) (unknown_name q b) = absurd (program_or_fault laws text (LiteralPast p) b.program.tokens b.program.are_tokens a)
+one_cause laws text (stopped p a) (bad_byte q b) = absurd (program_or_fault laws text (BadByte q) a.tokens a.are_tokens b)
+one_cause laws text (stopped p a) (open_comment q b) = absurd (program_or_fault laws text (OpenComment q) a.tokens a.are_tokens b)
+one_cause laws text (stopped p a) (literal_past q b) = absurd (program_or_fault laws text (LiteralPast q) a.tokens a.are_tokens b)
+one_cause laws text (stopped p a) (stopped q b) = (refl, ap (refused_line 4 (codes "Syntax")) (stops_once laws text p q a b))
+one_cause laws text (stopped p a) (too_deep q b) = absurd (stop_or_deep laws text p q a b)
+one_cause laws text (stopped p a) (unbuilt_form q b) = absurd (program_or_stop laws text p b.program a)
+one_cause laws text (stopped p a) (unknown_name q b) = absurd (program_or_stop laws text p b.program a)
+one_cause laws text (too_deep p a) (bad_byte q b) = absurd (program_or_fault laws text (BadByte q) a.tokens a.are_tokens b)
+one_cause laws text (too_deep p a) (open_comment q b) = absurd (program_or_fault laws text (OpenComment q) a.tokens a.are_tokens b)
+one_cause laws text (too_deep p a) (literal_past q b) = absurd (program_or_fault laws text (LiteralPast q) a.tokens a.are_tokens b)
+one_cause laws text (too_deep p a) (stopped q b) = absurd (stop_or_deep laws text q p b a)
+one_cause laws text (too_deep p a) (too_deep q b) = (refl, ap (refused_line 5 (codes "TooDeep")) (depths_once laws text p q a b))
+one_cause laws text (too_deep p a) (unbuilt_form q b) = absurd (program_or_deep laws text p b.program a)
+one_cause laws text (too_deep p a) (unknown_name q b) = absurd (program_or_deep laws text p b.program a)
+one_cause laws text (unbuilt_form p a) (bad_byte q b) = absurd (program_or_fault laws text (BadByte q) a.program.tokens a.program.are_tokens b)
+one_cause laws text (unbuilt_form p a) (open_comment q b) = absurd (program_or_fault laws text (OpenComment q) a.program.tokens a.program.are_tokens b)
+one_cause laws text (unbuilt_form p a) (literal_past q b) = absurd (program_or_fault laws text (LiteralPast q) a.program.tokens a.program.are_tokens b)
+one_cause laws text (unbuilt_form p a) (stopped q b) = absurd (program_or_stop laws text q a.program b)
+one_cause laws text (unbuilt_form p a) (too_deep q b) = absurd (program_or_deep laws text q a.program b)
+one_cause laws text (unbuilt_form p a) (unbuilt_form q b) = (refl, let same : p ≡ q = ap (place_found p) (found_once laws text a.program b.program (form.unbuilt p) (form.unbuilt q) a.first b.first) in ap (refused_line 17 (codes "Unbuilt")) same)
+one_cause laws text (unbuilt_form p a) (unknown_name q b) = absurd (let same = found_once laws text a.program b.program (form.unbuilt p) (form.is b.items) a.first b.recognised in cc)
+one_cause laws text (unknown_name p a) (bad_byte q b) = absurd (program_or_fault laws text (BadByte q) a.program.tokens a.program.are_tokens b)
+one_cause laws text (unknown_name p a) (open_comment q b) = absurd (program_or_fault laws text (OpenComment q) a.program.tokens a.program.are_tokens b)
+one_cause laws text (unknown_name p a) (literal_past q b) = absurd (program_or_fault laws text (LiteralPast q) a.program.tokens a.program.are_tokens b)
+one_cause laws text (unknown_name p a) (stopped q b) = absurd (program_or_stop laws text q a.program b)
+one_cause laws text (unknown_name p a) (too_deep q b) = absurd (program_or_deep laws text q a.program b)
+one_cause laws text (unknown_name p a) (unbuilt_form q b) = absurd (let same = found_once laws text a.program b.program (form.is a.items) (form.unbuilt q) a.recognised b.first in cc)
+one_cause laws text (unknown_name p a) (unknown_name q b) = (refl, unknown_once laws text p q a b)
 
 -- two refusals are one
 one_refusal : Laws → (text : List ℕ) (c d : ℕ) (r q : List ℕ) → IsRefused text c r → IsRefused text d q → (c ≡ d) × (r ≡ q)
-one_refusal laws text c d r q (inl a) (inl b) = (a.0 ∙ sym b.0, a.2 ∙ sym b.2)
-one_refusal laws text c d r q (inl a) (inr b) = absurd (a.1 b.1.1.items b.1.1.program)
-one_refusal laws text c d r q (inr a) (inl b) = absurd (b.1 a.1.1.items a.1.1.program)
-one_refusal laws text c d r q (inr a) (inr b) =
-    let first = a.1.1 in
-    let also = b.1.1 in
-    let same = laws.program text first.items also.items first.program also.program in
-    let x = laws.unknown text also.items a.1.0 b.1.0 (subst (λ (l : List (Item Span)). IsFirstUnknown text l a.1.0) same first.first) also.first in
-    (a.0 ∙ sym b.0, a.1.2 ∙ ap (unknown_line text) x ∙ sym b.1.2)
+one_refusal laws text c d r q a b =
+    let same = one_cause laws text a.0 b.0 in
+    (a.1 ∙ same.0 ∙ sym b.1, a.2 ∙ same.1 ∙ sym b.2)
 
 accepted_or_rejected : Laws → (text r : List ℕ) → IsAccepted text → IsRejected text r → ⊥
 accepted_or_rejected laws text r a b =

@@ -4,3 +4,4 @@ pub mod Points
 pub mod Judged
 pub mod Determined
 pub mod Sending
+pub mod Refusing

@@ -21,10 +21,12 @@ use Rattle.lq_straight.specs.declared.item.Right.TheVariants as right
 use Rattle.lq_straight.specs.declared.item.Order.{Order}
 use Rattle.lq_straight.specs.declared.item.Order.TheVariants.{Less, AtMost, Greater, AtLeast}
 use Rattle.lq_straight.specs.declared.item.Item.{Item}
-use Rattle.lq_straight.specs.declared.item.Item.TheVariants as item
-use Rattle.lq_straight.specs.Program.{IsSmallSum, IsSmallItem, AreSmall}
-use Rattle.lq_straight.specs.Demands.{term_of, op_of, goal_of, with_definition, implications_from, implications_of as demands_of}
-use Rattle.lq_app.specs.Steps.{item_steps, steps_in}
+use Rattle.lq_straight.specs.declared.item.ItemNode.{ItemNode}
+use Rattle.lq_straight.specs.declared.item.ItemNode.TheVariants.{Define, Assert, Print}
+use Rattle.lq_straight.specs.Uses.{IsSmallSum, IsSmallNode, IsSmallItem, AreSmall}
+use Rattle.lq_straight.specs.Demands.{term_of, goal_of, known_behind, with_demand, implications_from, implications_of as demands_of}
+use Rattle.lq_straight.specs.Meaning.{op_of}
+use Rattle.lq_app.specs.Steps.{node_steps, item_steps, steps_in}
 
 -- the numbers on the way are within 128 bits
 whole_fits : (n : ℕ) → n < 2 ^ 127 → FitsSigned w128 (pos n)
@@ -102,23 +104,34 @@ order_plain AtLeast = tt
 one_step : (step : Step) → IsPlainStep step → All IsPlainStep (step ∷ [])
 one_step step is = All-cons IsPlainStep step [] is (All-nil IsPlainStep)
 
+node_plain : (n : ItemNode Binder) → IsSmallNode n → All IsPlainStep (node_steps n)
+node_plain (Define x (right.Read place)) small = All-nil IsPlainStep
+node_plain (Define x (right.Sum s)) small = one_step (assume (compare Eq (var (Bound x)) (term_of s))) ((tt, tt, sum_plain s), definition_gathers x s small)
+node_plain (Assert a) small = one_step (demand (goal_of a)) (order_plain a.order, sum_plain a.left, sum_plain a.right)
+node_plain (Print e) small = All-nil IsPlainStep
+
 item_plain : (i : Item Binder) → IsSmallItem i → All IsPlainStep (item_steps i)
-item_plain (item.Define x (right.Read place)) small = All-nil IsPlainStep
-item_plain (item.Define x (right.Sum s)) small = one_step (assume (compare Eq (var (Bound x)) (term_of s))) ((tt, tt, sum_plain s), definition_gathers x s small)
-item_plain (item.Assert a) small = one_step (demand (goal_of a)) (order_plain a.order, sum_plain a.left, sum_plain a.right)
+item_plain i small = node_plain i.node small
 
 pub steps_plain : (items : List (Item Binder)) → AreSmall items → All IsPlainStep (steps_in items)
 steps_plain [] small = All-nil IsPlainStep
 steps_plain (i ∷ items) small = All-append IsPlainStep (item_steps i) (steps_in items) (item_plain i small.0) (steps_plain items small.1)
 
-demands_from : (known : List Formula) (items : List (Item Binder)) → implications_after known (steps_in items) ≡ implications_from known items
-demands_from known [] = refl
-demands_from known (item.Define x (right.Read place) ∷ items) = demands_from known items
-demands_from known (item.Define x (right.Sum s) ∷ items) = demands_from (with_definition known x (right.Sum s)) items
-demands_from known (item.Assert a ∷ items) = ap (λ l. record { hypotheses = known; goal = goal_of a } ∷ l) (demands_from known items)
+abbrev Demands : List (Item Binder) → Type 0
+Demands items = (known : List Formula) → implications_after known (steps_in items) ≡ implications_from known items
+
+demands_behind : (items : List (Item Binder)) → Demands items → (known : List Formula) (n : ItemNode Binder) → implications_after known (node_steps n ++ steps_in items) ≡ with_demand known n (implications_from (known_behind known n) items)
+demands_behind items rest known (Define x (right.Read place)) = rest known
+demands_behind items rest known (Define x (right.Sum s)) = rest (known_behind known (Define x (right.Sum s)))
+demands_behind items rest known (Assert a) = ap (λ l. record { hypotheses = known; goal = goal_of a } ∷ l) (rest known)
+demands_behind items rest known (Print e) = rest known
+
+demands_from : (items : List (Item Binder)) → Demands items
+demands_from [] known = refl
+demands_from (i ∷ items) known = demands_behind items (demands_from items) known i.node
 
 pub steps_demand : (items : List (Item Binder)) → implications_of (steps_in items) ≡ demands_of items
-steps_demand items = demands_from [] items
+steps_demand items = demands_from items []
 
 pub small_at : (items : List (Item Binder)) (k : ℕ) (i : Item Binder) → AreSmall items → slice_get items k ≡ Some i → IsSmallItem i
 small_at [] k i small is = absurd cc

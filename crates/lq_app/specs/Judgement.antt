@@ -1,7 +1,9 @@
 -- The judgement on a text.
 use Rattle.std.specs.Prelude.{◌≡◌, ◌⊎◌, ℕ, ℤ, ◌+◌, ◌<◌, ◌^◌, List, [], ◌∷◌, ◌++◌, All, Some, slice_get, Result, Ok, Err, codes, decimal}
 use Rattle.lq_math.specs.LowestTerms.{IsLowest}
+use Rattle.lq_lex.specs.declared.error.LexError.TheVariants.{BadByte, OpenComment, LiteralPast}
 use Rattle.lq_name.specs.declared.name.Binder.{Binder}
+use Rattle.lq_name.specs.declared.place.Place.{Place}
 use Rattle.lq_num.specs.declared.past.NumberPast.{NumberPast}
 use Rattle.lq_num.specs.Past.{IsPast}
 use Rattle.lq_pred.specs.Sum.{Sum as Term}
@@ -9,11 +11,11 @@ use Rattle.lq_pred.specs.Formula.{Formula}
 use Rattle.lq_pred.specs.Points.{Point}
 use Rattle.lq_pred.specs.Implication.{Implication, IsValid, terms_in}
 use Rattle.lq_demand.specs.Answer.{CanBeGathered, sizes_of, IsFirstFailing, IsFirstUngathered, IsFirstLarge}
-use Rattle.lq_straight.specs.declared.token.Span.{Span}
+use Rattle.lq_straight.specs.declared.item.NameAt.{NameAt}
 use Rattle.lq_straight.specs.declared.item.Assertion.{Assertion}
 use Rattle.lq_straight.specs.declared.item.Item.{Item}
-use Rattle.lq_straight.specs.Program.{IsProgram, text_of}
-use Rattle.lq_straight.specs.Places.{line_of, column_of}
+use Rattle.lq_straight.specs.Forms.{is, unbuilt, items_in}
+use Rattle.lq_straight.specs.Names.{text_in}
 use Rattle.lq_straight.specs.Scope.{Resolves, IsFirstUnknown}
 use Rattle.lq_straight.specs.Meaning.{IsSafe}
 use Rattle.lq_straight.specs.Demands.{implications_of, assertions_of}
@@ -21,18 +23,33 @@ use Rattle.lq_app.specs.declared.verdict.Judgement.{Judgement}
 use Rattle.lq_app.specs.declared.verdict.Judgement.TheVariants.{Accepted, Rejected, Undecided}
 use Rattle.lq_app.specs.declared.verdict.Refusal.{Refusal}
 use Rattle.lq_app.specs.declared.verdict.Refusal.TheVariants.{Code, Memory}
+use Rattle.lq_app.specs.Program.{Program, names_in, place_text, IsFaulty, IsStopped, IsTooDeepAt}
 use Rattle.lq_app.specs.Texts.{fraction_text, past_text, term_text, formula_text}
 
--- the text is the program of these items, and these are they with their names bound
-pub record IsBoundAs (text : List ℕ) (items : List (Item Span)) (scoped : List (Item Binder)) : Type 0 where
-  pub program : IsProgram text items
-  pub resolves : Resolves text items scoped
-
--- the program that the text is
+-- The program that the text is, its items, and these with their names bound.
 pub record Bound (text : List ℕ) : Type 0 where
-  pub items : List (Item Span)
+  pub program : Program text
+  pub items : List (Item NameAt)
   pub scoped : List (Item Binder)
-  pub bound : IsBoundAs text items scoped
+  pub recognised : items_in program.trees ≡ is items
+  pub resolves : Resolves items scoped
+
+-- the text is a program of these items and names
+pub record IsReadAs (text : List ℕ) (names : List (List ℕ)) (items : List (Item NameAt)) : Type 0 where
+  pub program : Program text
+  pub named : names_in program ≡ names
+  pub recognised : items_in program.trees ≡ is items
+
+-- the same with its names bound
+pub record IsBoundAs (text : List ℕ) (names : List (List ℕ)) (items : List (Item NameAt)) (scoped : List (Item Binder)) : Type 0 where
+  pub program : Program text
+  pub named : names_in program ≡ names
+  pub recognised : items_in program.trees ≡ is items
+  pub resolves : Resolves items scoped
+
+-- the texts of the names of the program
+abbrev pub names_of : {text : List ℕ} → Bound text → List (List ℕ)
+names_of p = names_in p.program
 
 -- what the program demands
 abbrev pub demands : {text : List ℕ} → Bound text → List Implication
@@ -45,21 +62,17 @@ pub record IsAccepted (text : List ℕ) : Type 0 where
   pub valid : All IsValid (demands of)
   pub safe : IsSafe of.scoped
 
--- the first line and the line on a demand, counted from 0
-abbrev pub head_lines : List ℕ → ℕ → ℕ → ℕ → List ℕ
-head_lines first number line column =
-    first ++ codes "demand " ++ decimal (number + 1) ++ codes " at " ++ decimal line ++ codes ":" ++ decimal column ++ codes ": assertion\n"
-
--- the same for a demand whose assertion stands at this offset
-abbrev pub head_at : List ℕ → List ℕ → ℕ → ℕ → List ℕ
-head_at first text number at = head_lines first number (line_of text at) (column_of text at)
+-- the first line and the line on a demand, counted from 0, whose assertion stands at this place
+abbrev pub head_lines : List ℕ → ℕ → Place → List ℕ
+head_lines first number place =
+    first ++ codes "demand " ++ decimal (number + 1) ++ codes " at " ++ place_text place ++ codes ": assertion\n"
 
 -- a line for each term, with its number at the point in lowest terms
-abbrev pub ShowsPoint : List ℕ → List (Item Span) → Point → List Term → List ℕ → Type 0
-ShowsPoint text items p [] lines = lines ≡ []
-ShowsPoint text items p (t ∷ ts) lines =
+abbrev pub ShowsPoint : List (List ℕ) → List (Item NameAt) → Point → List Term → List ℕ → Type 0
+ShowsPoint names items p [] lines = lines ≡ []
+ShowsPoint names items p (t ∷ ts) lines =
     (n : ℤ) × (d : ℕ) × (rest : List ℕ) × IsLowest (p.number t) n d
-    × (lines ≡ term_text text items t ++ codes " = " ++ fraction_text n d ++ codes "\n" ++ rest) × ShowsPoint text items p ts rest
+    × (lines ≡ term_text names items t ++ codes " = " ++ fraction_text n d ++ codes "\n" ++ rest) × ShowsPoint names items p ts rest
 
 -- All literals can be gathered, the demand is the first that isn't valid, and the report shows a point at which it fails.
 pub record IsRejected (text report : List ℕ) : Type 0 where
@@ -70,8 +83,8 @@ pub record IsRejected (text report : List ℕ) : Type 0 where
   pub assertion : Assertion Binder
   pub asserted : slice_get (assertions_of of.scoped) number ≡ Some assertion
   pub lines : List ℕ
-  pub shows : ShowsPoint text of.items point (terms_in first.failing) lines
-  pub written : report ≡ head_at (codes "rejected\n") text number assertion.at ++ lines
+  pub shows : ShowsPoint (names_of of) of.items point (terms_in first.failing) lines
+  pub written : report ≡ head_lines (codes "rejected\n") number assertion.place ++ lines
 
 -- The demand is the first with a literal that can't be gathered, and the report has the first such comparison.
 pub record IsUngathered (text report : List ℕ) : Type 0 where
@@ -81,7 +94,7 @@ pub record IsUngathered (text report : List ℕ) : Type 0 where
   pub first : IsFirstUngathered (demands of) number formula
   pub assertion : Assertion Binder
   pub asserted : slice_get (assertions_of of.scoped) number ≡ Some assertion
-  pub written : report ≡ head_at (codes "undecided\n") text number assertion.at ++ codes "number past in " ++ formula_text text of.items formula ++ codes "\n"
+  pub written : report ≡ head_lines (codes "undecided\n") number assertion.place ++ codes "number past in " ++ formula_text (names_of of) of.items formula ++ codes "\n"
 
 -- All literals can be gathered, the demands before this one are valid, and the sizes of its constants sum to 2 ^ 126 or more. The
 -- report has an operation on two fractions whose result has no form within 128 bits.
@@ -93,29 +106,62 @@ pub record IsPastNumber (text report : List ℕ) : Type 0 where
   pub is_past : IsPast past
   pub assertion : Assertion Binder
   pub asserted : slice_get (assertions_of of.scoped) number ≡ Some assertion
-  pub written : report ≡ head_at (codes "undecided\n") text number assertion.at ++ codes "number past " ++ past_text past ++ codes "\n"
+  pub written : report ≡ head_lines (codes "undecided\n") number assertion.place ++ codes "number past " ++ past_text past ++ codes "\n"
 
--- the text is no program
-abbrev pub IsUnbuilt : List ℕ → Type 0
-IsUnbuilt text = (items : List (Item Span)) → IsProgram text items → ⊥
+-- the text is a program with this first node that isn't judged yet
+pub record IsUnbuilt (text : List ℕ) (place : Place) : Type 0 where
+  pub program : Program text
+  pub first : items_in program.trees ≡ unbuilt place
 
 -- The text is a program, and this is the first name that it uses with no definition before.
-pub record HasUnknown (text : List ℕ) (x : Span) : Type 0 where
-  pub items : List (Item Span)
-  pub program : IsProgram text items
-  pub first : IsFirstUnknown text items x
+pub record HasUnknown (text : List ℕ) (x : NameAt) : Type 0 where
+  pub program : Program text
+  pub items : List (Item NameAt)
+  pub recognised : items_in program.trees ≡ is items
+  pub first : IsFirstUnknown items x
 
-abbrev pub unbuilt_line : List ℕ
-unbuilt_line = codes "refused 17 Unbuilt in program at 1:1\n"
+-- a refusal by its number and its name, at a place
+abbrev pub refused_at : ℕ → List ℕ → Place → List ℕ
+refused_at code name place = codes "refused " ++ decimal code ++ codes " " ++ name ++ codes " in program at " ++ place_text place
 
-abbrev pub unknown_line : List ℕ → Span → List ℕ
-unknown_line text x = codes "refused 6 Unknown in program at " ++ decimal (line_of text x.at) ++ codes ":" ++ decimal (column_of text x.at) ++ codes ": " ++ text_of text x ++ codes "\n"
+abbrev pub refused_line : ℕ → List ℕ → Place → List ℕ
+refused_line code name place = refused_at code name place ++ codes "\n"
+
+abbrev pub unknown_line : List (List ℕ) → NameAt → List ℕ
+unknown_line names x = refused_at 6 (codes "Unknown") x.place ++ codes ": " ++ text_in names x.name.0 ++ codes "\n"
+
+-- Why a text is refused, in the order in which the causes are asked for: no tokens, no program, a form that isn't judged yet, an unknown
+-- name.
+pub data Cause (text : List ℕ) : Type 0 where
+  bad_byte : (place : Place) → IsFaulty text (BadByte place) → Cause text
+  open_comment : (place : Place) → IsFaulty text (OpenComment place) → Cause text
+  literal_past : (place : Place) → IsFaulty text (LiteralPast place) → Cause text
+  stopped : (place : Place) → IsStopped text place → Cause text
+  too_deep : (place : Place) → IsTooDeepAt text place → Cause text
+  unbuilt_form : (place : Place) → IsUnbuilt text place → Cause text
+  unknown_name : (x : NameAt) → HasUnknown text x → Cause text
+
+abbrev pub code_of : {text : List ℕ} → Cause text → ℕ
+code_of (bad_byte p c) = 1
+code_of (open_comment p c) = 2
+code_of (literal_past p c) = 3
+code_of (stopped p c) = 4
+code_of (too_deep p c) = 5
+code_of (unbuilt_form p c) = 17
+code_of (unknown_name x c) = 6
+
+abbrev pub line_of : {text : List ℕ} → Cause text → List ℕ
+line_of (bad_byte p c) = refused_line 1 (codes "BadByte") p
+line_of (open_comment p c) = refused_line 2 (codes "OpenComment") p
+line_of (literal_past p c) = refused_line 3 (codes "LiteralPast") p
+line_of (stopped p c) = refused_line 4 (codes "Syntax") p
+line_of (too_deep p c) = refused_line 5 (codes "TooDeep") p
+line_of (unbuilt_form p c) = refused_line 17 (codes "Unbuilt") p
+line_of (unknown_name x c) = unknown_line (names_in c.program) x
 
 -- the refusals with their numbers and reports
 abbrev pub IsRefused : List ℕ → ℕ → List ℕ → Type 0
-IsRefused text code report =
-    ((code ≡ 17) × IsUnbuilt text × (report ≡ unbuilt_line))
-    ⊎ ((code ≡ 6) × ((x : Span) × HasUnknown text x × (report ≡ unknown_line text x)))
+IsRefused text code report = (c : Cause text) × (code ≡ code_of c) × (report ≡ line_of c)
 
 -- A judgement that is due. No types and no explanations are reported yet.
 abbrev pub IsJudgement : List ℕ → Result Judgement Refusal → Type 0
@@ -133,12 +179,11 @@ IsByNumber text j = ⊥
 -- both reject the same demand at the same place, and may show different points
 pub record DifferInPoints (report other : List ℕ) : Type 0 where
   pub number : ℕ
-  pub line : ℕ
-  pub column : ℕ
+  pub place : Place
   pub lines : List ℕ
   pub others : List ℕ
-  pub written : report ≡ head_lines (codes "rejected\n") number line column ++ lines
-  pub also : other ≡ head_lines (codes "rejected\n") number line column ++ others
+  pub written : report ≡ head_lines (codes "rejected\n") number place ++ lines
+  pub also : other ≡ head_lines (codes "rejected\n") number place ++ others
 
 -- they are one, but for the point that is shown
 abbrev pub Agree : Result Judgement Refusal → Result Judgement Refusal → Type 0

@@ -10,16 +10,21 @@ use Rattle.lq_demand.specs.Straight.{Step, assume, demand}
 use Rattle.lq_straight.specs.declared.item.Right.{Right}
 use Rattle.lq_straight.specs.declared.item.Right.TheVariants.{Read, Sum}
 use Rattle.lq_straight.specs.declared.item.Item.{Item}
-use Rattle.lq_straight.specs.declared.item.Item.TheVariants.{Define, Assert}
+use Rattle.lq_straight.specs.declared.item.ItemNode.{ItemNode}
+use Rattle.lq_straight.specs.declared.item.ItemNode.TheVariants.{Define, Assert, Print}
 use Rattle.lq_straight.specs.Demands.{term_of, goal_of}
 
 abbrev pub definition_steps : Binder → Right Binder → List Step
 definition_steps x (Read place) = []
 definition_steps x (Sum s) = assume (compare Eq (var (Bound x)) (term_of s)) ∷ []
 
+abbrev pub node_steps : ItemNode Binder → List Step
+node_steps (Define x r) = definition_steps x r
+node_steps (Assert a) = demand (goal_of a) ∷ []
+node_steps (Print e) = []
+
 abbrev pub item_steps : Item Binder → List Step
-item_steps (Define x r) = definition_steps x r
-item_steps (Assert a) = demand (goal_of a) ∷ []
+item_steps i = node_steps i.node
 
 abbrev pub steps_in : List (Item Binder) → List Step
 steps_in items = flat_map item_steps items

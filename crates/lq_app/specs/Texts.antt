@@ -11,10 +11,11 @@ use Rattle.lq_name.specs.declared.operation.CompareOp.TheVariants.{Eq, Ne, Lt, L
 use Rattle.lq_pred.specs.declared.symbol.Symbol.TheVariants.{Bound}
 use Rattle.lq_pred.specs.Sum.{Sum as Term, whole, var, add, sub}
 use Rattle.lq_pred.specs.Formula.{Formula, compare}
-use Rattle.lq_straight.specs.declared.token.Span.{Span}
+use Rattle.lq_straight.specs.declared.item.NameAt.{NameAt}
 use Rattle.lq_straight.specs.declared.item.Item.{Item}
-use Rattle.lq_straight.specs.declared.item.Item.TheVariants.{Define, Assert}
-use Rattle.lq_straight.specs.Program.{text_of}
+use Rattle.lq_straight.specs.declared.item.ItemNode.{ItemNode}
+use Rattle.lq_straight.specs.declared.item.ItemNode.TheVariants.{Define, Assert, Print}
+use Rattle.lq_straight.specs.Names.{text_in}
 use Rattle.lq_straight.specs.Scope.{ordinal}
 
 -- a whole number alone, else with its denominator
@@ -39,23 +40,27 @@ past_text e = operation_text e.op (frac_text e.left) (frac_text e.right)
 abbrev pub with_ordinal : List ℕ → ℕ → List ℕ
 with_ordinal name n = if nat_lt 1 n then name ++ codes "@" ++ decimal n else name
 
--- an assertion has no name
-abbrev pub item_name : List ℕ → List (Item Span) → ℕ → Option (Item Span) → List ℕ
-item_name text items k None = []
-item_name text items k (Some (Define x r)) = with_ordinal (text_of text x) (ordinal text items k (text_of text x))
-item_name text items k (Some (Assert a)) = []
+-- only a definition has a name
+abbrev pub node_name : List (List ℕ) → List (Item NameAt) → ℕ → ItemNode NameAt → List ℕ
+node_name names items k (Define x r) = with_ordinal (text_in names x.name.0) (ordinal items k x.name.0)
+node_name names items k (Assert a) = []
+node_name names items k (Print e) = []
+
+abbrev pub item_name : List (List ℕ) → List (Item NameAt) → ℕ → Option (Item NameAt) → List ℕ
+item_name names items k None = []
+item_name names items k (Some i) = node_name names items k i.node
 
 -- the name of the definition with this number
-abbrev pub binder_name : List ℕ → List (Item Span) → ℕ → List ℕ
-binder_name text items k = item_name text items k (slice_get items k)
+abbrev pub binder_name : List (List ℕ) → List (Item NameAt) → ℕ → List ℕ
+binder_name names items k = item_name names items k (slice_get items k)
 
 -- a term over binders; no other terms stand in straight-line programs
-abbrev pub term_text : List ℕ → List (Item Span) → Term → List ℕ
-term_text text items (whole n) = signed_decimal n
-term_text text items (var (Bound x)) = binder_name text items x.0
-term_text text items (add a b) = term_text text items a ++ codes " + " ++ term_text text items b
-term_text text items (sub a b) = term_text text items a ++ codes " - " ++ term_text text items b
-term_text text items t = []
+abbrev pub term_text : List (List ℕ) → List (Item NameAt) → Term → List ℕ
+term_text names items (whole n) = signed_decimal n
+term_text names items (var (Bound x)) = binder_name names items x.0
+term_text names items (add a b) = term_text names items a ++ codes " + " ++ term_text names items b
+term_text names items (sub a b) = term_text names items a ++ codes " - " ++ term_text names items b
+term_text names items t = []
 
 abbrev pub compare_text : CompareOp → List ℕ
 compare_text Eq = codes " = "
@@ -66,6 +71,6 @@ compare_text Gt = codes " > "
 compare_text Ge = codes " >= "
 
 -- a comparison; no other formulas stand in straight-line programs
-abbrev pub formula_text : List ℕ → List (Item Span) → Formula → List ℕ
-formula_text text items (compare o a b) = term_text text items a ++ compare_text o ++ term_text text items b
-formula_text text items p = []
+abbrev pub formula_text : List (List ℕ) → List (Item NameAt) → Formula → List ℕ
+formula_text names items (compare o a b) = term_text names items a ++ compare_text o ++ term_text names items b
+formula_text names items p = []

@@ -1,4 +1,5 @@
-ghost use Rattle.std.specs.Prelude.{◌≤◌, length, IfOk};
+ghost use Rattle.std.specs.Prelude.{◌≡◌, ◌⊎◌, ◌≤◌, ℕ, List, length, Err, IfOk, codes};
+ghost use Rattle.lq_app.specs.Judgement.{IsJudgement};
 ghost use Rattle.lq_app.specs.Report.{visit, IsVerdict, IsDue};
 
 use crate::report::{file_report, usage_report};
@@ -20,22 +21,45 @@ pub(crate) struct Answer {
     pub(crate) report: TextBuf,
 }
 
+fn accepted(alloc: Global) -> Result<Answer, AllocError>
+    ensures status { IfOk result (λ r. r.status ≡ Status.Good) }
+    ensures report { IfOk result (λ r. r.report ≡ codes "accepted\n") }
+{
+    let line = Vec::from_slice(alloc, b"accepted\n")?;
+    Ok(Answer {
+        status: Status::Good,
+        report: TextBuf::from_bytes(line),
+    })
+}
+
+fn with_report(status: Status, report: TextBuf) -> Answer
+    ensures status { result.status ≡ status }
+    ensures report { result.report ≡ report }
+{
+    Answer { status, report }
+}
+
+// The answer to a refusal.
+fn refused(refusal: Refusal) -> Result<Answer, AllocError>
+    ensures { (text : List ℕ) → (refusal ≡ Refusal.Memory) ⊎ IsJudgement text (Err refusal) → IfOk result (λ r. IsVerdict text r.status r.report) }
+{
+    match refusal {
+        Refusal::Code(_, line) => Ok(with_report(Status::Refused, line)),
+        Refusal::Memory => Err(AllocError),
+    }
+}
+
 // The verdict on a text.
 fn verdict_on(alloc: Global, text: &[u8]) -> Result<Answer, AllocError>
     requires { length text.now ≤ 1048576 }
     ensures { IfOk result (λ r. IsVerdict text.now r.status r.report) }
 {
-    let (status, report) = match judge(alloc, text, &[], &[], PIVOTS) {
-        Ok(Judgement::Accepted(_types)) => {
-            let line = Vec::from_slice(alloc, b"accepted\n")?;
-            (Status::Good, TextBuf::from_bytes(line))
-        }
-        Ok(Judgement::Rejected(failure, _explained)) => (Status::Rejected, failure),
-        Ok(Judgement::Undecided(cause)) => (Status::Undecided, cause),
-        Err(Refusal::Code(_, line)) => (Status::Refused, line),
-        Err(Refusal::Memory) => return Err(AllocError),
-    };
-    Ok(Answer { status, report })
+    match judge(alloc, text, &[], &[], PIVOTS) {
+        Ok(Judgement::Accepted(_types)) => accepted(alloc),
+        Ok(Judgement::Rejected(failure, _explained)) => Ok(with_report(Status::Rejected, failure)),
+        Ok(Judgement::Undecided(cause)) => Ok(with_report(Status::Undecided, cause)),
+        Err(refusal) => refused(refusal),
+    }
 }
 
 // What is due for these words.

@@ -2,13 +2,17 @@
 ghost use Rattle.lq_app.specs.Judgement.{IsOneJudgement};
 ghost use Rattle.lq_app.specs.Report.{IsDetermined};
 
-use lq_straight::{one_program, one_scope};
+use lq_lex::one_reading;
+use lq_parse::{one_answer, one_tree};
+use lq_straight::one_scope;
 
 /// Two judgements on a text that are due agree, but for the point that a rejection shows, unless one is undecided by a number.
 pub fn one_judgement()
     ensures { IsOneJudgement }
 {
-    one_program();
+    one_reading();
+    one_tree();
+    one_answer();
     one_scope();
 }
 

@@ -5,14 +5,15 @@ ghost use Rattle.lq_pred.specs.PredView.{formula_of};
 ghost use Rattle.lq_demand.specs.Straight.{implications_of};
 ghost use Rattle.lq_demand.specs.LinesView.{steps_of};
 ghost use Rattle.lq_demand.specs.Plain.{IsPlainStep};
-ghost use Rattle.lq_straight.specs.Program.{IsSmallSum, IsSmallItem, AreSmall};
-ghost use Rattle.lq_straight.specs.Demands.{term_of, op_of, goal_of, implications_of as demands_of};
+ghost use Rattle.lq_straight.specs.Uses.{IsSmallSum, IsSmallItem, AreSmall};
+ghost use Rattle.lq_straight.specs.Demands.{term_of, goal_of, implications_of as demands_of};
+ghost use Rattle.lq_straight.specs.Meaning.{op_of};
 ghost use Rattle.lq_app.specs.Steps.{item_steps};
 
 use lq_demand::{Line, Lines};
 use lq_name::{Binder, CompareOp};
 use lq_pred::{Pred, Symbol, Term};
-use lq_straight::{Assertion, Item, Order, Right, Sum};
+use lq_straight::{Assertion, Item, ItemNode, Order, Right, Sum};
 use std::alloc::{AllocError, Global};
 
 fn whole(n: u128) -> i128
@@ -76,14 +77,14 @@ fn push_item(alloc: Global, lines: &mut Lines, item: &Item<Binder>) -> Result<()
     requires { IsSmallItem item.now }
     ensures { OnOk result (steps_of lines.new ≡ steps_of lines.old ++ item_steps item.now) }
 {
-    match item {
-        Item::Define(_, Right::Read(_)) => Ok(()),
-        Item::Define(x, Right::Sum(sum)) => {
+    match &item.node {
+        ItemNode::Define(_, Right::Read(_)) | ItemNode::Print(_) => Ok(()),
+        ItemNode::Define(x, Right::Sum(sum)) => {
             let left = Term::Var(Symbol::Bound(*x));
             let right = term_of(alloc, *sum)?;
             lines.push(Line::Assume(Pred::Compare(CompareOp::Eq, left, right)))
         }
-        Item::Assert(assertion) => lines.push(Line::Demand(goal_of(alloc, assertion)?)),
+        ItemNode::Assert(assertion) => lines.push(Line::Demand(goal_of(alloc, assertion)?)),
     }
 }
 

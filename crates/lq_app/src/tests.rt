@@ -6,8 +6,6 @@ use std::test::Fail;
 
 const USAGE: &str = "usage: lq MODE SUBJECT [--quals FILE] [--measures FILE] [--pivots N]\n";
 
-const UNBUILT: &str = "refused 17 Unbuilt in program at 1:1\n";
-
 fn words_of(alloc: Global, list: &[&str]) -> Result<Words, AllocError> {
     let mut words = Words::new(alloc)?;
     for word in list {
@@ -43,7 +41,11 @@ fn reports_by_text(rt: HostRuntime) -> Result<(), Fail> {
             "accepted\n",
             0,
         ),
-        ("let x=1 let y=x-2let z=y", UNBUILT, 3),
+        (
+            "let x=1 let y=x-2let z=y",
+            "refused 1 BadByte in program at 1:18\n",
+            3,
+        ),
         (
             "let x=1 let x'=x-2 let z=x'let",
             "refused 6 Unknown in program at 1:26: x'let\n",
@@ -52,24 +54,105 @@ fn reports_by_text(rt: HostRuntime) -> Result<(), Fail> {
         ("let x = - 1\tlet _x=read_int()let y=_x", "accepted\n", 0),
         ("let x = 1 let x = x + 1 let y = x", "accepted\n", 0),
         ("let measure = 1 let qualif = measure", "accepted\n", 0),
-        ("let x = 1 + 2", UNBUILT, 3),
-        ("let x = 1 $", UNBUILT, 3),
-        ("let x = 1 (* no blank *)", UNBUILT, 3),
-        ("let x = 1 let () = assert (x<-1)", UNBUILT, 3),
-        ("let x = 1 let () = assert (x<=>1)", UNBUILT, 3),
-        ("let x = 1 let () = assert (x<>1)", UNBUILT, 3),
-        ("let x = 1 let () = assert (x->1)", UNBUILT, 3),
-        ("let x = 1 let () = assert (x = 1)", UNBUILT, 3),
-        ("let x = 1 let () = assert x", UNBUILT, 3),
-        ("let () = assert (1 + 1 < 2)", UNBUILT, 3),
-        ("let () = assert (1 < 2) 3", UNBUILT, 3),
-        ("let assert = 1", UNBUILT, 3),
-        ("let _ = 1", UNBUILT, 3),
-        ("let while = 1", UNBUILT, 3),
-        ("let print_int = 1", UNBUILT, 3),
-        ("let x = read_int", UNBUILT, 3),
-        ("let x = 1_0", UNBUILT, 3),
-        ("let X = 1", UNBUILT, 3),
+        ("let x = 1 + 2", "refused 17 Unbuilt in program at 1:9\n", 3),
+        ("let x = 1 $", "refused 1 BadByte in program at 1:11\n", 3),
+        ("let x = 1 (* a blank *)", "accepted\n", 0),
+        (
+            "(* a (* b *)",
+            "refused 2 OpenComment in program at 1:1\n",
+            3,
+        ),
+        ("let x = (1 +", "refused 4 Syntax in program at 1:13\n", 3),
+        (
+            "let x = 1 let () = assert (x<-1)",
+            "refused 4 Syntax in program at 1:29\n",
+            3,
+        ),
+        (
+            "let x = 1 let () = assert (x<=>1)",
+            "refused 4 Syntax in program at 1:29\n",
+            3,
+        ),
+        (
+            "let x = 1 let () = assert (x<>1)",
+            "refused 17 Unbuilt in program at 1:28\n",
+            3,
+        ),
+        (
+            "let x = 1 let () = assert (x->1)",
+            "refused 4 Syntax in program at 1:29\n",
+            3,
+        ),
+        (
+            "let x = 1 let () = assert (x = 1)",
+            "refused 17 Unbuilt in program at 1:28\n",
+            3,
+        ),
+        (
+            "let x = 1 let () = assert x",
+            "refused 17 Unbuilt in program at 1:27\n",
+            3,
+        ),
+        (
+            "let () = assert (1 + 1 < 2)",
+            "refused 17 Unbuilt in program at 1:18\n",
+            3,
+        ),
+        (
+            "let () = assert (1 < 2) 3",
+            "refused 4 Syntax in program at 1:25\n",
+            3,
+        ),
+        ("let assert = 1", "refused 4 Syntax in program at 1:5\n", 3),
+        ("let _ = 1", "refused 17 Unbuilt in program at 1:1\n", 3),
+        ("let while = 1", "refused 4 Syntax in program at 1:5\n", 3),
+        (
+            "let print_int = 1",
+            "refused 17 Unbuilt in program at 1:1\n",
+            3,
+        ),
+        (
+            "let read_int = 1",
+            "refused 17 Unbuilt in program at 1:1\n",
+            3,
+        ),
+        (
+            "let x = read_int",
+            "refused 17 Unbuilt in program at 1:9\n",
+            3,
+        ),
+        (
+            "let y = print_int",
+            "refused 17 Unbuilt in program at 1:9\n",
+            3,
+        ),
+        ("let f x = x", "refused 17 Unbuilt in program at 1:7\n", 3),
+        (
+            "let rec f x = x",
+            "refused 17 Unbuilt in program at 1:1\n",
+            3,
+        ),
+        ("type t = A", "refused 17 Unbuilt in program at 1:1\n", 3),
+        // A form that isn't judged comes before an unknown name.
+        (
+            "let y = z\nlet x = 1 + 2",
+            "refused 17 Unbuilt in program at 2:9\n",
+            3,
+        ),
+        ("let x = 1_0 let () = assert (x >= 10)", "accepted\n", 0),
+        ("let () = print_int 4", "accepted\n", 0),
+        (
+            "let x = read_int ()\nlet () = print_int (x + 1)\n",
+            "accepted\n",
+            0,
+        ),
+        ("let () = print_int (1 + 2)", "accepted\n", 0),
+        (
+            "let () = print_int (y - 1)",
+            "refused 6 Unknown in program at 1:21: y\n",
+            3,
+        ),
+        ("let X = 1", "refused 4 Syntax in program at 1:5\n", 3),
         ("let y = z", "refused 6 Unknown in program at 1:9: z\n", 3),
         ("let y = y", "refused 6 Unknown in program at 1:9: y\n", 3),
         (
@@ -99,7 +182,12 @@ fn reports_by_text(rt: HostRuntime) -> Result<(), Fail> {
         ),
         (
             "let x = 170141183460469231731687303715884105728",
-            UNBUILT,
+            "refused 4 Syntax in program at 1:9\n",
+            3,
+        ),
+        (
+            "let x = 170141183460469231731687303715884105729",
+            "refused 3 LiteralPast in program at 1:9\n",
             3,
         ),
     ];
@@ -109,7 +197,10 @@ fn reports_by_text(rt: HostRuntime) -> Result<(), Fail> {
         assert_eq!(rt; written.as_slice(), report.as_bytes(), "at {text}");
     }
     let (_, written) = checked(alloc, vec![in alloc; 200u8, 10, 0]?)?;
-    assert_eq!(rt; written.as_slice(), UNBUILT.as_bytes());
+    assert_eq!(rt;
+        written.as_slice(),
+        b"refused 1 BadByte in program at 1:1\n".as_slice()
+    );
     Ok(())
 }
 

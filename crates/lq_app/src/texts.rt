@@ -3,21 +3,22 @@ ghost use Rattle.std.specs.Prelude.{◌≡◌, ℕ, ◌+◌, ◌<◌, ◌^◌, �
 ghost use Rattle.std.specs.Fmt.{signed_decimal};
 ghost use Rattle.lq_pred.specs.TermView.{sum_of};
 ghost use Rattle.lq_pred.specs.PredView.{formula_of};
+ghost use Rattle.lq_straight.specs.Names.{text_in};
 ghost use Rattle.lq_straight.specs.Scope.{AreOrdinals};
 ghost use Rattle.lq_app.specs.Texts.{frac_text, past_text, with_ordinal, binder_name, term_text, compare_text, formula_text};
 
 use itoa::Buffer;
-use lq_name::{Binder, CompareOp};
+use lq_name::{Binder, CompareOp, Name, NameTable};
 use lq_num::{Frac, NumOp, NumberPast};
 use lq_pred::{Pred, Symbol, Term};
-use lq_straight::{Item, Span, name_bytes};
+use lq_straight::{Item, ItemNode, NameAt};
 use std::alloc::AllocError;
 
 // What the names of a report are told by.
 #[derive(Clone, Copy)]
 pub(crate) struct Names<'a> {
-    pub(crate) text: &'a [u8],
-    pub(crate) items: &'a [Item<Span>],
+    pub(crate) table: &'a NameTable,
+    pub(crate) items: &'a [Item<NameAt>],
     pub(crate) ordinals: &'a [usize],
 }
 
@@ -91,7 +92,18 @@ fn push_with_ordinal(line: &mut Vec<u8>, name: &[u8], ordinal: usize) -> Result<
     Ok(())
 }
 
-fn item_at(items: &[Item<Span>], number: usize) -> Option<Item<Span>>
+// The text of a name.
+pub(crate) fn text_of(table: &NameTable, name: Name) -> &[u8]
+    ensures { result.now ≡ text_in table.now name.0 }
+{
+    if name.0 < table.len() {
+        table.text(name).as_bytes()
+    } else {
+        b""
+    }
+}
+
+fn item_at(items: &[Item<NameAt>], number: usize) -> Option<Item<NameAt>>
     ensures { result ≡ slice_get items.now number }
 {
     items.get(number).copied()
@@ -104,24 +116,27 @@ fn ordinal_at(ordinals: &[usize], number: usize) -> Option<usize>
 }
 
 fn push_name(line: &mut Vec<u8>, names: &Names, binder: Binder) -> Result<(), AllocError>
-    requires { AreOrdinals names.now.text.now names.now.items.now names.now.ordinals.now }
-    ensures { OnOk result (line.new.items ≡ line.old.items ++ binder_name names.now.text.now names.now.items.now binder.0) }
+    requires { AreOrdinals names.now.items.now names.now.ordinals.now }
+    ensures { OnOk result (line.new.items ≡ line.old.items ++ binder_name names.now.table.now names.now.items.now binder.0) }
 {
     let number = binder.0 as usize;
-    match item_at(names.items, number) {
-        None | Some(Item::Assert(_)) => Ok(()),
-        Some(Item::Define(name, _)) => {
+    let Some(item) = item_at(names.items, number) else {
+        return Ok(());
+    };
+    match item.node {
+        ItemNode::Assert(_) | ItemNode::Print(_) => Ok(()),
+        ItemNode::Define(x, _) => {
             let Some(ordinal) = ordinal_at(names.ordinals, number) else {
                 unreachable!()
             };
-            push_with_ordinal(line, name_bytes(names.text, name), ordinal)
+            push_with_ordinal(line, text_of(names.table, x.name), ordinal)
         }
     }
 }
 
 pub(crate) fn push_term(line: &mut Vec<u8>, names: &Names, term: &Term) -> Result<(), AllocError>
-    requires { AreOrdinals names.now.text.now names.now.items.now names.now.ordinals.now }
-    ensures { OnOk result (line.new.items ≡ line.old.items ++ term_text names.now.text.now names.now.items.now (sum_of term.now)) }
+    requires { AreOrdinals names.now.items.now names.now.ordinals.now }
+    ensures { OnOk result (line.new.items ≡ line.old.items ++ term_text names.now.table.now names.now.items.now (sum_of term.now)) }
 {
     match term {
         Term::Whole(n) => push_whole(line, *n),
@@ -154,8 +169,8 @@ fn sign_of(op: CompareOp) -> &'static [u8]
 }
 
 pub(crate) fn push_pred(line: &mut Vec<u8>, names: &Names, pred: &Pred) -> Result<(), AllocError>
-    requires { AreOrdinals names.now.text.now names.now.items.now names.now.ordinals.now }
-    ensures { OnOk result (line.new.items ≡ line.old.items ++ formula_text names.now.text.now names.now.items.now (formula_of pred.now)) }
+    requires { AreOrdinals names.now.items.now names.now.ordinals.now }
+    ensures { OnOk result (line.new.items ≡ line.old.items ++ formula_text names.now.table.now names.now.items.now (formula_of pred.now)) }
 {
     match pred {
         Pred::Compare(op, a, b) => {

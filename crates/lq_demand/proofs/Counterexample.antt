@@ -1,5 +1,5 @@
 -- What the values of one implication say of it.
-use Rattle.std.proofs.Common.{◌≡◌, ℕ, zero, suc, ◌+◌, ◌≤◌, ◌<◌, ◌^◌, List, [], ◌∷◌, ◌++◌, All, true, false, IsTrue, length, refl, sym, ap, subst, ◌∙◌, arith, unsigned_abs}
+use Rattle.std.proofs.Common.{◌≡◌, ℕ, zero, suc, ◌+◌, ◌≤◌, ◌<◌, ◌^◌, List, [], ◌∷◌, ◌++◌, All, true, false, IsTrue, length, sym, ap, subst, ◌∙◌, arith, unsigned_abs}
 use Rattle.std.proofs.lemmas.List.Elements.{All-append, All-push, All-contains}
 use Rattle.lq_num.specs.Past.{IsPast}
 use Rattle.lq_num.specs.declared.frac.Frac.{Frac}
@@ -23,7 +23,7 @@ use Rattle.lq_demand.specs.Gathered.{AreGathered, IsProblemOf}
 use Rattle.lq_demand.specs.Halts.{HaltsAt}
 use Rattle.lq_demand.specs.declared.solve.Halt.{Halt}
 use Rattle.lq_demand.specs.Plain.{IsPlain, comparison_as}
-use Rattle.lq_demand.specs.Problem.{Problem, AllHold, IsSolvable, row_sizes, problem_sizes}
+use Rattle.lq_demand.specs.Problem.{Problem, AllHold, row_sizes}
 use Rattle.lq_demand.specs.Solution.{IsSolution}
 use Rattle.lq_demand.proofs.Differences.{plain_taken}
 use Rattle.lq_demand.proofs.Meaning.{RowLaw, meets_gathered, meets_known, valid_by, same_sizes}

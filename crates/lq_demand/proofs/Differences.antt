@@ -1,15 +1,14 @@
 -- The row of a plain comparison is a difference row.
-use Rattle.std.proofs.Common.{◌≡◌, ◌≢◌, ℕ, zero, suc, ℤ, pos, negsuc, ◌+ℤ◌, ◌-ℤ◌, ◌<◌, ◌≤◌, ◌⊎◌, inl, inr, List, [], ◌∷◌, All, Bool, true, false, IsTrue, if◌then◌else◌, ◌==◌, Option, Some, None, length, slice_get, get_or, refl, sym, ap, ap₂, subst, ◌∙◌, arith}
+use Rattle.std.proofs.Common.{◌≡◌, ◌≢◌, ℕ, zero, suc, ℤ, pos, negsuc, ◌-ℤ◌, ◌<◌, ◌≤◌, ◌⊎◌, inl, inr, List, [], ◌∷◌, All, Bool, true, false, IsTrue, if◌then◌else◌, ◌==◌, Option, Some, None, length, slice_get, refl, sym, ap, ap₂, subst, ◌∙◌, arith}
 use Rattle.std.proofs.lemmas.Bool.{eqb-true, eq-eqb}
 use Rattle.std.proofs.lemmas.Int.{ints}
-use Rattle.std.proofs.lemmas.Option.{slice_get-get_or}
 use Rattle.lq_linear.specs.Row.{Row, AscendsFrom}
 use Rattle.lq_diff.specs.Table.{IsDifference, TermsBelow}
-use Rattle.lq_pred.specs.Comparison.{Comparison, IsRowOf, entry, row_coefficient}
+use Rattle.lq_pred.specs.Comparison.{Comparison, IsRowOf, entry}
 use Rattle.lq_pred.specs.LinearForm.{coefficient, one_at}
-use Rattle.lq_pred.specs.Numbering.{index_of-slice_get, slice_get-index_of}
+use Rattle.lq_pred.specs.Numbering.{index_of-slice_get}
 use Rattle.lq_pred.specs.SameLaws.{same-is}
-use Rattle.lq_pred.specs.Sum.{Sum, whole, var, neg, add, sub, mul, div, rem, len, measure, same}
+use Rattle.lq_pred.specs.Sum.{Sum, whole, var, add, sub, same}
 use Rattle.lq_pred.specs.Table.{all_differ, index_of}
 use Rattle.lq_pred.specs.declared.symbol.Symbol.{Symbol}
 use Rattle.lq_demand.specs.Plain.{IsPlain}

@@ -1,6 +1,6 @@
 -- The rows of the hypotheses of one implication, one after the other.
-use Rattle.std.proofs.Common.{◌≡◌, ℕ, ◌+◌, ◌<◌, ◌≤◌, List, [], ◌∷◌, ◌++◌, All, true, map, take, length, get_or, refl, sym, ap, subst, ◌∙◌, arith}
-use Rattle.std.proofs.lemmas.List.{map_more, take-map, take_all, length-map, get_or-map}
+use Rattle.std.proofs.Common.{◌≡◌, ℕ, ◌+◌, ◌<◌, List, [], ◌∷◌, ◌++◌, All, true, map, take, length, get_or, refl, sym, ap, subst, ◌∙◌, arith}
+use Rattle.std.proofs.lemmas.List.{map_more, take-map, length-map, get_or-map}
 use Rattle.std.proofs.lemmas.List.Elements.{All-push}
 use Rattle.lq_linear.specs.Row.{Row}
 use Rattle.lq_pred.specs.Formula.{Formula}

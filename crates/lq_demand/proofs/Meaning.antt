@@ -1,24 +1,22 @@
 -- What problems say of the implications that they stand for.
-use Rattle.std.proofs.Common.{◌≡◌, ◌↔◌, ℕ, zero, suc, ◌+◌, ◌<◌, ◌≤◌, ◌^◌, List, [], ◌∷◌, ◌++◌, All, Bool, true, false, IsTrue, Some, length, take, slice_get, get_or, refl, sym, ap, subst, ◌∙◌, arith, unsigned_abs}
+use Rattle.std.proofs.Common.{◌≡◌, ◌↔◌, ℕ, zero, suc, ◌+◌, List, [], ◌∷◌, ◌++◌, All, Bool, true, false, IsTrue, Some, take, slice_get, refl, sym, ap, subst, ◌∙◌, arith, unsigned_abs}
 use Rattle.lq_linear.specs.Row.{Row, Valuation, RowHolds}
-use Rattle.lq_pred.specs.Comparison.{Comparison, IsRowOf, row_constant}
+use Rattle.lq_pred.specs.Comparison.{Comparison, IsRowOf}
 use Rattle.lq_pred.specs.Formula.{Formula}
-use Rattle.lq_pred.specs.Implication.{Implication, IsPoint, MeetsEach, IsValid}
-use Rattle.lq_pred.specs.Literals.{implication_literals}
+use Rattle.lq_pred.specs.Implication.{Implication, MeetsEach, IsValid}
 use Rattle.lq_pred.specs.Points.{Point, ComparisonHolds, Meets}
 use Rattle.lq_pred.specs.Reading.{reading_of}
 use Rattle.lq_pred.specs.RowMeaning.{AgreesOn, numbers_at, point_by}
 use Rattle.lq_pred.specs.Sum.{Sum}
 use Rattle.lq_pred.specs.Table.{all_differ}
 use Rattle.lq_pred.specs.declared.symbol.Symbol.{Symbol}
-use Rattle.lq_demand.specs.Answer.{sizes, sizes_of, IsFirstLarge, CanBeGathered}
-use Rattle.lq_demand.specs.Gathered.{IsRowIn, IsGathered, AreGathered, IsProblemOf, AreProblems}
-use Rattle.lq_demand.specs.Halts.{NoneBefore, IsFirstSolvable, IsFirstUndecided}
+use Rattle.lq_demand.specs.Answer.{sizes, sizes_of, IsFirstLarge}
+use Rattle.lq_demand.specs.Gathered.{IsGathered, AreGathered, IsProblemOf, AreProblems}
+use Rattle.lq_demand.specs.Halts.{NoneBefore, IsFirstUndecided}
 use Rattle.lq_demand.specs.Plain.{comparison_as}
 use Rattle.lq_demand.specs.Problem.{Problem, AllHold, IsSolvable, row_sizes, problem_sizes}
 use Rattle.lq_demand.proofs.Plains.{plain_row}
 use Rattle.lq_demand.proofs.Variables.{plain_point, known_comparisons, problem_literals, problems_gather}
-use Rattle.lq_demand.proofs.Ungathered.{same_length}
 
 -- what the law on rows and comparisons says
 pub record RowLaw : Type 0 where

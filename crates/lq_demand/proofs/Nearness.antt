@@ -1,12 +1,12 @@
 -- Values near the sizes of constants below 2 ^ 126 are no reason for an operation past 128 bits.
-use Rattle.std.proofs.Common.{◌≡◌, ℕ, zero, suc, ◌+◌, ◌*◌, ◌<◌, ◌≤◌, ◌^◌, ◌⊎◌, inl, inr, List, [], ◌∷◌, take, slice_get, Some, refl, sym, ap, ap₂, subst, ◌∙◌, arith, unsigned_abs, FitsSigned}
+use Rattle.std.proofs.Common.{◌≡◌, ℕ, zero, suc, ◌<◌, ◌≤◌, ◌^◌, ◌⊎◌, inl, inr, List, [], ◌∷◌, take, slice_get, Some, refl, sym, ap, ap₂, subst, ◌∙◌, arith, unsigned_abs, FitsSigned}
 use Rattle.std.proofs.Math.IntN.{ℤ, pos, negsuc, ◌+ℤ◌, ◌-ℤ◌, ◌*ℤ◌}
 use Rattle.std.proofs.Math.Nat.{eq-one_of_dvd-one, dvd-mul_left}
 use Rattle.std.specs.Int.{w128}
 use Rattle.std.specs.Int.Signed.{◌≤ℤ◌}
-use Rattle.std.proofs.lemmas.Int.{ints, fits_signed_from_abs}
+use Rattle.std.proofs.lemmas.Int.{ints}
 use Rattle.std.proofs.lemmas.Bool.{cases_lt}
-use Rattle.lq_math.specs.Forms.{IsForm, HasNoForm, HasNoSumForm, Fits}
+use Rattle.lq_math.specs.Forms.{HasNoSumForm}
 use Rattle.lq_math.specs.Lcm.{IsLcm}
 use Rattle.lq_math.specs.LowestTerms.{IsLowest, lowest_terms_once}
 use Rattle.lq_math.specs.Rational.{ℚ, whole, ◌+ℚ◌, ◌*ℚ◌}
@@ -15,7 +15,7 @@ use Rattle.lq_num.specs.Past.{IsPast, IsPastBy}
 use Rattle.lq_num.specs.Value.{value_of, numer_of, denom_of, lowest_of}
 use Rattle.lq_num.specs.declared.frac.Frac.{Frac}
 use Rattle.lq_num.specs.declared.past.NumOp.{NumOp}
-use Rattle.lq_num.specs.declared.past.NumOp.TheVariants.{Add, Sub, Mul, Div, Neg}
+use Rattle.lq_num.specs.declared.past.NumOp.TheVariants.{Add, Mul}
 use Rattle.lq_num.specs.declared.past.NumberPast.{NumberPast}
 use Rattle.lq_linear.specs.Row.{Row, Valuation, sum_at}
 use Rattle.lq_linear.specs.Steps.{IsStep, member_product, member_sum, constant_sum}

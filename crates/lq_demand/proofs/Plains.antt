@@ -1,12 +1,12 @@
 -- The reading of a plain formula is one row.
-use Rattle.std.proofs.Common.{◌≡◌, Bool, true, false, refl, sym, ap, subst, ◌∙◌, List, ◌++◌}
+use Rattle.std.proofs.Common.{◌≡◌, Bool, true, false, refl, subst, List}
 use Rattle.lq_linear.specs.Row.{Row}
 use Rattle.lq_name.specs.declared.operation.CompareOp.{CompareOp}
 use Rattle.lq_name.specs.declared.operation.CompareOp.TheVariants as op
 use Rattle.lq_pred.specs.Sum.{Sum}
-use Rattle.lq_pred.specs.Comparison.{Comparison, IsRowOf, CanGather}
+use Rattle.lq_pred.specs.Comparison.{Comparison, IsRowOf}
 use Rattle.lq_pred.specs.Formula.{Formula, truth, falsity, flag, compare, objects, negation, conjunction, disjunction, equivalence}
-use Rattle.lq_pred.specs.Reading.{Reading, yes, no, row, flag_is, objects_are, all_of, any_of, Readings, reading_of, comparison_reading, Gathers, gathers_yes, gathers_no, gathers_row, gathers_flag, gathers_objects, gathers_all, gathers_any}
+use Rattle.lq_pred.specs.Reading.{Reading, yes, no, row, flag_is, objects_are, all_of, any_of, reading_of, comparison_reading, Gathers, gathers_yes, gathers_no, gathers_row, gathers_flag, gathers_objects, gathers_all, gathers_any}
 use Rattle.lq_demand.specs.Plain.{IsPlain, IsPlainAs, IsOneRow, comparison_as, comparison_in}
 
 one_row : (sign : Bool) (o : CompareOp) (a b : Sum) → IsOneRow sign o → comparison_reading sign o a b ≡ row (comparison_in (comparison_reading sign o a b))

@@ -1,5 +1,5 @@
 -- One more step of a list whose stages are in the making.
-use Rattle.std.proofs.Common.{◌≡◌, ℕ, zero, suc, ◌+◌, ◌≤◌, ◌<◌, List, [], ◌∷◌, ◌++◌, All, Bool, true, false, length, get_or, refl, sym, ap, ap₂, subst, ◌∙◌, arith, length-append, append_assoc, ℤ}
+use Rattle.std.proofs.Common.{◌≡◌, ℕ, suc, ◌+◌, ◌≤◌, List, [], ◌∷◌, ◌++◌, All, Bool, true, false, length, get_or, refl, sym, ap, ap₂, subst, ◌∙◌, arith, length-append, append_assoc, ℤ}
 use Rattle.std.proofs.lemmas.List.{append-nil}
 use Rattle.std.proofs.lemmas.List.Elements.{All-push}
 use Rattle.lq_linear.specs.Row.{Row}
@@ -10,7 +10,7 @@ use Rattle.lq_pred.specs.Sum.{Sum}
 use Rattle.lq_pred.specs.Table.{Extends}
 use Rattle.lq_demand.specs.declared.stage.Stage.{Stage}
 use Rattle.lq_demand.specs.declared.stage.Staging.{Staging}
-use Rattle.lq_demand.specs.Gathered.{IsRowIn, IsGathered, AreGathered, IsProblemOf, AreProblems}
+use Rattle.lq_demand.specs.Gathered.{IsGathered, AreGathered, IsProblemOf, AreProblems}
 use Rattle.lq_demand.specs.Problem.{Problem, IsTaken, IsStageTaken, known_in, problem_after, problems_after, problems_of, count_of}
 use Rattle.lq_demand.specs.Staging.{IsStaging}
 use Rattle.lq_demand.specs.Straight.{Step, assume, demand, implication, implications_after, implications_of, assumed_in}

@@ -1,12 +1,12 @@
 -- The problems of stages, one after the other.
-use Rattle.std.proofs.Common.{◌≡◌, ℕ, zero, suc, ◌+◌, ◌≤◌, ◌<◌, ◌^◌, ◌⊎◌, inl, inr, List, [], ◌∷◌, ◌++◌, length, take, slice_get, Some, refl, sym, ap, subst, ◌∙◌, arith, length-append, append_assoc}
+use Rattle.std.proofs.Common.{◌≡◌, ℕ, zero, suc, ◌+◌, ◌≤◌, ◌<◌, ◌^◌, ◌⊎◌, inl, inr, List, [], ◌∷◌, ◌++◌, length, take, slice_get, Some, sym, ap, subst, ◌∙◌, arith, length-append, append_assoc}
 use Rattle.std.proofs.lemmas.List.{append-nil}
 use Rattle.lq_linear.specs.Row.{Row}
 use Rattle.lq_demand.specs.declared.stage.Stage.{Stage}
 use Rattle.lq_demand.specs.declared.solve.Halt.{Halt}
 use Rattle.lq_demand.specs.declared.solve.Halt.TheVariants.{Number, OutOfMemory}
 use Rattle.lq_demand.specs.Halts.{NoneBefore, IsFirstUndecided, HaltsAt, HaltsBy}
-use Rattle.lq_demand.specs.Problem.{Problem, IsSolvable, known_in, problem_after, problems_after, problems_of, problem_sizes, count_of}
+use Rattle.lq_demand.specs.Problem.{Problem, IsSolvable, known_in, problem_after, problems_after, problem_sizes, count_of}
 
 pub stage_problem : (known : List Row) (stages : List Stage) (k : ℕ) (s : Stage) → slice_get stages k ≡ Some s
     → slice_get (problems_after known stages) k ≡ Some (problem_after (known ++ known_in (take k stages)) s)

@@ -1,5 +1,5 @@
 -- The first demand whose negated goal can't be gathered.
-use Rattle.std.proofs.Common.{◌≡◌, ℕ, zero, suc, List, [], ◌∷◌, ◌++◌, All, false, length, take, slice_get, Some, refl, sym, ap, subst, ◌∙◌}
+use Rattle.std.proofs.Common.{◌≡◌, suc, List, [], ◌∷◌, ◌++◌, All, false, length, take, slice_get, Some, refl, sym, ap, subst, ◌∙◌}
 use Rattle.std.proofs.lemmas.List.{take_at}
 use Rattle.lq_linear.specs.Row.{Row}
 use Rattle.lq_pred.specs.Formula.{Formula}

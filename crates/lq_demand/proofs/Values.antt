@@ -1,14 +1,14 @@
 -- Rows at two valuations that agree on their terms.
-use Rattle.std.proofs.Common.{◌≡◌, ℕ, zero, suc, ℤ, pos, ◌<◌, ◌≤◌, ◌-ℤ◌, List, [], ◌∷◌, All, Bool, true, false, MatchBool, length, refl, sym, ap, ap₂, subst, ◌∙◌, arith, unsigned_abs, slice_index}
-use Rattle.lq_math.specs.Rational.{ℚ, whole, ◌+ℚ◌, ◌*ℚ◌}
+use Rattle.std.proofs.Common.{◌≡◌, ℕ, suc, ℤ, pos, ◌<◌, ◌≤◌, ◌-ℤ◌, List, [], ◌∷◌, All, MatchBool, refl, sym, ap, ap₂, subst, ◌∙◌, arith, unsigned_abs}
+use Rattle.lq_math.specs.Rational.{whole, ◌+ℚ◌, ◌*ℚ◌}
 use Rattle.lq_math.specs.RationalOrder.{◌≤ℚ◌}
 use Rattle.lq_num.specs.declared.frac.Frac.{Frac}
-use Rattle.lq_linear.specs.Row.{Row, Valuation, sum_at, level, RowHolds}
+use Rattle.lq_linear.specs.Row.{Row, Valuation, sum_at, RowHolds}
 use Rattle.lq_linear.specs.Contradiction.{Solves}
 use Rattle.lq_linear.specs.Steps.{valuation_of}
 use Rattle.lq_diff.specs.Table.{Table, TermsBelow, table_rows, table_point, value_at, constants}
 use Rattle.lq_demand.specs.Problem.{AllHold, IsTaken, row_sizes, numbered_from}
-use Rattle.lq_demand.specs.Solution.{AreValues, IsNear, IsSolution}
+use Rattle.lq_demand.specs.Solution.{AreValues, IsSolution}
 use Rattle.lq_demand.proofs.Numbered.{constants_numbered, solves_numbered}
 
 abbrev Agree : ℕ → Valuation → Valuation → Type 0

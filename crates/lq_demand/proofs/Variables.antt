@@ -1,11 +1,11 @@
 -- The terms of plain implications are variables, so that no two of them have a condition.
-use Rattle.std.proofs.Common.{◌≡◌, ℕ, zero, suc, arith, List, [], ◌∷◌, ◌++◌, All, Bool, true, false, if◌then◌else◌, ◌||◌, refl, sym, ap, subst, ◌∙◌}
+use Rattle.std.proofs.Common.{◌≡◌, zero, suc, arith, List, [], ◌∷◌, ◌++◌, All, Bool, true, false, if◌then◌else◌, ◌||◌, refl, sym, ap, subst, ◌∙◌}
 use Rattle.std.proofs.lemmas.List.Elements.{All-append, All-push}
 use Rattle.lq_linear.specs.Row.{Row}
 use Rattle.lq_pred.specs.Comparison.{Comparison, CanGather}
 use Rattle.lq_pred.specs.Formula.{Formula, truth, falsity, flag, compare, objects, negation, conjunction, disjunction, equivalence}
 use Rattle.lq_pred.specs.Implication.{Implication, Agree, IsPoint, each_numbered, terms_in}
-use Rattle.lq_pred.specs.Literals.{Signs, positive, negative, literals_of, each_literals, pair_rows, rows_with, all_pairs, implication_literals, comparisons_of}
+use Rattle.lq_pred.specs.Literals.{Signs, positive, negative, literals_of, each_literals, pair_rows, rows_with, all_pairs, implication_literals}
 use Rattle.lq_pred.specs.Points.{Point}
 use Rattle.lq_pred.specs.Reading.{formula_numbered, reading_of, AllFitIn}
 use Rattle.lq_pred.specs.SameLaws.{same-is}
@@ -14,7 +14,7 @@ use Rattle.lq_pred.specs.Table.{has_term, with_term, numbered}
 use Rattle.lq_name.specs.declared.operation.CompareOp.{CompareOp}
 use Rattle.lq_name.specs.declared.operation.CompareOp.TheVariants as op
 use Rattle.lq_demand.specs.Answer.{CanBeGathered}
-use Rattle.lq_demand.specs.Gathered.{IsGathered, AreGathered, IsProblemOf, AreProblems}
+use Rattle.lq_demand.specs.Gathered.{AreGathered, IsProblemOf, AreProblems}
 use Rattle.lq_demand.specs.Plain.{IsVariable, IsWhole, IsPlain, IsPlainAs, IsOneRow, comparison_as}
 use Rattle.lq_demand.specs.Problem.{Problem}
 use Rattle.lq_demand.proofs.Plains.{plain_row}

@@ -1,5 +1,5 @@
 -- From the stages to the answer.
-use Rattle.std.proofs.Common.{◌≡◌, ℕ, zero, suc, ◌<◌, ◌≤◌, ◌^◌, List, [], ◌∷◌, All, true, false, IsTrue, Some, length, take, slice_get, refl, sym, ap, subst, ◌∙◌, arith}
+use Rattle.std.proofs.Common.{◌≡◌, ℕ, zero, suc, ◌≤◌, ◌^◌, List, [], ◌∷◌, All, IsTrue, Some, length, slice_get, refl, sym, subst, arith}
 use Rattle.std.proofs.lemmas.List.{take_all}
 use Rattle.lq_num.specs.Past.{IsPast}
 use Rattle.lq_num.specs.declared.past.NumberPast.{NumberPast}
@@ -9,7 +9,7 @@ use Rattle.lq_pred.specs.Implication.{Implication, IsValid}
 use Rattle.lq_pred.specs.Sum.{Sum}
 use Rattle.lq_pred.specs.Table.{all_differ}
 use Rattle.lq_point.specs.declared.point.Point.{Point}
-use Rattle.lq_demand.specs.Answer.{CanBeGathered, IsFirstLarge, sizes_of}
+use Rattle.lq_demand.specs.Answer.{IsFirstLarge, sizes_of}
 use Rattle.lq_demand.specs.AskedView.{FailsAt, IsAnswer, StopsBy}
 use Rattle.lq_pred.specs.declared.pred.Stop.TheVariants.{Number, Gather, Pivots, Memory}
 use Rattle.lq_demand.specs.declared.solve.Halt.{Halt}

@@ -2,7 +2,7 @@
 use Rattle.std.specs.Prelude.{◌≡◌, ◌≤◌, ◌+◌, ◌^◌, ℕ, false, List, [], ◌∷◌, All, Some, slice_get, take, unsigned_abs}
 use Rattle.lq_pred.specs.Comparison.{Comparison, CanGather, row_constant}
 use Rattle.lq_pred.specs.Formula.{Formula}
-use Rattle.lq_pred.specs.Implication.{Implication, terms_in, IsPoint, MeetsEach, IsValid}
+use Rattle.lq_pred.specs.Implication.{Implication, IsPoint, MeetsEach, IsValid}
 use Rattle.lq_pred.specs.Literals.{each_literals, implication_literals}
 use Rattle.lq_pred.specs.Points.{Point, Meets}
 use Rattle.lq_pred.specs.Reading.{reading_of, AllFitIn}

@@ -1,10 +1,8 @@
 -- What each answer on a straight-line list means.
 use Rattle.std.specs.Prelude.{◌≡◌, ℕ, List, All}
 use Rattle.lq_num.specs.Past.{IsPast}
-use Rattle.lq_pred.specs.Implication.{Implication, IsPoint, MeetsEach, IsValid, terms_in}
-use Rattle.lq_pred.specs.Points.{Meets}
+use Rattle.lq_pred.specs.Implication.{Implication, IsValid, terms_in}
 use Rattle.lq_pred.specs.PredView.{formula_of}
-use Rattle.lq_pred.specs.Reading.{reading_of}
 use Rattle.lq_pred.specs.declared.pred.Stop.TheVariants.{Number, Gather, Pivots, Memory}
 use Rattle.lq_point.specs.Values.{table_of, values_of, as_point}
 use Rattle.lq_point.specs.declared.point.Point.{Point}

@@ -1,11 +1,11 @@
 -- Plain comparisons: those whose reading is one difference row.
-use Rattle.std.specs.Prelude.{ℤ, pos, Bool, true, false}
+use Rattle.std.specs.Prelude.{pos, Bool, true, false}
 use Rattle.lq_name.specs.declared.operation.CompareOp.{CompareOp}
 use Rattle.lq_name.specs.declared.operation.CompareOp.TheVariants as op
-use Rattle.lq_pred.specs.Sum.{Sum, whole, var, neg, add, sub, mul, div, rem, len, measure}
+use Rattle.lq_pred.specs.Sum.{Sum, whole, var, add, sub}
 use Rattle.lq_pred.specs.Comparison.{Comparison, comparison}
-use Rattle.lq_pred.specs.Formula.{Formula, truth, falsity, flag, compare, objects, negation, conjunction, disjunction, equivalence}
-use Rattle.lq_pred.specs.Reading.{Reading, yes, no, row, flag_is, objects_are, all_of, any_of, reading_of, AllFitIn}
+use Rattle.lq_pred.specs.Formula.{Formula, compare}
+use Rattle.lq_pred.specs.Reading.{Reading, row, reading_of, AllFitIn}
 use Rattle.lq_demand.specs.Straight.{Step, assume, demand}
 
 abbrev pub IsVariable : Sum → Type 0

@@ -10,6 +10,8 @@ mod lines;
 mod solution;
 mod solve;
 mod stage;
+#[cfg(test)]
+mod tests;
 
 pub use asking::{Asked, ask};
 pub use lines::{Line, Lines};

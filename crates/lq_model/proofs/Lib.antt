@@ -1,3 +1,10 @@
 pub mod Rows
 pub mod Runs
 pub mod Substitution
+pub mod Binding
+pub mod Adequate
+pub mod Programs
+pub mod WholeNumbers
+pub mod UnderEnvironments
+pub mod Complete
+pub mod Deeper

@@ -1,8 +1,6 @@
 -- The step function gives exactly what the rows of the relation give.
-use Rattle.std.proofs.Common.{◌≡◌, ℕ, Bool, true, false, if◌then◌else◌, List, [], Option, Some, None, refl, sym, ap, subst, ◌∙◌}
-use Rattle.lq_name.specs.declared.place.Place.{Place}
-use Rattle.lq_tree.specs.Pattern.{Pattern}
-use Rattle.lq_model.specs.Core.{Operation, Binary, Row, Core, val, use_of, fun, row, let_in, let_rec, call, one, two, store, and_of, or_of, if_else, match_on, seq, assert_false, Cores, none, more, Arms, no_arms, more_arms, Value, v_whole, v_flag, v_unit, v_fun, v_rec, v_tuple, v_build, v_array, Values, no_values, more_values, as_value, as_values, both_values, row_value, with_values}
+use Rattle.std.proofs.Common.{◌≡◌, Bool, true, false, if◌then◌else◌, [], Option, Some, None, refl, sym, ap, subst, ◌∙◌}
+use Rattle.lq_model.specs.Core.{Row, Core, val, use_of, fun, row, let_in, let_rec, call, one, two, store, and_of, or_of, if_else, match_on, seq, assert_false, Cores, none, more, Arms, no_arms, more_arms, Value, v_whole, v_flag, v_unit, v_fun, v_rec, v_tuple, v_build, v_array, Values, no_values, more_values, as_value, as_values, both_values}
 use Rattle.lq_model.specs.Operations.{World, Act, unary_act, binary_act, store_act}
 use Rattle.lq_model.specs.Step.{Next, goes, done, Frame, in_row, in_let, in_function, in_argument, in_one, in_left, in_right, in_array, in_index, in_stored, in_and, in_or, in_condition, in_scrutinee, in_first, placed, plug, within, IsReady, AreValues, applied, body_of, first_arm, Step, part, let_value, let_function, call_body, unary, binary, storing, and_value, or_value, branch, arm, rest, assertion}
 use Rattle.lq_model.specs.StepFunction.{inside, on_value, acted, goes_to, on_flag, with_part, step, step_row}
@@ -36,7 +34,7 @@ joined-none : (es : Cores) → joined none es ≡ es
 unfolding appended
 joined-none es = joined-appended none es
 
-first_value : (e : Core) (o : Option Value) (vs : Option Values) (us : Values) → both_values o vs ≡ Some us → (v : Value) × (ws : Values) × (o ≡ Some v) × (vs ≡ Some ws)
+pub first_value : (e : Core) (o : Option Value) (vs : Option Values) (us : Values) → both_values o vs ≡ Some us → (v : Value) × (ws : Values) × (o ≡ Some v) × (vs ≡ Some ws)
 first_value e None vs us h = cc
 first_value e (Some v) None us h = cc
 first_value e (Some v) (Some ws) us h = (v, ws, refl, refl)
@@ -106,7 +104,7 @@ step_from _ _ _ (assertion p w) = refl
 abbrev pub Gives : Core → World → Type 0
 Gives e w = (m : Next) → step e w ≡ Some m → Step e w m
 
-inside_from : (f : Frame) (o : Option Next) (n : Next) → inside f o ≡ Some n → (m : Next) × (o ≡ Some m) × (within f m ≡ n)
+pub inside_from : (f : Frame) (o : Option Next) (n : Next) → inside f o ≡ Some n → (m : Next) × (o ≡ Some m) × (within f m ≡ n)
 inside_from f None n h = cc
 inside_from f (Some m) n h = (m, refl, cc)
 
@@ -147,21 +145,19 @@ some_once : (a b : Next) → Some a ≡ Some b → a ≡ b
 some_once a b h = cc
 
 -- the parts before, put before the others
-behind : Cores → Cores → Cores
+abbrev pub behind : Cores → Cores → Cores
 behind none es = es
 behind (more d ds) es = more d (behind ds es)
 
-behind-part : (acc : Cores) (e : Core) (es : Cores) → behind (with_part acc e) es ≡ behind acc (more e es)
-unfolding behind
+pub behind-part : (acc : Cores) (e : Core) (es : Cores) → behind (with_part acc e) es ≡ behind acc (more e es)
 behind-part none e es = refl
 behind-part (more d ds) e es = ap (more d) (behind-part ds e es)
 
-placed-behind : (acc : Cores) (e : Core) (es : Cores) → placed acc e es ≡ behind acc (more e es)
-unfolding behind
+pub placed-behind : (acc : Cores) (e : Core) (es : Cores) → placed acc e es ≡ behind acc (more e es)
 placed-behind none e es = refl
 placed-behind (more d ds) e es = ap (more d) (placed-behind ds e es)
 
-values_part : (acc : Cores) (e : Core) (us : Values) (v : Value) → as_values acc ≡ Some us → as_value e ≡ Some v → AreValues (with_part acc e)
+pub values_part : (acc : Cores) (e : Core) (us : Values) (v : Value) → as_values acc ≡ Some us → as_value e ≡ Some v → AreValues (with_part acc e)
 values_part none e us v h k = (more_values v no_values, ap (λ o. both_values o (Some no_values)) k)
 values_part (more d ds) e us v h k =
     let p = first_value d (as_value d) (as_values ds) us h in
@@ -181,8 +177,6 @@ row_steps r acc (more e es) w n h g s =
     (row_steps r (with_part acc e) es w n (values_part acc e h.0 v h.1 k) g.1 t)) s)
 
 mutual
-  unfolding behind
-
   pub step_to : (e : Core) (w : World) → Gives e w
   step_to (val v) w n s = cc
   step_to (use_of x) w n s = cc

@@ -1,6 +1,6 @@
 -- Runs: what is over stays over, and outputs grow.
-use Rattle.std.proofs.Common.{◌≡◌, ℕ, zero, suc, ◌+◌, ℤ, Bool, true, false, List, [], ◌∷◌, ◌++◌, Option, Some, None, slice_get, if◌then◌else◌, refl, sym, ap, subst, ◌∙◌, arith, zero-add, append_assoc}
-use Rattle.std.proofs.lemmas.List.{append-nil}
+use Rattle.std.proofs.Common.{◌≡◌, ℕ, zero, suc, ◌+◌, ℤ, Bool, true, false, List, [], ◌∷◌, ◌++◌, length, ◌≤◌, Option, Some, None, ◌⊎◌, inl, inr, ⊎_elim, slice_get, if◌then◌else◌, refl, sym, ap, subst, ◌∙◌, arith, zero-add}
+use Rattle.std.proofs.lemmas.List.{append-nil, append_assoc, same_from_push}
 use Rattle.lq_name.specs.declared.place.Place.{Place}
 use Rattle.lq_name.specs.declared.operation.ArithOp.{ArithOp}
 use Rattle.lq_name.specs.declared.operation.ArithOp.TheVariants as op
@@ -12,7 +12,7 @@ use Rattle.lq_model.specs.Operations as act
 use Rattle.lq_model.specs.Operations.{World, Act, arithmetic_act, make_act, fetch_act, store_act, unary_act, binary_act, read_act, assert_act, on_whole, on_array, with_elements, at_index, on_element, fits}
 use Rattle.lq_model.specs.Step.{Next, goes, faults, ends, done, Frame, within, first_arm, or_later, Step, part, let_value, let_function, call_body, unary, binary, storing, and_value, or_value, branch, arm, rest, assertion}
 use Rattle.lq_model.specs.StepFunction.{step}
-use Rattle.lq_model.specs.Program.{Item, let_item, rec_item, State, Ending, running, finished, Outcome, outcome_of, Turn, to, over, item_next, let_turn, turn_of, turn, at_rest, after_turn, outcome_from}
+use Rattle.lq_model.specs.Program.{Item, let_item, rec_item, State, outcome_of, Turn, to, over, item_next, let_turn, turn_of, turn, at_rest, after_turn, outcome_from}
 use Rattle.lq_model.specs.Laws.{IsOver}
 use Rattle.lq_model.proofs.Rows.{step_to}
 
@@ -37,13 +37,14 @@ stays_over (suc n) m s h = ap (λ k. outcome_from k s) (suc_plus n m) ∙ turn_o
 
 -- ---- outputs grow
 
--- the second list begins with the first
+-- the second list begins with the first, and has at most one number more
 pub record Begins (a b : List ℤ) : Type 0 where
   pub more : List ℤ
+  pub few : length more ≤ 1
   pub is : b ≡ a ++ more
 
 begins_same : (a : List ℤ) → Begins a a
-begins_same a = record { more = []; is = sym (append-nil a) }
+begins_same a = record { more = []; few = omega arith; is = sym (append-nil a) }
 
 GrowsBy : List ℤ → Next → Type 0
 GrowsBy a (goes e w) = Begins a w.output
@@ -157,7 +158,7 @@ unary_grows negate (v_whole n) w = begins_same w.output
 unary_grows invert (v_flag b) w = begins_same w.output
 unary_grows (assert p) (v_flag b) w = assert_grows p b w
 unary_grows length_of (v_array r n) w = begins_same w.output
-unary_grows print (v_whole n) w = record { more = n ∷ []; is = refl }
+unary_grows print (v_whole n) w = record { more = n ∷ []; few = omega arith; is = refl }
 unary_grows (read p) v_unit w = read_grows p w.input w
 unary_grows negate _ w = tt
 unary_grows invert _ w = tt
@@ -226,3 +227,35 @@ later n w (over e) go = begins_same w.output
 pub output_grows : (n : ℕ) (s : State) → Begins (outcome_from n s).output (outcome_from (suc n) s).output
 output_grows zero s = begins_first s (turn s) (turn_grows s.items s.world)
 output_grows (suc n) s = later n s.world (turn s) (output_grows n)
+
+-- ---- an output goes through each of its beginnings
+
+record EndsIn (ys : List ℤ) : Type 0 where
+  front : List ℤ
+  last : ℤ
+  is : ys ≡ front ++ last ∷ []
+
+ends_in : (y : ℤ) (ys : List ℤ) → EndsIn (y ∷ ys)
+ends_in y [] = record { front = []; last = y; is = refl }
+ends_in y (z ∷ ys) = let e = ends_in z ys in record { front = y ∷ e.front; last = e.last; is = ap (λ l. y ∷ l) e.is }
+
+-- a list with at most one element more, where a beginning of it is another one
+shorter : (a m o more : List ℤ) → length m ≤ 1 → a ++ m ≡ o ++ more → (more ≡ []) ⊎ ((rest : List ℤ) × (a ≡ o ++ rest))
+shorter a m o [] few h = inl refl
+shorter a [] o (y ∷ ys) few h = inr (y ∷ ys, sym (append-nil a) ∙ h)
+shorter a (x ∷ []) o (y ∷ ys) few h =
+    let e = ends_in y ys in
+    inr (e.front, (same_from_push a (o ++ e.front) x e.last (h ∙ ap (λ l. o ++ l) e.is ∙ sym (append_assoc o e.front (e.last ∷ [])))).0)
+shorter a (x ∷ z ∷ m) o (y ∷ ys) few h = absurd (omega (arith, few))
+
+none_begins : (o more : List ℤ) → [] ≡ o ++ more → [] ≡ o
+none_begins [] more h = refl
+none_begins (x ∷ o) more h = cc
+
+pub output_passes : (s : State) → s.world.output ≡ [] → (n : ℕ) (o more : List ℤ) → (outcome_from n s).output ≡ o ++ more → (k : ℕ) × (k ≤ n) × ((outcome_from k s).output ≡ o)
+output_passes s none zero o more h = (0, omega arith, none ∙ none_begins o more (sym none ∙ h))
+output_passes s none (suc n) o more h =
+    let g = output_grows n s in
+    ⊎_elim (λ e. (suc n, omega arith, h ∙ ap (λ l. o ++ l) e ∙ append-nil o))
+    (λ r. let k = output_passes s none n o r.0 r.1 in let le = k.1 in (k.0, omega (arith, le), k.2))
+    (shorter (outcome_from n s).output g.more o more g.few (sym g.is ∙ h))

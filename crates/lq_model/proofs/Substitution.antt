@@ -1,9 +1,9 @@
 -- Closing: one after another, by the same values, by none.
-use Rattle.std.proofs.Common.{◌≡◌, ℕ, Bool, true, false, ◌==◌, ◌||◌, if◌then◌else◌, List, [], ◌∷◌, ◌++◌, Option, Some, None, refl, sym, ap, ap₂, subst, ◌∙◌}
+use Rattle.std.proofs.Common.{◌≡◌, ℕ, Bool, true, false, ◌==◌, if◌then◌else◌, List, [], ◌∷◌, ◌++◌, Option, Some, None, refl, sym, ap, ap₂, ◌∙◌}
 use Rattle.std.specs.List.{list_any}
-use Rattle.std.proofs.lemmas.Bool.{eqb-true, eq-eqb}
-use Rattle.lq_tree.specs.Pattern.{Pattern, bound_in}
-use Rattle.lq_model.specs.Core.{Row, Core, val, use_of, fun, row, let_in, let_rec, call, one, two, store, and_of, or_of, if_else, match_on, seq, assert_false, Cores, none, more, Arms, no_arms, more_arms, Value, Pairs, value_in, without, replaced, close, close_all, close_arms}
+use Rattle.std.proofs.lemmas.Bool.{eqb-true}
+use Rattle.lq_tree.specs.Pattern.{bound_in}
+use Rattle.lq_model.specs.Core.{Core, val, use_of, fun, row, let_in, let_rec, call, one, two, store, and_of, or_of, if_else, match_on, seq, assert_false, Cores, none, more, Arms, no_arms, more_arms, Value, Pairs, value_in, without, replaced, close, close_all, close_arms}
 use Rattle.lq_model.specs.Laws.{SameIn}
 
 pub ap₃ : {A B C D : Type 0} (f : A → B → C → D) {a a' : A} {b b' : B} {c c' : C} → a ≡ a' → b ≡ b' → c ≡ c' → f a b c ≡ f a' b' c'
@@ -68,10 +68,10 @@ mutual
 -- ---- by the same values
 
 -- what is left of a value where the variable is among those that are left out
-abbrev unless : Bool → Option Value → Option Value
+abbrev pub unless : Bool → Option Value → Option Value
 unless b o = if b then None else o
 
-value_in-without : (xs : List ℕ) (ps : Pairs) (k : ℕ) → value_in (without xs ps) k ≡ unless (list_any (λ x. x == k) xs) (value_in ps k)
+pub value_in-without : (xs : List ℕ) (ps : Pairs) (k : ℕ) → value_in (without xs ps) k ≡ unless (list_any (λ x. x == k) xs) (value_in ps k)
 value_in-without xs [] k = nothing (list_any (λ x. x == k) xs)
   where
     nothing : (b : Bool) → None ≡ unless b None

@@ -1,17 +1,19 @@
--- Small programs, and what their first steps give.
-use Rattle.std.specs.Prelude.{◌≡◌, ℕ, ℤ, pos, negsuc, true, false, List, [], ◌∷◌}
+-- Small programs, what their first steps give, and what they mean.
+use Rattle.std.specs.Prelude.{◌≡◌, ℕ, ℤ, pos, negsuc, false, List, [], ◌∷◌}
 use Rattle.lq_name.specs.declared.operation.ArithOp.TheVariants as op
+use Rattle.lq_name.specs.declared.operation.CompareOp.{CompareOp}
 use Rattle.lq_name.specs.declared.operation.CompareOp.TheVariants as test
 use Rattle.lq_name.specs.declared.place.Place.{Place}
 use Rattle.lq_name.specs.declared.place.TextKind.TheVariants.{Program}
 use Rattle.lq_tree.specs.declared.expr.Arguments.TheVariants.{Apart}
 use Rattle.lq_tree.specs.Items.{ItemTree, ItemForm, let_of, let_rec_of}
-use Rattle.lq_tree.specs.Pattern.{Pattern, pattern, any, bind, nothing, tuple_of, build_of, Patterns, no_patterns, more_patterns}
+use Rattle.lq_tree.specs.Pattern.{Pattern, pattern, any, bind, nothing, tuple_of, build_of, no_patterns, more_patterns}
 use Rattle.lq_tree.specs.Tree as form
 use Rattle.lq_tree.specs.Tree.{Tree, tree, Form, no_trees, more_trees, no_cases, more_cases}
 use Rattle.lq_model.specs.declared.fault.FaultKind.TheVariants.{AssertFailed, OutOfBounds, ZeroDivisor, NegativeLength, NoCase}
 use Rattle.lq_model.specs.FromTree.{items_of}
-use Rattle.lq_model.specs.Program.{Ending, running, finished, input_ended, fault, Outcome, outcome}
+use Rattle.lq_model.specs.Meaning.{program_meaning}
+use Rattle.lq_model.specs.Program.{Ending, running, finished, input_ended, fault, outcome}
 
 -- a place in the first line
 abbrev pub at : ℕ → Place
@@ -49,9 +51,15 @@ name x = plain (form.use_of x)
 abbrev pub reads : ℕ → Tree
 reads column = node column (form.read (plain form.unit))
 
--- what a program gives that has these items, on this input, in 60 steps
+-- `e; d`
+abbrev pub chained : Tree → Tree → Tree
+chained e d = plain (form.chain (more_trees e (more_trees d no_trees)))
+
+-- what a program gives that has these items, on this input: in 60 steps, and by its meaning where calls nest at most 8 deep
 abbrev pub Gives : List ItemTree → List ℤ → Ending → List ℤ → Type 0
-Gives is input ending output = outcome (items_of is) input 60 ≡ record { ending = ending; output = output }
+Gives is input ending output =
+    (outcome (items_of is) input 60 ≡ record { ending = ending; output = output })
+    × (program_meaning 8 (items_of is) input ≡ record { ending = ending; output = output })
 
 abbrev pub quotient : ℤ → ℤ → Tree
 quotient m n = node 9 (form.arithmetic op.Div (number m) (number n))
@@ -59,11 +67,33 @@ quotient m n = node 9 (form.arithmetic op.Div (number m) (number n))
 abbrev pub remainder : ℤ → ℤ → Tree
 remainder m n = node 9 (form.arithmetic op.Mod (number m) (number n))
 
--- quotients truncate, remainders have the sign of the dividend
-abbrev pub ArithmeticExample : Type 0
-ArithmeticExample =
-    Gives (printed (quotient (pos 7) (negsuc 1)) ∷ printed (quotient (negsuc 6) (pos 2)) ∷ printed (remainder (pos 7) (negsuc 1)) ∷ printed (remainder (negsuc 6) (pos 2)) ∷ [])
-    [] finished (negsuc 2 ∷ negsuc 2 ∷ pos 1 ∷ negsuc 0 ∷ [])
+-- quotients truncate, remainders have the sign of the dividend: 7 and -7 by 2 and -2
+abbrev pub QuotientExample : Type 0
+QuotientExample =
+    Gives (printed (quotient (pos 7) (pos 2)) ∷ printed (quotient (pos 7) (negsuc 1)) ∷ printed (quotient (negsuc 6) (pos 2)) ∷ printed (quotient (negsuc 6) (negsuc 1)) ∷ [])
+    [] finished (pos 3 ∷ negsuc 2 ∷ negsuc 2 ∷ pos 3 ∷ [])
+
+abbrev pub RemainderExample : Type 0
+RemainderExample =
+    Gives (printed (remainder (pos 7) (pos 2)) ∷ printed (remainder (pos 7) (negsuc 1)) ∷ printed (remainder (negsuc 6) (pos 2)) ∷ printed (remainder (negsuc 6) (negsuc 1)) ∷ [])
+    [] finished (pos 1 ∷ pos 1 ∷ negsuc 0 ∷ negsuc 0 ∷ [])
+
+-- `print_int (2 - 3 * 4)`: a product before the difference that it stands in
+abbrev pub ProductExample : Type 0
+ProductExample =
+    Gives (printed (plain (form.arithmetic op.Sub (number (pos 2)) (plain (form.arithmetic op.Mul (number (pos 3)) (number (pos 4)))))) ∷ [])
+    [] finished (negsuc 9 ∷ [])
+
+-- 1 where the comparison of two numbers is true, else 0
+abbrev pub tested : CompareOp → ℤ → ℤ → ItemTree
+tested o m n = printed (plain (form.if_else (plain (form.compare o (number m) (number n))) (number (pos 1)) (number (pos 0))))
+
+-- `= <> < <= > >=` on 1 and 2, and on 2 and 2
+abbrev pub ComparisonExample : Type 0
+ComparisonExample =
+    Gives (tested test.Eq (pos 1) (pos 2) ∷ tested test.Ne (pos 1) (pos 2) ∷ tested test.Lt (pos 1) (pos 2) ∷ tested test.Le (pos 1) (pos 2) ∷ tested test.Gt (pos 1) (pos 2) ∷ tested test.Ge (pos 1) (pos 2)
+    ∷ tested test.Eq (pos 2) (pos 2) ∷ tested test.Ne (pos 2) (pos 2) ∷ tested test.Lt (pos 2) (pos 2) ∷ tested test.Le (pos 2) (pos 2) ∷ tested test.Gt (pos 2) (pos 2) ∷ tested test.Ge (pos 2) (pos 2) ∷ [])
+    [] finished (pos 0 ∷ pos 1 ∷ pos 1 ∷ pos 1 ∷ pos 0 ∷ pos 0 ∷ pos 1 ∷ pos 0 ∷ pos 0 ∷ pos 1 ∷ pos 0 ∷ pos 1 ∷ [])
 
 -- `print_int (read_int () - read_int ())` on 5, 3
 abbrev pub OrderExample : Type 0
@@ -77,24 +107,53 @@ InputExample = Gives (printed (plain (form.arithmetic op.Sub (reads 21) (reads 3
 abbrev pub ShadowingExample : Type 0
 ShadowingExample = Gives (define 0 (number (pos 1)) ∷ define 0 (plain (form.arithmetic op.Add (name 0) (number (pos 1)))) ∷ printed (name 0) ∷ []) [] finished (pos 2 ∷ [])
 
+-- `let x = 1 in (let x = x + 1 in print_int x); print_int x`: the outer definition counts again behind the inner one; and
+-- `let x = 1`, `print_int ((fun x -> x) 5 - x)`: so behind a parameter
+abbrev pub HidingExample : Type 0
+HidingExample =
+    Gives (run (plain (form.let_in (variable 0) (number (pos 1)) (chained
+    (plain (form.let_in (variable 0) (plain (form.arithmetic op.Add (name 0) (number (pos 1)))) (plain (form.print (name 0)))))
+    (plain (form.print (name 0))))))
+    ∷ define 0 (number (pos 1))
+    ∷ printed (plain (form.arithmetic op.Sub (plain (form.call (plain (form.fun (variable 0) (name 0))) (number (pos 5)))) (name 0))) ∷ [])
+    [] finished (pos 2 ∷ pos 1 ∷ pos 4 ∷ [])
+
 -- a function of two parameters, which is called in order: `f (read_int ()) (read_int ())`
 abbrev pub CallExample : Type 0
 CallExample =
     Gives (define 0 (plain (form.fun (variable 1) (plain (form.fun (variable 2) (plain (form.arithmetic op.Sub (name 1) (name 2)))))))
     ∷ printed (plain (form.call (plain (form.call (name 0) (reads 1))) (reads 2))) ∷ []) (pos 9 ∷ pos 4 ∷ []) finished (pos 5 ∷ [])
 
+-- `let f = fun x -> print_int x; fun y -> x - y`, `print_int (f 1 (print_int 2; 3))`: the call on the first argument is made before the
+-- second argument is evaluated
+abbrev pub PartialExample : Type 0
+PartialExample =
+    Gives (define 0 (plain (form.fun (variable 1) (chained (plain (form.print (name 1))) (plain (form.fun (variable 2) (plain (form.arithmetic op.Sub (name 1) (name 2))))))))
+    ∷ printed (plain (form.call (plain (form.call (name 0) (number (pos 1)))) (chained (plain (form.print (number (pos 2)))) (number (pos 3))))) ∷ [])
+    [] finished (pos 1 ∷ pos 2 ∷ negsuc 1 ∷ [])
+
+-- `if k <= 0 then 0 else k + sum (k - 1)`
+abbrev pub sum_body : Tree
+sum_body =
+    plain (form.if_else (plain (form.compare test.Le (name 1) (number (pos 0)))) (number (pos 0))
+    (plain (form.arithmetic op.Add (name 1) (plain (form.call (name 0) (plain (form.arithmetic op.Sub (name 1) (number (pos 1)))))))))
+
 -- `let rec sum k = if k <= 0 then 0 else k + sum (k - 1)`, `print_int (sum 3)`
+abbrev pub sums : List ItemTree
+sums = item (let_rec_of 0 (record { id = 0; place = at 0; parameter = variable 1; body = sum_body })) ∷ printed (plain (form.call (name 0) (number (pos 3)))) ∷ []
+
 abbrev pub RecursionExample : Type 0
-RecursionExample =
-    Gives (item (let_rec_of 0 (record {
-      id = 0;
-      place = at 0;
-      parameter = variable 1;
-      body =
-          plain (form.if_else (plain (form.compare test.Le (name 1) (number (pos 0)))) (number (pos 0))
-          (plain (form.arithmetic op.Add (name 1) (plain (form.call (name 0) (plain (form.arithmetic op.Sub (name 1) (number (pos 1)))))))));
-    }))
-    ∷ printed (plain (form.call (name 0) (number (pos 3)))) ∷ []) [] finished (pos 6 ∷ [])
+RecursionExample = Gives sums [] finished (pos 6 ∷ [])
+
+-- its calls nest 4 deep: where they may nest 3 deep, it isn't over
+abbrev pub DepthExample : Type 0
+DepthExample =
+    (program_meaning 4 (items_of sums) [] ≡ record { ending = finished; output = pos 6 ∷ [] })
+    × (program_meaning 3 (items_of sums) [] ≡ record { ending = running; output = [] })
+
+-- the same function within an expression: `print_int (let rec sum k = .. in sum 3)`
+abbrev pub LocalExample : Type 0
+LocalExample = Gives (printed (plain (form.let_rec 0 0 (at 0) (variable 1) sum_body (plain (form.call (name 0) (number (pos 3)))))) ∷ []) [] finished (pos 6 ∷ [])
 
 -- a call that never returns goes on
 abbrev pub LoopExample : Type 0
@@ -106,22 +165,25 @@ LoopExample =
 abbrev pub AliasExample : Type 0
 AliasExample =
     Gives (run (plain (form.let_in (variable 0) (plain (form.make (number (pos 2)) (number (pos 7)))) (plain (form.let_in (variable 1) (name 0)
-    (plain (form.chain (more_trees (plain (form.store (name 1) (number (pos 0)) (number (pos 1))))
-    (more_trees (plain (form.print (plain (form.fetch (name 0) (number (pos 0)))))) no_trees))))))))
+    (chained (plain (form.store (name 1) (number (pos 0)) (number (pos 1)))) (plain (form.print (plain (form.fetch (name 0) (number (pos 0)))))))))))
     ∷ printed (plain (form.length_of (plain (form.make (number (pos 3)) (number (pos 0)))))) ∷ []) [] finished (pos 1 ∷ pos 3 ∷ [])
 
--- `Some x`, then `_`: the first arm that fits; 10 is the constructor `Some`
+-- 9 is the constructor `None`, 10 the constructor `Some`
 abbrev pub some_pattern : ℕ → Pattern
 some_pattern x = pattern (at 0) (build_of 10 (at 0) (more_patterns (variable x) no_patterns))
 
+-- `match e with Some x -> x | _ -> 0`
+abbrev pub or_zero : Tree → Tree
+or_zero e = plain (form.match_on e (more_cases (some_pattern 0) (name 0) (more_cases (pattern (at 0) any) (number (pos 0)) no_cases)))
+
+-- the first arm that fits: of `Some 4` both fit, of `None` the second alone; and `match [5; 6] with x :: r -> x`, where 8 is the
+-- constructor `::`
 abbrev pub MatchExample : Type 0
 MatchExample =
-    Gives (printed (plain (form.match_on (plain (form.build 10 Apart (more_trees (number (pos 4)) no_trees)))
-    (more_cases (some_pattern 0) (name 0) (more_cases (pattern (at 0) any) (number (pos 0)) no_cases))))
-    -- `match [5; 6] with x :: r -> x`; 8 is the constructor `::`
+    Gives (printed (or_zero (plain (form.build 10 Apart (more_trees (number (pos 4)) no_trees)))) ∷ printed (or_zero (plain (form.build 9 Apart no_trees)))
     ∷ printed (plain (form.match_on (plain (form.list_of (more_trees (number (pos 5)) (more_trees (number (pos 6)) no_trees))))
     (more_cases (pattern (at 0) (build_of 8 (at 0) (more_patterns (variable 0) (more_patterns (variable 1) no_patterns)))) (name 0) no_cases))) ∷ [])
-    [] finished (pos 4 ∷ pos 5 ∷ [])
+    [] finished (pos 4 ∷ pos 0 ∷ pos 5 ∷ [])
 
 -- `(fun (x, y) -> x - y) (7, 2)`: a parameter that is a tuple
 abbrev pub TupleExample : Type 0
@@ -138,12 +200,16 @@ LogicExample =
     ∷ printed (plain (form.if_else (plain (form.or_of (plain (form.not_of (plain (form.flag false)))) (plain (form.compare test.Eq (quotient (pos 1) (pos 0)) (number (pos 0))))))
     (number (pos 1)) (number (pos 2)))) ∷ []) [] finished (negsuc 1 ∷ pos 1 ∷ [])
 
--- each fault at its place
+-- each fault at its place, with the output before it
 abbrev pub DivisorExample : Type 0
-DivisorExample = Gives (printed (number (pos 1)) ∷ printed (quotient (pos 1) (pos 0)) ∷ []) [] (fault ZeroDivisor (at 9)) (pos 1 ∷ [])
+DivisorExample =
+    Gives (printed (number (pos 1)) ∷ printed (quotient (pos 1) (pos 0)) ∷ []) [] (fault ZeroDivisor (at 9)) (pos 1 ∷ [])
+    × Gives (printed (number (pos 1)) ∷ printed (remainder (pos 1) (pos 0)) ∷ []) [] (fault ZeroDivisor (at 9)) (pos 1 ∷ [])
 
 abbrev pub BoundsExample : Type 0
-BoundsExample = Gives (printed (node 7 (form.fetch (plain (form.make (number (pos 2)) (number (pos 0)))) (number (pos 2)))) ∷ []) [] (fault OutOfBounds (at 7)) []
+BoundsExample =
+    Gives (printed (node 7 (form.fetch (plain (form.make (number (pos 2)) (number (pos 0)))) (number (pos 2)))) ∷ []) [] (fault OutOfBounds (at 7)) []
+    × Gives (run (node 4 (form.store (plain (form.make (number (pos 2)) (number (pos 0)))) (number (negsuc 0)) (number (pos 1)))) ∷ []) [] (fault OutOfBounds (at 4)) []
 
 abbrev pub LengthExample : Type 0
 LengthExample = Gives (define 0 (node 4 (form.make (number (negsuc 0)) (number (pos 0)))) ∷ []) [] (fault NegativeLength (at 4)) []

@@ -1,8 +1,7 @@
 -- The expression that a scoped tree stands for, and the items of a program.
-use Rattle.std.specs.Prelude.{ℕ, List, [], ◌∷◌}
+use Rattle.std.specs.Prelude.{List, [], ◌∷◌}
 use Rattle.lq_name.specs.declared.place.Place.{Place}
 use Rattle.lq_tree.specs.Items.{ItemTree, ItemForm, type_of, let_of, let_rec_of}
-use Rattle.lq_tree.specs.Pattern.{Pattern}
 use Rattle.lq_tree.specs.Tree as form
 use Rattle.lq_tree.specs.Tree.{Tree, tree, Form, Trees, no_trees, more_trees, Cases, no_cases, more_cases}
 use Rattle.lq_model.specs.Core.{negate, invert, assert, length_of, print, read, arithmetic, comparison, make, fetch, tuple, build, list_of, Core, val, use_of, fun, row, let_in, let_rec, call, one, two, store, and_of, or_of, if_else, match_on, seq, assert_false, Cores, none, more, Arms, no_arms, more_arms, v_whole, v_flag, v_unit}

@@ -1,10 +1,13 @@
 -- The laws of the meaning.
-use Rattle.std.specs.Prelude.{◌≡◌, ◌↔◌, ℕ, ◌+◌, ℤ, List, [], ◌++◌, Some, None}
-use Rattle.lq_model.specs.Core.{Core, Pairs, value_in, close, as_value}
-use Rattle.lq_model.specs.Operations.{World}
+use Rattle.std.specs.Prelude.{◌≡◌, ◌↔◌, ℕ, ◌+◌, ◌≤◌, ℤ, ◌==◌, List, [], ◌++◌, length, Some, None, is_some}
+use Rattle.std.specs.List.{list_any}
+use Rattle.lq_tree.specs.Pattern.{Pattern, bound_in}
+use Rattle.lq_model.specs.Core.{Core, Value, Pairs, value_in, without, close, as_value}
+use Rattle.lq_model.specs.Operations.{World, fits}
 use Rattle.lq_model.specs.Step.{Next, Step, Frame, plug, IsReady}
 use Rattle.lq_model.specs.StepFunction.{inside, step}
-use Rattle.lq_model.specs.Program.{Item, Ending, running, finished, input_ended, fault, stuck, Outcome, outcome}
+use Rattle.lq_model.specs.Meaning.{Answer, comes, fails, runs_out, too_deep, gets_stuck, meaning}
+use Rattle.lq_model.specs.Program.{Item, close_items, Ending, running, finished, input_ended, fault, stuck, Outcome, outcome}
 
 -- the function gives exactly what the rows give; so an expression has at most one step in a world
 abbrev pub IsStepFunction : Type 0
@@ -28,9 +31,17 @@ IsOver stuck = Unit {0}
 abbrev pub StaysOver : Type 0
 StaysOver = (is : List Item) (input : List ℤ) (n m : ℕ) → IsOver (outcome is input n).ending → outcome is input (n + m) ≡ outcome is input n
 
--- the output of n steps begins that of n + 1
+-- the output of n steps begins that of n + 1, which has at most one number more
 abbrev pub OutputGrows : Type 0
-OutputGrows = (is : List Item) (input : List ℤ) (n : ℕ) → (more : List ℤ) × ((outcome is input (n + 1)).output ≡ (outcome is input n).output ++ more)
+OutputGrows =
+    (is : List Item) (input : List ℤ) (n : ℕ)
+    → (more : List ℤ) × (length more ≤ 1) × ((outcome is input (n + 1)).output ≡ (outcome is input n).output ++ more)
+
+-- so each beginning of the output of n steps is the output of n or fewer steps
+abbrev pub OutputPasses : Type 0
+OutputPasses =
+    (is : List Item) (input : List ℤ) (n : ℕ) (o more : List ℤ) → (outcome is input n).output ≡ o ++ more
+    → (k : ℕ) × (k ≤ n) × ((outcome is input k).output ≡ o)
 
 -- two lists of pairs give the same values
 abbrev pub SameIn : Pairs → Pairs → Type 0
@@ -49,3 +60,54 @@ ClosesByNone = (e : Core) → close [] e ≡ e
 -- a form steps as its leftmost part that isn't a value does
 abbrev pub StepsInside : Type 0
 StepsInside = (f : Frame) (e : Core) (w : World) → IsReady f → as_value e ≡ None → step (plug f e) w ≡ inside f (step e w)
+
+-- a form with such a part is no value, and a value has no step
+abbrev pub PartsWait : Type 0
+PartsWait = (f : Frame) (e : Core) → as_value e ≡ None → as_value (plug f e) ≡ None
+
+abbrev pub ValuesRest : Type 0
+ValuesRest = (e : Core) (w : World) (v : Value) → as_value e ≡ Some v → step e w ≡ None
+
+-- the pairs are of these variables
+abbrev pub ArePairsOf : List ℕ → Pairs → Type 0
+ArePairsOf xs ps = (x : ℕ) → is_some (value_in ps x) ≡ list_any (λ y. y == x) xs
+
+-- Where variables were left out of a closing, closing by values for them is one closing, in which those values count. What a pattern
+-- gives, where a value fits it, is of the variables that it binds.
+abbrev pub ClosesBehind : Type 0
+ClosesBehind = (xs : List ℕ) (ps env : Pairs) (e : Core) → ArePairsOf xs ps → close ps (close (without xs env) e) ≡ close (ps ++ env) e
+
+abbrev pub FitsBinds : Type 0
+FitsBinds = (q : Pattern) (v : Value) (ps : Pairs) → fits q v ≡ Some ps → ArePairsOf (bound_in q) ps
+
+-- the same of the items of a program
+abbrev pub ItemsCloseTwice : Type 0
+ItemsCloseTwice = (is : List Item) (d g : Pairs) → close_items g (close_items d is) ≡ close_items (d ++ g) is
+
+abbrev pub ItemsCloseAlike : Type 0
+ItemsCloseAlike = (is : List Item) (d g : Pairs) → SameIn d g → close_items d is ≡ close_items g is
+
+abbrev pub ItemsCloseByNone : Type 0
+ItemsCloseByNone = (is : List Item) → close_items [] is ≡ is
+
+abbrev pub ItemsCloseBehind : Type 0
+ItemsCloseBehind =
+    (xs : List ℕ) (ps env : Pairs) (is : List Item) → ArePairsOf xs ps → close_items ps (close_items (without xs env) is) ≡ close_items (ps ++ env) is
+
+-- the meaning goes by the values of the environment alone, and a closing is an environment in front
+abbrev pub MeansAlike : Type 0
+MeansAlike = (n : ℕ) (e : Core) (d g : Pairs) (w : World) → SameIn d g → meaning n e d w ≡ meaning n e g w
+
+abbrev pub MeansClosed : Type 0
+MeansClosed = (n : ℕ) (e : Core) (d g : Pairs) (w : World) → meaning n (close d e) g w ≡ meaning n e (d ++ g) w
+
+-- where calls don't nest too deep, a greater bound changes nothing
+abbrev pub IsDeepEnough : Answer → Type 0
+IsDeepEnough (comes v w) = Unit {0}
+IsDeepEnough (fails k p w) = Unit {0}
+IsDeepEnough (runs_out p w) = Unit {0}
+IsDeepEnough (too_deep w) = ⊥
+IsDeepEnough (gets_stuck w) = Unit {0}
+
+abbrev pub MeansMore : Type 0
+MeansMore = (n m : ℕ) (e : Core) (env : Pairs) (w : World) → IsDeepEnough (meaning n e env w) → meaning (n + m) e env w ≡ meaning n e env w

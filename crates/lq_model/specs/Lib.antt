@@ -4,5 +4,8 @@ pub mod Step
 pub mod StepFunction
 pub mod Program
 pub mod FromTree
+pub mod Meaning
 pub mod Laws
+pub mod Adequacy
+pub mod Numbers
 pub mod Examples

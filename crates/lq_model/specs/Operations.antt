@@ -2,7 +2,6 @@
 use Rattle.std.specs.Prelude.{ℕ, zero, suc, ℤ, pos, negsuc, ◌+ℤ◌, ◌-ℤ◌, ◌*ℤ◌, int_div, int_rem, Bool, true, false, not, ◌==◌, if◌then◌else◌, List, [], ◌∷◌, ◌++◌, length, Option, Some, None, slice_get, slice_set}
 use Rattle.std.specs.Ordering.{int_eq}
 use Rattle.std.specs.Int.Signed.{lt_z}
-use Rattle.std.specs.Option.{option_map}
 use Rattle.lq_name.specs.declared.operation.ArithOp.{ArithOp}
 use Rattle.lq_name.specs.declared.operation.ArithOp.TheVariants as op
 use Rattle.lq_name.specs.declared.operation.CompareOp.{CompareOp}
@@ -10,8 +9,8 @@ use Rattle.lq_name.specs.declared.operation.CompareOp.TheVariants as test
 use Rattle.lq_name.specs.declared.place.Place.{Place}
 use Rattle.lq_tree.specs.Pattern.{Pattern, pattern, PatternForm, any, bind, nothing, tuple_of, build_of, Patterns, no_patterns, more_patterns}
 use Rattle.lq_model.specs.declared.fault.FaultKind.{FaultKind}
-use Rattle.lq_model.specs.declared.fault.FaultKind.TheVariants.{AssertFailed, OutOfBounds, ZeroDivisor, NegativeLength, NoCase}
-use Rattle.lq_model.specs.Core.{Operation, negate, invert, assert, length_of, print, read, Binary, arithmetic, comparison, make, fetch, Value, v_whole, v_flag, v_unit, v_fun, v_rec, v_tuple, v_build, v_array, Values, no_values, more_values, Pairs}
+use Rattle.lq_model.specs.declared.fault.FaultKind.TheVariants.{AssertFailed, OutOfBounds, ZeroDivisor, NegativeLength}
+use Rattle.lq_model.specs.Core.{Operation, negate, invert, assert, length_of, print, read, Binary, arithmetic, comparison, make, fetch, Value, v_whole, v_flag, v_unit, v_tuple, v_build, v_array, Values, no_values, more_values, Pairs}
 
 -- the arrays, what is left of the input, and the output so far
 pub record World : Type 0 where

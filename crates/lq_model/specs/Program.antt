@@ -1,7 +1,7 @@
 -- What the first steps of a program give, and when a program is safe.
 use Rattle.std.specs.Prelude.{ℕ, zero, suc, ℤ, List, [], ◌∷◌, Option, Some, None}
 use Rattle.lq_name.specs.declared.place.Place.{Place}
-use Rattle.lq_tree.specs.Pattern.{Pattern, pattern, PatternForm, any, bind, nothing, tuple_of, build_of, bound_in}
+use Rattle.lq_tree.specs.Pattern.{Pattern, pattern, bind, bound_in}
 use Rattle.lq_model.specs.declared.fault.FaultKind.{FaultKind}
 use Rattle.lq_model.specs.Core.{Core, Value, v_rec, Pairs, without, close, as_value}
 use Rattle.lq_model.specs.Operations.{World}

@@ -1,10 +1,10 @@
 -- One step of an expression, as a relation with a row for each form. The leftmost part that isn't a value is evaluated first.
-use Rattle.std.specs.Prelude.{◌≡◌, ℕ, Bool, true, false, List, [], ◌∷◌, Option, Some, None, if◌then◌else◌}
+use Rattle.std.specs.Prelude.{◌≡◌, ℕ, Bool, true, false, [], ◌∷◌, Option, Some, None, if◌then◌else◌}
 use Rattle.lq_name.specs.declared.place.Place.{Place}
-use Rattle.lq_tree.specs.Pattern.{Pattern, pattern, PatternForm, any, bind, nothing, tuple_of, build_of}
+use Rattle.lq_tree.specs.Pattern.{Pattern, pattern, any, bind, nothing, tuple_of, build_of}
 use Rattle.lq_model.specs.declared.fault.FaultKind.{FaultKind}
 use Rattle.lq_model.specs.declared.fault.FaultKind.TheVariants.{AssertFailed, NoCase}
-use Rattle.lq_model.specs.Core.{Operation, Binary, Row, Core, val, use_of, fun, row, let_in, let_rec, call, one, two, store, and_of, or_of, if_else, match_on, seq, assert_false, Cores, none, more, Arms, no_arms, more_arms, Value, v_flag, v_fun, v_rec, Values, Pairs, close, close_arms, as_value, as_values}
+use Rattle.lq_model.specs.Core.{Operation, Binary, Row, Core, val, row, let_in, let_rec, call, one, two, store, and_of, or_of, if_else, match_on, seq, assert_false, Cores, none, more, Arms, no_arms, more_arms, Value, v_flag, v_fun, v_rec, Values, Pairs, close, close_arms, as_value, as_values}
 use Rattle.lq_model.specs.Operations as act
 use Rattle.lq_model.specs.Operations.{World, Act, binary_act, unary_act, store_act, fits}
 

@@ -1,11 +1,9 @@
 -- One step as a function: what the relation gives, and None where no row applies.
-use Rattle.std.specs.Prelude.{ℕ, Bool, true, false, List, [], ◌∷◌, Option, Some, None, if◌then◌else◌}
-use Rattle.lq_name.specs.declared.place.Place.{Place}
-use Rattle.lq_tree.specs.Pattern.{Pattern}
+use Rattle.std.specs.Prelude.{Bool, true, false, [], ◌∷◌, Option, Some, None, if◌then◌else◌}
 use Rattle.lq_model.specs.declared.fault.FaultKind.TheVariants.{AssertFailed}
-use Rattle.lq_model.specs.Core.{Operation, Binary, Row, Core, val, use_of, fun, row, let_in, let_rec, call, one, two, store, and_of, or_of, if_else, match_on, seq, assert_false, Cores, none, more, Arms, no_arms, more_arms, Value, v_whole, v_flag, v_unit, v_fun, v_rec, v_tuple, v_build, v_array, close, as_value}
+use Rattle.lq_model.specs.Core.{Row, Core, val, use_of, fun, row, let_in, let_rec, call, one, two, store, and_of, or_of, if_else, match_on, seq, assert_false, Cores, none, more, Arms, no_arms, more_arms, Value, v_flag, v_rec, close, as_value}
 use Rattle.lq_model.specs.Operations.{World, Act, unary_act, binary_act, store_act}
-use Rattle.lq_model.specs.Step.{Next, goes, faults, ends, done, Frame, in_row, in_let, in_function, in_argument, in_one, in_left, in_right, in_array, in_index, in_stored, in_and, in_or, in_condition, in_scrutinee, in_first, placed, within, applied, body_of, first_arm}
+use Rattle.lq_model.specs.Step.{Next, goes, faults, done, Frame, in_row, in_let, in_function, in_argument, in_one, in_left, in_right, in_array, in_index, in_stored, in_and, in_or, in_condition, in_scrutinee, in_first, within, applied, body_of, first_arm}
 
 abbrev pub inside : Frame → Option Next → Option Next
 inside f None = None

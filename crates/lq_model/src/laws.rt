@@ -1,4 +1,6 @@
-ghost use Rattle.lq_model.specs.Laws.{IsStepFunction, IsDetermined, HasOneOutcome, StaysOver, OutputGrows, ClosesTwice, ClosesAlike, ClosesByNone, StepsInside};
+ghost use Rattle.lq_model.specs.Laws.{IsStepFunction, IsDetermined, HasOneOutcome, StaysOver, OutputGrows, OutputPasses, ClosesTwice, ClosesAlike, ClosesByNone, ClosesBehind, FitsBinds, ItemsCloseTwice, ItemsCloseAlike, ItemsCloseByNone, ItemsCloseBehind, StepsInside, PartsWait, ValuesRest, MeansAlike, MeansClosed, MeansMore};
+ghost use Rattle.lq_model.specs.Numbers.{HaveNoBound, DividesTowardZero};
+ghost use Rattle.lq_model.specs.Adequacy.{IsAdequate, IsComplete, IsAdequateOfPrograms, IsCompleteOfPrograms, IsSafeByMeaning};
 
 /// The step function gives exactly what the rows of the relation give, so an expression has at most one step
 /// in a world.
@@ -7,10 +9,16 @@ pub fn one_step()
     ensures once { IsDetermined }
 {}
 
-/// A program has exactly one outcome for each input and number of steps, and so one output. Numbers in it
-/// have no bound.
+/// A program has exactly one outcome for each input and number of steps, and so one output.
 pub fn one_outcome()
     ensures { HasOneOutcome }
+{}
+
+/// Numbers have no bound: literals, numbers of the input and results of arithmetic are those of whole numbers,
+/// whatever their sizes. Quotients are rounded toward 0, remainders have the dividend's sign.
+pub fn numbers()
+    ensures unbounded { HaveNoBound }
+    ensures toward_zero { DividesTowardZero }
 {}
 
 /// What a run has come to stays, with the same output, however many more steps are asked for.
@@ -18,20 +26,58 @@ pub fn over_stays()
     ensures { StaysOver }
 {}
 
-/// The output of some steps begins that of one step more.
+/// The output of some steps begins that of one step more, which has at most one number more. So a run goes
+/// through each beginning of its output.
 pub fn output_grows()
-    ensures { OutputGrows }
+    ensures by_one { OutputGrows }
+    ensures through { OutputPasses }
 {}
 
-/// A form steps as its leftmost part that isn't a value does.
+/// A form steps as its leftmost part that isn't a value does, and is no value before that. A value has no
+/// step.
 pub fn parts_step()
-    ensures { StepsInside }
+    ensures inside { StepsInside }
+    ensures wait { PartsWait }
+    ensures rest { ValuesRest }
 {}
 
 /// Values are put for variables all at once: one closing after another is one closing, by the values alone,
-/// and no value changes nothing.
+/// and no value changes nothing. Values for variables that an earlier closing left out count before its own.
 pub fn closing()
     ensures twice { ClosesTwice }
     ensures alike { ClosesAlike }
     ensures by_none { ClosesByNone }
+    ensures behind { ClosesBehind }
+    ensures binds { FitsBinds }
+{}
+
+/// The same for the items of a program.
+pub fn closing_items()
+    ensures twice { ItemsCloseTwice }
+    ensures alike { ItemsCloseAlike }
+    ensures by_none { ItemsCloseByNone }
+    ensures behind { ItemsCloseBehind }
+{}
+
+/// What an expression means goes by the values of its environment alone, and values that are put for variables
+/// are an environment in front. Where its calls don't nest too deep, a greater bound changes nothing.
+pub fn environments()
+    ensures alike { MeansAlike }
+    ensures closed { MeansClosed }
+    ensures deeper { MeansMore }
+{}
+
+/// An expression does by its steps what it means in an environment with a bound on nested calls: it comes to
+/// that value, fault or end of the input, or goes on for at least so many steps. What it comes to by fewer
+/// steps it means with that bound.
+pub fn adequacy()
+    ensures there { IsAdequate }
+    ensures back { IsComplete }
+{}
+
+/// So does a program; and it is safe exactly where its meaning is, whatever the bound.
+pub fn adequacy_of_programs()
+    ensures there { IsAdequateOfPrograms }
+    ensures back { IsCompleteOfPrograms }
+    ensures safe { IsSafeByMeaning }
 {}

@@ -6,5 +6,8 @@ mod laws;
 mod samples;
 
 pub use fault::FaultKind;
-pub use laws::{closing, one_outcome, one_step, output_grows, over_stays, parts_step};
+pub use laws::{
+    adequacy, adequacy_of_programs, closing, closing_items, environments, numbers, one_outcome,
+    one_step, output_grows, over_stays, parts_step,
+};
 pub use samples::examples;

@@ -1,13 +1,20 @@
-ghost use Rattle.lq_model.specs.Examples.{ArithmeticExample, OrderExample, InputExample, ShadowingExample, CallExample, RecursionExample, LoopExample, AliasExample, MatchExample, TupleExample, LogicExample, DivisorExample, BoundsExample, LengthExample, CaseExample, AssertionExample, UnreachedExample};
+ghost use Rattle.lq_model.specs.Examples.{QuotientExample, RemainderExample, ProductExample, ComparisonExample, OrderExample, InputExample, ShadowingExample, HidingExample, CallExample, PartialExample, RecursionExample, DepthExample, LocalExample, LoopExample, AliasExample, MatchExample, TupleExample, LogicExample, DivisorExample, BoundsExample, LengthExample, CaseExample, AssertionExample, UnreachedExample};
 
-/// Small programs, one or more for each group of forms, and what their first steps give.
+/// Small programs, one or more for each group of forms: what their first steps give, and what they mean.
 pub fn examples()
-    ensures arithmetic { ArithmeticExample }
+    ensures quotient { QuotientExample }
+    ensures remainder { RemainderExample }
+    ensures product { ProductExample }
+    ensures comparison { ComparisonExample }
     ensures order { OrderExample }
     ensures input { InputExample }
     ensures shadowing { ShadowingExample }
+    ensures hiding { HidingExample }
     ensures call { CallExample }
+    ensures partial { PartialExample }
     ensures recursion { RecursionExample }
+    ensures depth { DepthExample }
+    ensures local { LocalExample }
     ensures running { LoopExample }
     ensures alias { AliasExample }
     ensures first_arm { MatchExample }

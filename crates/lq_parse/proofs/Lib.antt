@@ -1,2 +1,9 @@
 pub mod Takes
 pub mod Answered
+pub mod Lexed
+pub mod Numbered
+pub mod Fits
+pub mod Running
+pub mod Shapes
+pub mod Readings
+pub mod Asserts

@@ -1,10 +1,10 @@
 -- When two applications of a function of two numbers agree.
-use Rattle.std.proofs.Common.{◌≡◌, ◌⊎◌, inl, inr, Bool, true, pos, negsuc, refl, sym}
+use Rattle.std.proofs.Common.{◌≡◌, ◌⊎◌, inl, inr, pos, negsuc}
 use Rattle.lq_math.specs.Rational.{ℚ, whole, ◌-ℚ◌}
 use Rattle.lq_math.specs.RationalOrder.{◌≤ℚ◌}
 use Rattle.lq_pred.specs.Sum.{Sum}
 use Rattle.lq_pred.specs.Points.{Point, form_at}
-use Rattle.lq_pred.specs.Implication.{AreApart, AgreeOrApart}
+use Rattle.lq_pred.specs.Implication.{AgreeOrApart}
 use Rattle.lq_point.proofs.Apart.{apart_from_difference, difference_from_apart, equal_from_difference, difference_from_equal}
 
 abbrev pub IsApart : ℚ → Type 0

@@ -1,5 +1,5 @@
 -- Two numbers and their difference.
-use Rattle.std.proofs.Common.{◌≡◌, ◌⊎◌, inl, inr, List, [], ◌∷◌, pos, negsuc, refl, sym, ap, subst, ◌∙◌}
+use Rattle.std.proofs.Common.{◌≡◌, ◌⊎◌, inl, inr, [], ◌∷◌, pos, negsuc, refl, sym, ap, subst, ◌∙◌}
 use Rattle.lq_math.specs.Rational.{ℚ, whole, ◌+ℚ◌, ◌-ℚ◌}
 use Rattle.lq_math.specs.RationalOrder.{◌≤ℚ◌}
 use Rattle.lq_math.specs.OrderLaws.{at_most_by}

@@ -1,5 +1,5 @@
 -- Lists that have every term of an implication, and of its arguments.
-use Rattle.std.proofs.Common.{◌≡◌, ℕ, zero, suc, ◌<◌, ℤ, List, [], ◌∷◌, ◌++◌, Bool, true, false, Option, Some, None, slice_get, get_or, length, map, refl, sym, ap, subst, ◌∙◌, arith, if◌then◌else◌, ◌||◌}
+use Rattle.std.proofs.Common.{◌≡◌, ℕ, zero, suc, ◌<◌, ℤ, List, [], ◌∷◌, ◌++◌, Bool, true, false, Option, Some, None, get_or, length, map, refl, sym, ap, subst, ◌∙◌, arith, if◌then◌else◌, ◌||◌}
 use Rattle.std.proofs.lemmas.Bool.{or_left, or_right}
 use Rattle.lq_pred.specs.Sum.{Sum, whole, var, neg, add, sub, mul, div, rem, len, measure, same}
 use Rattle.lq_pred.specs.SameLaws.{same-is}

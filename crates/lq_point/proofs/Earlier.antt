@@ -1,15 +1,14 @@
 -- The nearest earlier applications, one more term at a time.
-use Rattle.std.proofs.Common.{◌≡◌, ◌⊎◌, inl, inr, ℕ, suc, ◌+◌, ◌<◌, ◌≤◌, List, [], ◌∷◌, ◌++◌, Bool, true, false, Option, Some, None, slice_get, get_or, length, refl, sym, ap, subst, ◌∙◌, arith, nat_lt, nat_eq, if◌then◌else◌}
+use Rattle.std.proofs.Common.{◌≡◌, ◌⊎◌, inl, inr, ℕ, ◌+◌, ◌<◌, List, [], ◌∷◌, ◌++◌, Bool, true, false, Option, Some, None, slice_get, get_or, length, refl, sym, ap, subst, ◌∙◌, arith, nat_lt, if◌then◌else◌}
 use Rattle.std.proofs.Math.Seq.{get_or-append_seam}
 use Rattle.std.proofs.lemmas.List.{get_or_append_left}
 use Rattle.std.proofs.lemmas.Bool.{eqb-true, eq-eqb}
 use Rattle.std.proofs.lemmas.Bool.Decides.{nat_tests}
-use Rattle.lq_name.specs.declared.name.Name.{Name}
 use Rattle.lq_pred.specs.Sum.{Sum}
 use Rattle.lq_point.specs.declared.agreeing.Function.{Function}
 use Rattle.lq_point.specs.declared.agreeing.Function.TheVariants.{Product, Quotient, Remainder, Length, Measure}
 use Rattle.lq_point.specs.Function.{applied}
-use Rattle.lq_point.specs.Nearest.{NoneBetween, Applies, IsNearest, HasEarlier, same_function, place_of, old_place, new_place}
+use Rattle.lq_point.specs.Nearest.{NoneBetween, IsNearest, HasEarlier, same_function, place_of, old_place, new_place}
 
 same_function-is : (f g : Function) → same_function f g ≡ true → f ≡ g
 same_function-is Product Product h = refl

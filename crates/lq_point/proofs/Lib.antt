@@ -10,3 +10,4 @@ pub mod Walks
 pub mod Earlier
 pub mod Covers
 pub mod Literal
+pub mod Fitting

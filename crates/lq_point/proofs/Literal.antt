@@ -1,12 +1,12 @@
 -- The comparisons of readings are literals.
-use Rattle.std.proofs.Common.{◌≡◌, ◌⊎◌, inl, inr, ℕ, zero, suc, ◌<◌, List, [], ◌∷◌, ◌++◌, Bool, true, false, not, get_or, length, map, All, arith, sym, subst}
+use Rattle.std.proofs.Common.{◌≡◌, inl, inr, ℕ, zero, suc, ◌<◌, List, [], ◌∷◌, ◌++◌, Bool, true, false, not, get_or, length, map, All, arith, sym, subst}
 use Rattle.std.specs.List.{Contains}
 use Rattle.std.proofs.lemmas.List.Elements.{Contains-append_left, Contains-append_right, Contains-append_cases, All-contains, All-contains_itself}
 use Rattle.lq_pred.specs.Comparison.{Comparison, CanGather}
 use Rattle.lq_pred.specs.Formula.{Formula, truth, falsity, flag, compare, objects, negation, conjunction, disjunction, equivalence}
 use Rattle.lq_pred.specs.Implication.{Implication, terms_in}
-use Rattle.lq_pred.specs.Literals.{Signs, positive, negative, both, comparisons_of, comparisons_in, literals_of, each_literals, all_pairs, implication_literals}
-use Rattle.lq_pred.specs.Reading.{Reading, Readings, none, more, reading_of, comparison_reading, AllFitIn}
+use Rattle.lq_pred.specs.Literals.{Signs, positive, negative, both, comparisons_of, literals_of, each_literals, all_pairs, implication_literals}
+use Rattle.lq_pred.specs.Reading.{Reading, reading_of, AllFitIn}
 use Rattle.lq_pred.specs.PredView.{formula_of}
 use Rattle.lq_pred.specs.declared.pred.Pred.{Pred}
 use Rattle.lq_point.proofs.Reading.{all_fit}

@@ -1,5 +1,5 @@
 -- Numbers by their terms' places.
-use Rattle.std.proofs.Common.{◌≡◌, ◌≤◌, ℕ, length, List, Option, Some, None, is_some, slice_get, get_or, ◌<◌, pos, Bool, true, false, sym, refl, ap, ◌∙◌, arith}
+use Rattle.std.proofs.Common.{◌≡◌, ℕ, length, List, Option, Some, None, is_some, get_or, ◌<◌, pos, false, sym, refl, ap, ◌∙◌, arith}
 use Rattle.std.proofs.lemmas.Option.{slice_get_past, slice_get-get_or}
 use Rattle.lq_math.specs.Rational.{whole}
 use Rattle.lq_num.specs.declared.frac.Frac.{Frac}

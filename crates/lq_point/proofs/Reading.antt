@@ -1,13 +1,12 @@
 -- Readings of rows that gather readings of comparisons, and their evaluation.
-use Rattle.std.proofs.Common.{◌≡◌, ◌⊎◌, inl, inr, ℕ, ◌<◌, length, List, [], ◌∷◌, ◌++◌, All, true, refl, sym, ap, subst, ◌∙◌, lit<}
+use Rattle.std.proofs.Common.{◌≡◌, inl, inr, ◌<◌, length, List, [], ◌∷◌, ◌++◌, All, refl, sym, subst, lit<}
 use Rattle.std.specs.List.{Contains}
-use Rattle.std.proofs.lemmas.List.Elements.{Contains-append_left, Contains-append_right, Contains-append_cases, All-contains}
+use Rattle.std.proofs.lemmas.List.Elements.{Contains-append_left, Contains-append_right}
 use Rattle.lq_num.specs.declared.frac.Frac.{Frac}
 use Rattle.lq_num.specs.declared.past.NumberPast.{NumberPast}
 use Rattle.lq_linear.specs.Row.{Row}
 use Rattle.lq_linear.specs.Steps.{valuation_of}
 use Rattle.lq_pred.specs.Sum.{Sum}
-use Rattle.lq_pred.specs.Table.{all_differ}
 use Rattle.lq_pred.specs.Comparison.{Comparison, CanGather, IsRowOf}
 use Rattle.lq_pred.specs.Literals.{comparisons_of, comparisons_in}
 use Rattle.lq_pred.specs.Reading.{Reading, Readings, yes, no, row, flag_is, objects_are, all_of, any_of, none, more, Gathers, AllGather, gathers_yes, gathers_no, gathers_row, gathers_flag, gathers_objects, gathers_all, gathers_any, gather_none, gather_more, AllFitIn, EachFits}

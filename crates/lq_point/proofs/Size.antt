@@ -1,5 +1,5 @@
 -- The size of a reading, which falls from a row of readings to each of them.
-use Rattle.std.proofs.Common.{◌≡◌, ℕ, zero, suc, ◌+◌, ◌<◌, List, [], ◌∷◌, length, map, get_or, arith}
+use Rattle.std.proofs.Common.{ℕ, zero, suc, ◌+◌, ◌<◌, List, [], ◌∷◌, length, map, get_or, arith}
 use Rattle.lq_linear.specs.Row.{Row}
 use Rattle.lq_pred.specs.declared.nnf.Nnf.{Nnf}
 use Rattle.lq_pred.specs.NnfView.{nnf_view, readings_of}

@@ -1,5 +1,5 @@
 -- The walk from a term to the earlier ones that apply its function.
-use Rattle.std.proofs.Common.{◌≡◌, ◌⊎◌, inl, inr, ℕ, zero, suc, ◌+◌, ◌<◌, ◌≤◌, List, [], ◌∷◌, ◌++◌, Bool, true, false, Option, Some, None, slice_get, get_or, length, refl, sym, ap, subst, ◌∙◌, arith, All, nat_eq, nat_le}
+use Rattle.std.proofs.Common.{◌≡◌, ◌⊎◌, inl, inr, ℕ, zero, suc, ◌+◌, ◌<◌, ◌≤◌, List, [], ◌∷◌, Bool, true, false, Option, Some, None, slice_get, get_or, length, refl, sym, ap, subst, ◌∙◌, arith, All, nat_eq, nat_le}
 use Rattle.std.specs.Ordering.{nat_cmp}
 use Rattle.std.specs.declared.cmp.Ordering.{Ordering}
 use Rattle.std.specs.declared.cmp.Ordering.TheVariants.{Less, Equal, Greater}
@@ -8,7 +8,7 @@ use Rattle.lq_math.specs.Rational.{ℚ}
 use Rattle.std.specs.List.{Contains}
 use Rattle.std.proofs.lemmas.List.Elements.{Contains-append_left, Contains-append_right, All-contains, All-contains_itself}
 use Rattle.lq_pred.specs.Sum.{Sum, whole, var, neg, add, sub, mul, div, rem, len, measure}
-use Rattle.lq_pred.specs.Table.{has_term, index_of}
+use Rattle.lq_pred.specs.Table.{index_of}
 use Rattle.lq_pred.specs.Numbering.{slice_get-index_of, slice_get-has_term, index_of-present}
 use Rattle.lq_pred.specs.Comparison.{Comparison, CanGather}
 use Rattle.lq_pred.specs.Points.{Point, form_at}
@@ -18,7 +18,7 @@ use Rattle.lq_point.specs.declared.agreeing.Function.{Function}
 use Rattle.lq_point.specs.declared.agreeing.Function.TheVariants.{Product, Quotient, Remainder, Length, Measure}
 use Rattle.lq_point.specs.Function.{applied}
 use Rattle.lq_point.specs.Agreeing.{AgreesBefore, AllAgree}
-use Rattle.lq_point.specs.Nearest.{NoneBetween, Applies, IsNearest, HasEarlier}
+use Rattle.lq_point.specs.Nearest.{Applies, IsNearest, HasEarlier}
 
 abbrev pub place_or_zero : Option ℕ → ℕ
 place_or_zero None = 0

@@ -2,6 +2,8 @@
 #![tactic(auto)]
 
 mod agreeing;
+#[cfg(test)]
+mod askable;
 mod conditions;
 mod error;
 mod evaluating;
@@ -9,6 +11,8 @@ mod holding;
 mod laws;
 mod pairs;
 mod point;
+#[cfg(test)]
+mod tests;
 mod values;
 
 pub use error::PointError;

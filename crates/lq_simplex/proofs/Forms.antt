@@ -16,7 +16,8 @@ use Rattle.lq_linear.specs.Steps.{valuation_of, value_or_zero}
 use Rattle.lq_simplex.specs.declared.line.Entry.{Entry}
 use Rattle.lq_simplex.specs.Lines.{combine, unit, factor_of, IsLine, IsOwnLine}
 use Rattle.lq_simplex.specs.Systems.{Parts, System, form_at, line_at, TermsBelow, Fits, Meets, IsFree, form_values, AreForms, AreLines, IsSystem, GoesOn}
-use Rattle.lq_simplex.proofs.Combinations.{one_apart, unit_elsewhere, eq_or}
+use Rattle.lq_simplex.specs.Configurations.{AllStay}
+use Rattle.lq_simplex.proofs.Combinations.{one_apart, unit_here, unit_elsewhere, eq_or}
 use Rattle.lq_simplex.proofs.Values.{get_push_old, get_push_here, last_or_before}
 
 pub sum_at-push : (v : Valuation) (parts : Parts) (p : ℕ × ℤ) → sum_at v (parts ++ p ∷ []) ≡ sum_at v parts +ℚ whole p.1 *ℚ v p.0
@@ -183,6 +184,22 @@ further_system s form line f i b il sum e =
           (further_values s.terms s.forms form s.values f i.are_forms b i.valued (i.are_lines.fits (valuation_of s.values) i.values) e);
     }
 
+-- the further variable isn't free
+pub further_stays : (s : System) (form : Parts) (line : List Entry) (f : Frac) → IsSystem s → ((y : Valuation) → combine y line ≡ sum_at (λ t. combine y (line_at s.lines t)) form)
+    → AllStay s (record { terms = s.terms; forms = s.forms ++ form ∷ []; lines = s.lines ++ line ∷ []; values = s.values ++ f ∷ [] })
+further_stays s form line f i sum j free = by (place j (length s.lines))
+  where
+    by : Place j (length s.lines) → IsFree s.lines j × (valuation_of (s.values ++ f ∷ []) j ≡ valuation_of s.values j)
+    by (old h) = (
+      record { inside = h; own = λ k. sym (ap (λ es. factor_of es k) (at_old s.lines line [] j h)) ∙ free.own k },
+      ap value_or_zero (get_push_old s.values f j (let e = i.valued in let g = i.are_lines.same in omega arith)),
+    )
+    by (last e) = elim (sum_free s.lines form j (λ t. i.are_lines.free t j)) [
+      | inl z ↦ absurd (one_apart (sym (ap (λ es. factor_of es j) (at_last s.lines line [] j e) ∙ sum (unit j) ∙ z) ∙ free.own j ∙ unit_here j))
+      | inr g ↦ absurd (let h = g.inside in omega arith)
+    ]
+    by (past h) = absurd (let e = length_push s.lines line in let g = free.inside in omega arith)
+
 pub goes_on_further : (forms : List Parts) (form : Parts) → GoesOn forms (forms ++ form ∷ [])
 goes_on_further forms form k h = (let e = length_push forms form in omega arith, at_old forms form [] k h)
 
@@ -215,10 +232,17 @@ pub record Start (n : ℕ) (forms : List Parts) (lines : List (List Entry)) (val
   pub values_count : length values ≡ n
   pub form : (t : ℕ) → t < n → form_at forms t ≡ (t, pos 1) ∷ []
   pub line : (t : ℕ) → t < n → IsOwnLine t (line_at lines t)
+  pub value : (k : ℕ) → valuation_of values k ≡ whole (pos 0)
+
+push_zero : (values : List Frac) (f : Frac) → value_of f ≡ whole (pos 0) → ((k : ℕ) → valuation_of values k ≡ whole (pos 0)) → (k : ℕ) → valuation_of (values ++ f ∷ []) k ≡ whole (pos 0)
+push_zero [] f e h zero = e
+push_zero [] f e h (suc k) = h k
+push_zero (v ∷ values) f e h zero = h 0
+push_zero (v ∷ values) f e h (suc k) = push_zero values f e (λ i. h (suc i)) k
 
 pub start_step : (n : ℕ) (forms : List Parts) (lines : List (List Entry)) (values : List Frac) (form : Parts) (line : List Entry) (value : Frac) → Start n forms lines values
-    → form ≡ (n, pos 1) ∷ [] → IsOwnLine n line → Start (n + 1) (forms ++ form ∷ []) (lines ++ line ∷ []) (values ++ value ∷ [])
-start_step n forms lines values form line value s e o = record {
+    → form ≡ (n, pos 1) ∷ [] → IsOwnLine n line → value_of value ≡ whole (pos 0) → Start (n + 1) (forms ++ form ∷ []) (lines ++ line ∷ []) (values ++ value ∷ [])
+start_step n forms lines values form line value s e o z = record {
   forms_count = length_push forms form ∙ ap (λ m. m + 1) s.forms_count;
   lines_count = length_push lines line ∙ ap (λ m. m + 1) s.lines_count;
   values_count = length_push values value ∙ ap (λ m. m + 1) s.values_count;
@@ -230,6 +254,7 @@ start_step n forms lines values form line value s e o = record {
     | inl l ↦ subst (IsOwnLine t) (sym (at_old lines line [] t (let q = s.lines_count in omega arith))) (s.line t l)
     | inr q ↦ subst (IsOwnLine t) (sym (at_last lines line [] t (s.lines_count ∙ sym q))) (subst (λ m. IsOwnLine m line) (sym q) o)
   ];
+  value = push_zero values value z s.value;
 }
 
 own_combine : (x : Valuation) (t : ℕ) (line : List Entry) → IsOwnLine t line → combine x line ≡ x t

@@ -9,3 +9,4 @@ pub mod Explaining
 pub mod Readings
 pub mod Tables
 pub mod Rows
+pub mod Resting

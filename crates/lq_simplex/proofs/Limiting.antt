@@ -28,6 +28,10 @@ pub within_from_beyond : (side : Side) (a b : ℚ) → Beyond side a b → Withi
 within_from_beyond Lower a b h = ≤ℚ_from_below a b h
 within_from_beyond Upper a b h = ≤ℚ_from_below b a h
 
+pub beyond_not_within : (side : Side) (a b : ℚ) → Beyond side a b → ¬ Within side a b
+beyond_not_within Lower a b h k = h k
+beyond_not_within Upper a b h k = h k
+
 pub within_trans : (side : Side) (a b c : ℚ) → Within side a b → Within side b c → Within side a c
 within_trans Lower a b c h k = ≤ℚ_trans c b a k h
 within_trans Upper a b c h k = ≤ℚ_trans a b c h k

@@ -121,6 +121,19 @@ pivot_absent lines new b k f zero r j p h n zr zb =
     p.sum r (unit j) h ∙ ap₂ (λ s t. s +ℚ factor_of (line_at lines r) k *ℚ t) zr z
     ∙ solve (factor_of (line_at lines r) k ∷ []) (con (pos 0) ⊕ var 0 ⊗ con (pos 0)) (con (pos 0)) refl
 
+-- what is free but for the leaving one was free before
+pub pivot_free_before : (forms : List Parts) (lines new : List (List Entry)) (b k : ℕ) (f : ℚ) (zero : List Entry) (j : ℕ) → AreLines forms lines → IsPivot lines new b k f zero
+    → IsFree new j → j ≢ b → IsFree lines j × (j ≢ k)
+pivot_free_before forms lines new b k f zero j a p free n =
+    let inside : j < length lines = (let e = p.same in let h = free.inside in omega arith) in
+    let one : factor_of (line_at new j) j ≡ whole (pos 1) = free.own j ∙ unit_here j in (
+      elim (a.free j j) [
+        | inr before ↦ before
+        | inl zj ↦ elim (a.free b j) [ inr before ↦ before | inl zb ↦ absurd (one_apart (sym (pivot_absent lines new b k f zero j j p inside n zj zb) ∙ one)) ]
+      ],
+      (λ e. one_apart (sym (pivot_entering lines new b k f zero j p inside) ∙ ap (factor_of (line_at new j)) (sym e) ∙ one)),
+    )
+
 past_line : (lines : List (List Entry)) (r j : ℕ) → length lines ≤ r → factor_of (line_at lines r) j ≡ whole (pos 0)
 past_line lines r j h = ap (λ es. factor_of es j) (get_or_past lines r [] h)
 
@@ -196,15 +209,14 @@ added_all lines variable nil changed n a e = record {
         subst (λ o. IsLine (after o (line_at lines k))) (sym (get_or_past changed k None (let q = a.count in omega arith)))
         (subst IsLine (sym (get_or_past lines k [] (omega arith))) tt)
 
-pub pivoted_system : (s : System) (new : List (List Entry)) (values : List Frac) (b k at : ℕ) (e : Entry) (d : ℚ) (nil : List Entry) (changed : List (Option (List Entry)))
+pub pivot_of : (s : System) (new : List (List Entry)) (b at : ℕ) (e : Entry) (nil : List Entry) (changed : List (Option (List Entry)))
     → IsSystem s → b < length s.forms → slice_get (line_at s.lines b) at ≡ Some e → e.variable ≢ b
     → ((x : Valuation) → combine x nil *ℚ value_of e.factor ≡ x b -ℚ combine x (line_at s.lines b))
     → IsAdded s.lines e.variable nil changed → length new ≡ length s.lines → ((r : ℕ) → line_at new r ≡ after (change_at changed r) (line_at s.lines r))
-    → IsShifted s.lines s.values e.variable d values
-    → IsSystem (record { terms = s.terms; forms = s.forms; lines = new; values = values })
-pivoted_system s new values b k at e d nil changed i inside there apart zero_is added same put shifted =
+    → IsPivot s.lines new b e.variable (value_of e.factor) nil
+pivot_of s new b at e nil changed i inside there apart zero_is added same put =
     let l = i.are_lines in
-    let pivot : IsPivot s.lines new b e.variable (value_of e.factor) nil = record {
+    record {
       same = same;
       inside = let q = l.same in omega arith;
       apart = apart;
@@ -214,14 +226,17 @@ pivoted_system s new values b k at e d nil changed i inside there apart zero_is 
       zero_is = zero_is;
       sum = λ r x h. ap (combine x) (put r) ∙ added.sum r x h;
       line = λ r. subst IsLine (sym (put r)) (added.line r);
-    } in
-    record {
-      are_forms = i.are_forms;
-      are_lines = pivot_lines s.forms s.lines new b e.variable (value_of e.factor) nil l pivot;
-      valued = shifted.0 ∙ l.same;
-      values = pivot_meets s.lines new b e.variable (value_of e.factor) nil (valuation_of values) pivot
-          (shift_meets s.forms s.lines (valuation_of s.values) (valuation_of values) e.variable d l i.values shifted.1);
     }
+
+pub pivoted_system : (s : System) (new : List (List Entry)) (values : List Frac) (b k : ℕ) (f d : ℚ) (nil : List Entry) → IsSystem s → IsPivot s.lines new b k f nil
+    → IsShifted s.lines s.values k d values → IsSystem (record { terms = s.terms; forms = s.forms; lines = new; values = values })
+pivoted_system s new values b k f d nil i pivot shifted = record {
+  are_forms = i.are_forms;
+  are_lines = pivot_lines s.forms s.lines new b k f nil i.are_lines pivot;
+  valued = shifted.0 ∙ i.are_lines.same;
+  values = pivot_meets s.lines new b k f nil (valuation_of values) pivot
+      (shift_meets s.forms s.lines (valuation_of s.values) (valuation_of values) k d i.are_lines i.values shifted.1);
+}
 
 -- ---- the inverse of a factor
 pub inverse_times : (i w f : ℚ) → ¬ (f ≡ whole (pos 0)) → i ≡ w /ℚ f → w ≡ whole (pos 1) → i *ℚ f ≡ whole (pos 1)

@@ -75,7 +75,7 @@ read_take forms zero rows h = tt
 read_take forms (suc n) [] h = tt
 read_take forms (suc n) (r ∷ rows) h = (h.0, read_take forms n rows h.1)
 
-reads_on : (old new : List Parts) (row : Row) (o : Option Bound) → GoesOn old new → ReadsBy old row o → ReadsBy new row o
+pub reads_on : (old new : List Parts) (row : Row) (o : Option Bound) → GoesOn old new → ReadsBy old row o → ReadsBy new row o
 reads_on old new row None g r = r
 reads_on old new row (Some b) g r = record {
   inside = (g b.variable r.inside).0;

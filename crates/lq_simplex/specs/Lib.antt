@@ -4,4 +4,5 @@ pub mod Standing
 pub mod Reading
 pub mod Bounds
 pub mod Conflicts
+pub mod Configurations
 pub mod Table

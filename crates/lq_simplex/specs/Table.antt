@@ -14,6 +14,7 @@ use Rattle.lq_simplex.specs.declared.tableau.Answer.{Answer}
 use Rattle.lq_simplex.specs.declared.tableau.Answer.TheVariants.{Unasked, Solved, Contradicted, GaveUp}
 use Rattle.lq_simplex.specs.Systems.{System, TermsBelow}
 use Rattle.lq_simplex.specs.Standing.{standing_of, multipliers_of, AllRead, TagsApart}
+use Rattle.lq_simplex.specs.Configurations.{AllAmong, Rests}
 
 -- the variables with their values, the rows that stand, the multipliers of the last conflict, the last answer, and the limit on pivots
 pub record Table : Type 0 where
@@ -59,6 +60,11 @@ abbrev pub MayStop : List ℕ → Tagged → List Row → LinearStop → Type 0
 MayStop [] rows ever stop = ⊥
 MayStop (terms ∷ []) rows ever stop = ⊥
 MayStop (terms ∷ limit ∷ more) rows ever stop = StopsAt limit stop
+
+-- the rows that stand are among these, and each free variable has the value 0 or a bound that one of these gives it
+pub record Handed (t : Table) (rows : List Row) : Type 0 where
+  pub among : AllAmong rows t.rows
+  pub rests : Rests rows t.system
 
 pub record IsTable (t : Table) : Type 0 where
   pub read : AllRead t.system.forms t.rows

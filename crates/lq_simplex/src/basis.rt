@@ -1,4 +1,4 @@
-ghost use Rattle.std.specs.Prelude.{◌≡◌, ◌≢◌, ℕ, pos, ◌<◌, ◌≤◌, ◌+◌, List, length, slice_get, Some, IfOk, IfErr, IfSome, OnOk, OnErr, ◌++◌, ◌∷◌, []};
+ghost use Rattle.std.specs.Prelude.{◌≡◌, ◌≢◌, true, ℕ, pos, ◌<◌, ◌≤◌, ◌+◌, List, length, slice_get, Some, IfOk, IfErr, IfSome, OnOk, OnErr, ◌++◌, ◌∷◌, []};
 ghost use Rattle.lq_math.specs.Rational.{whole, ◌+ℚ◌, ◌-ℚ◌, ◌*ℚ◌};
 ghost use Rattle.lq_linear.specs.Row.{Valuation, sum_at};
 ghost use Rattle.lq_linear.specs.Steps.{valuation_of};
@@ -6,6 +6,7 @@ ghost use Rattle.lq_num.specs.Past.{IsPast};
 ghost use Rattle.lq_num.specs.Value.{value_of};
 ghost use Rattle.lq_simplex.specs.Lines.{combine, factor_of, IsLine, IsOwnLine, IsStop};
 ghost use Rattle.lq_simplex.specs.Systems.{form_at, line_at, change_at, after, TermsBelow, IsChange, IsAdded, IsShifted, IsSystem, GoesOn};
+ghost use Rattle.lq_simplex.specs.Configurations.{StandsIn, AllStay, Brings};
 
 use crate::line::{Entry, Line, factor, sum};
 use crate::stop::Stop;
@@ -261,7 +262,8 @@ fn extend(
 impl Basis {
     /// The terms alone, each free and with the value 0.
     pub(crate) fn new(alloc: Global, terms: u64) -> Result<Basis, AllocError>
-        ensures { IfOk result (λ basis. basis.terms ≡ terms) }
+        ensures terms { IfOk result (λ basis. basis.terms ≡ terms) }
+        ensures zero { IfOk result (λ basis. (k : ℕ) → valuation_of basis.values k ≡ whole (pos 0)) }
     {
         let mut forms = Vec::new(alloc);
         let mut lines = Vec::new(alloc);
@@ -312,6 +314,7 @@ impl Basis {
     /// Whether a variable is free: its combination is itself.
     pub(crate) fn is_free(&self, variable: usize) -> bool
         requires { variable < length self.now.forms }
+        ensures { result ≡ true → StandsIn (line_at self.now.lines variable) variable }
     {
         match self.lines[variable].entries() {
             [entry] => entry.variable == variable,
@@ -325,6 +328,7 @@ impl Basis {
         ensures found { IfOk result (λ k. (k < length self.new.forms) × (form_at self.new.forms k ≡ form)) }
         ensures terms { self.new.terms ≡ self.old.terms }
         ensures forms { GoesOn self.old.forms self.new.forms }
+        ensures stays { AllStay self.old self.new }
         ensures stop { IfErr result IsStop }
     {
         if let Some(found) = find(&self.forms, form.parts()) {
@@ -345,6 +349,7 @@ impl Basis {
         ensures added { OnOk result (self.new.forms ≡ self.old.forms ++ form ∷ []) }
         ensures kept { OnErr result (self.new.forms ≡ self.old.forms) }
         ensures terms { self.new.terms ≡ self.old.terms }
+        ensures stays { AllStay self.old self.new }
     {
         extend(
             &mut self.forms,
@@ -357,32 +362,40 @@ impl Basis {
         Ok(())
     }
 
-    /// Moves a free variable, and with it those that depend on it.
-    pub(crate) fn shift(&mut self, alloc: Global, variable: usize, by: &Frac) -> Result<(), Stop>
+    /// Brings a free variable to a bound, and moves those that depend on it.
+    pub(crate) fn shift(&mut self, alloc: Global, variable: usize, bound: &Frac) -> Result<(), Stop>
+        requires { StandsIn (line_at self.old.lines variable) variable }
+        ensures brought { OnOk result (Brings self.old self.new variable (value_of bound.now)) }
+        ensures kept { OnErr result (self.new ≡ self.old) }
         ensures terms { self.new.terms ≡ self.old.terms }
         ensures forms { self.new.forms ≡ self.old.forms }
         ensures stop { IfErr result IsStop }
     {
-        self.values = shifted(alloc, &self.lines, &self.values, variable, by)?;
+        let by = bound.sub(&self.values[variable])?;
+        self.values = shifted(alloc, &self.lines, &self.values, variable, &by)?;
         Ok(())
     }
 
-    /// The leaving variable becomes free, and the entering one a combination. The entering one moves.
+    /// Brings a variable to a bound: it becomes free, and the entering one, which moves for that, a combination.
     fn pivot(
         &mut self,
         alloc: Global,
         leaving: usize,
         entering: Entry,
-        by: &Frac,
+        bound: &Frac,
     ) -> Result<(), Stop>
         requires inside { leaving < length self.old.forms }
         requires entry { (at : ℕ) × (slice_get (line_at self.old.lines leaving) at ≡ Some entering) }
         requires apart { entering.variable ≢ leaving }
+        ensures brought { OnOk result (Brings self.old self.new leaving (value_of bound.now)) }
+        ensures kept { OnErr result (self.new ≡ self.old) }
         ensures terms { self.new.terms ≡ self.old.terms }
         ensures forms { self.new.forms ≡ self.old.forms }
         ensures stop { IfErr result IsStop }
     {
-        let values = shifted(alloc, &self.lines, &self.values, entering.variable, by)?;
+        let way = bound.sub(&self.values[leaving])?;
+        let by = way.div(&entering.factor)?;
+        let values = shifted(alloc, &self.lines, &self.values, entering.variable, &by)?;
         let zero = relation(
             alloc,
             self.lines[leaving].entries(),
@@ -405,16 +418,16 @@ impl Basis {
     ) -> Result<(), Stop>
         requires inside { variable < length self.old.forms }
         requires entry { (at : ℕ) × (slice_get (line_at self.old.lines variable) at ≡ Some entry) }
+        ensures brought { OnOk result (Brings self.old self.new variable (value_of bound.now)) }
+        ensures kept { OnErr result (self.new ≡ self.old) }
         ensures terms { self.new.terms ≡ self.old.terms }
         ensures forms { self.new.forms ≡ self.old.forms }
         ensures stop { IfErr result IsStop }
     {
-        let way = bound.sub(&self.values[variable])?;
-        let by = way.div(&entry.factor)?;
         if entry.variable == variable {
-            self.shift(alloc, variable, &by)
+            self.shift(alloc, variable, bound)
         } else {
-            self.pivot(alloc, variable, entry, &by)
+            self.pivot(alloc, variable, entry, bound)
         }
     }
 }

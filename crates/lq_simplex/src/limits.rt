@@ -198,6 +198,7 @@ impl Limits {
     /// The variable of least number that breaks a bound.
     pub(crate) fn broken(&self, values: &[Frac]) -> Option<Broken>
         ensures some { IfSome result (λ b. (b.variable < length values.now) × Breaks self.now (valuation_of values.now b.variable) b) }
+        ensures least { IfSome result (λ b. (k : ℕ) → k < b.variable → (side : Side) → Keeps side (valuation_of values.now k) (limit_at self.now side k)) }
         ensures none { IfNone result ((k : ℕ) → k < length values.now → (side : Side) → Keeps side (valuation_of values.now k) (limit_at self.now side k)) }
     {
         for (variable, value) in values.iter().enumerate() {
@@ -224,7 +225,8 @@ impl Limits {
 
     /// Whether a value is at the bound of its variable on this side, or past it.
     fn is_stuck(&self, side: Side, variable: usize, value: &Frac) -> bool
-        ensures { result ≡ true → (limit : Limit) × (limit_at self.now side variable ≡ Some limit) × Within (other side) (value_of value.now) (bound_value limit) }
+        ensures yes { result ≡ true → (limit : Limit) × (limit_at self.now side variable ≡ Some limit) × Within (other side) (value_of value.now) (bound_value limit) }
+        ensures no { result ≡ false → (limit : Limit) → limit_at self.now side variable ≡ Some limit → ¬ Within (other side) (value_of value.now) (bound_value limit) }
     {
         match self.at(side, variable) {
             None => false,
@@ -236,6 +238,7 @@ impl Limits {
     pub(crate) fn entering(&self, line: &[Entry], side: Side, values: &[Frac]) -> Option<Entry>
         requires { VariablesBelow (length values.now) line.now }
         ensures some { IfSome result (λ e. (at : ℕ) × (slice_get line.now at ≡ Some e) × AllBlocked self.now side (valuation_of values.now) (take at line.now)) }
+        ensures moves { IfSome result (λ e. ¬ IsBlocked self.now side (valuation_of values.now) e) }
         ensures none { IfNone result (AllBlocked self.now side (valuation_of values.now) line.now) }
     {
         for entry in line {

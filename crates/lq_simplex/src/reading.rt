@@ -6,6 +6,7 @@ ghost use Rattle.lq_num.specs.Value.{value_of};
 ghost use Rattle.lq_simplex.specs.Lines.{IsStop};
 ghost use Rattle.lq_simplex.specs.Systems.{TermsBelow, GoesOn};
 ghost use Rattle.lq_simplex.specs.Standing.{signed, ReadsBy};
+ghost use Rattle.lq_simplex.specs.Configurations.{AllStay};
 ghost use Rattle.lq_simplex.specs.Reading.{DividesAll, FirstAbove, turned_by, IsTurned, IsDivided};
 
 use crate::basis::{Basis, Form};
@@ -141,6 +142,7 @@ pub(crate) fn read(alloc: Global, basis: &mut Basis, row: &LinearRow) -> Result<
     ensures reads { IfOk result (λ bound. ReadsBy basis.new.forms row.now bound) }
     ensures terms { basis.new.terms ≡ basis.old.terms }
     ensures forms { GoesOn basis.old.forms basis.new.forms }
+    ensures stays { AllStay basis.old basis.new }
     ensures stop { IfErr result IsStop }
 {
     let parts = row.parts();

@@ -2,13 +2,14 @@ ghost use Rattle.std.specs.Prelude.{◌≡◌, List, [], ◌∷◌, ◌++◌, po
 ghost use Rattle.lq_math.specs.Rational.{whole, ◌*ℚ◌};
 ghost use Rattle.lq_math.specs.RationalOrder.{◌≤ℚ◌, ◌<ℚ◌, NotNegative};
 ghost use Rattle.lq_num.specs.Value.{value_of};
+ghost use Rattle.lq_linear.specs.Row.{Row};
 ghost use Rattle.lq_linear.specs.Contradiction.{tagged, Solves, IsContradiction};
 ghost use Rattle.lq_linear.specs.Steps.{valuation_of};
 ghost use Rattle.lq_simplex.specs.Lines.{IsStop};
 ghost use Rattle.lq_simplex.specs.Systems.{Parts, TermsBelow};
 ghost use Rattle.lq_simplex.specs.Standing.{standing_of, multipliers_of, AllRead, TagsApart, AllBare};
-ghost use Rattle.lq_simplex.specs.Conflicts.{AllKeep};
-ghost use Rattle.lq_simplex.specs.Conflicts.{AllGiven};
+ghost use Rattle.lq_simplex.specs.Conflicts.{AllGiven, AllKeep};
+ghost use Rattle.lq_simplex.specs.Configurations.{AllAmong, Rests, Settles};
 ghost use Rattle.lq_simplex.specs.Table.{StopsAt};
 
 use crate::basis::Basis;
@@ -96,6 +97,7 @@ fn refuted(alloc: Global, rows: &[Standing]) -> Result<Option<Vec<(u64, Frac)>>,
 
 /// Brings the free variables to the bounds that they break.
 fn settle(alloc: Global, basis: &mut Basis, limits: &Limits) -> Result<(), Stop>
+    ensures settles { Settles limits.now basis.old basis.new }
     ensures terms { basis.new.terms ≡ basis.old.terms }
     ensures forms { basis.new.forms ≡ basis.old.forms }
     ensures stop { IfErr result IsStop }
@@ -104,8 +106,7 @@ fn settle(alloc: Global, basis: &mut Basis, limits: &Limits) -> Result<(), Stop>
         let value = basis.values()[variable];
         if basis.is_free(variable) {
             if let Some(broken) = limits.broken_at(variable, &value) {
-                let way = broken.limit.bound.value.sub(&value)?;
-                basis.shift(alloc, variable, &way)?;
+                basis.shift(alloc, variable, &broken.limit.bound.value)?;
             }
         }
     }
@@ -125,6 +126,7 @@ fn pivots(
     requires apart { TagsApart rows.now }
     requires given { AllGiven rows.now limits.now }
     ensures solved { IfOk result (λ found. IfNone found (AllKeep limits.now basis.new)) }
+    ensures settles { Settles limits.now basis.old basis.new }
     ensures contradicted { IfOk result (λ found. IfSome found (λ ms. IsContradiction (standing_of rows.now) (multipliers_of ms.items))) }
     ensures terms { basis.new.terms ≡ basis.old.terms }
     ensures forms { basis.new.forms ≡ basis.old.forms }
@@ -157,6 +159,7 @@ fn decide(
     requires read { AllRead basis.old.forms rows.now }
     requires apart { TagsApart rows.now }
     ensures solved { IfOk result (λ found. IfNone found (Solves (valuation_of basis.new.values) (standing_of rows.now))) }
+    ensures rests { (ever : List Row) → AllAmong ever rows.now → Rests ever basis.old → Rests ever basis.new }
     ensures contradicted { IfOk result (λ found. IfSome found (λ ms. IsContradiction (standing_of rows.now) (multipliers_of ms.items))) }
     ensures terms { basis.new.terms ≡ basis.old.terms }
     ensures forms { basis.new.forms ≡ basis.old.forms }
@@ -193,6 +196,8 @@ fn stand(
     ensures kept { OnErr result (rows.new.items ≡ rows.old.items) }
     ensures read { AllRead basis.new.forms rows.new.items }
     ensures apart { TagsApart rows.new.items }
+    ensures among { (ever : List Row) → AllAmong ever rows.old.items → AllAmong (ever ++ row.now ∷ []) rows.new.items }
+    ensures rests { (ever : List Row) → Rests ever basis.old → Rests (ever ++ row.now ∷ []) basis.new }
     ensures terms { basis.new.terms ≡ basis.old.terms }
     ensures stop { IfErr result IsStop }
 {
@@ -216,13 +221,15 @@ fn stop_of(stop: Stop, limit: u64) -> LinearStop
 
 impl Tableau {
     ghost use Rattle.lq_linear.specs.Answers.{Nothing};
-    ghost use Rattle.lq_simplex.specs.Table.{table_rows, table_last, table_limits};
+    ghost use Rattle.lq_simplex.specs.Configurations.{IsConfiguration};
+    ghost use Rattle.lq_simplex.specs.Table.{table_rows, table_last, table_limits, Handed};
 
     /// An empty tableau for rows over the terms below `terms`, whose checks make at most `limit` pivots each.
     pub fn new(alloc: Global, terms: u64, limit: u64) -> Result<Tableau, AllocError>
         ensures rows { IfOk result (λ tableau. table_rows tableau ≡ []) }
         ensures last { IfOk result (λ tableau. table_last tableau ≡ Nothing) }
         ensures limits { IfOk result (λ tableau. table_limits tableau ≡ terms ∷ limit ∷ []) }
+        ensures handed { IfOk result (λ tableau. Handed tableau []) }
     {
         let basis = Basis::new(alloc, terms)?;
         Ok(Tableau {
@@ -234,14 +241,23 @@ impl Tableau {
             answer: Answer::Unasked,
         })
     }
+
+    /// What always holds of a tableau, as a law: at every point each variable is the combination of free ones that its line says, and
+    /// the free ones can be chosen freely. A free one has the value 0 or a bound that a row gives which was handed.
+    pub fn configuration(&self)
+        ensures configured { IsConfiguration self.now.system }
+        ensures rests { (ever : List Row) → Handed self.now ever → Rests ever self.now.system }
+    {
+        let _ = self.basis.values();
+    }
 }
 
 impl LinearEngine for Tableau {
-    ghost use Rattle.lq_simplex.specs.Table.{table_rows, table_last, table_limits, table_point, table_multipliers, TakesRow, MayStop};
+    ghost use Rattle.lq_simplex.specs.Table.{table_rows, table_last, table_limits, table_point, table_multipliers, TakesRow, Handed, MayStop};
 
     ghost standing = { table_rows };
 
-    ghost handed = { λ tableau rows. Unit {0} };
+    ghost handed = { Handed };
 
     ghost last = { table_last };
 

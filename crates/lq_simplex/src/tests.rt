@@ -434,6 +434,43 @@ fn after_a_stop(rt: HostRuntime) {
     assert!(rt; tableau.value(0) == Frac::whole(7));
 }
 
+/// Coefficients near 2^127 stop a pivot. The rows that stand are left, and after going back the tableau goes on.
+#[test]
+fn after_a_stop_of_a_check(rt: HostRuntime) {
+    let first = row(&rt, (i128::MAX, i128::MAX - 1, 0, -1, true));
+    let second = row(&rt, (i128::MAX - 2, i128::MAX - 4, 0, -1, true));
+    let third = row(&rt, (0, 0, 1, -5, true));
+    let mut tableau = empty(&rt, 1000);
+    let mark = tableau.mark();
+    assert!(rt; tableau.assert_row(&first, 1).is_ok());
+    assert!(rt; tableau.assert_row(&second, 2).is_ok());
+    assert!(rt; matches!(tableau.check(), Err(LinearStop::Number(_))));
+    assert!(rt; tableau.mark().0 == 2);
+    tableau.back_to(mark);
+    assert!(rt; tableau.assert_row(&third, 1).is_ok());
+    assert!(rt; tableau.check().is_ok_and(|v| v == Verdict::Holds));
+    assert!(rt; tableau.value(2) == Frac::whole(5));
+}
+
+/// The verdict of an engine, asked through its bound.
+fn verdict<E: LinearEngine>(engine: &mut E) -> Option<Verdict>
+    requires { E.last engine.old ≢ Stopped }
+{
+    match engine.check() {
+        Ok(verdict) => Some(verdict),
+        Err(_) => None,
+    }
+}
+
+#[test]
+fn through_the_bound(rt: HostRuntime) {
+    // x + y >= 1, x <= 0
+    let mut tableau = filled(&rt, 1000, &[(-1, -1, 0, 1, false), (1, 0, 0, 0, false)]);
+    tableau.configuration();
+    assert!(rt; verdict(&mut tableau).is_some_and(|v| v == Verdict::Holds));
+    tableau.configuration();
+}
+
 /// A number from -4 to 4.
 fn small(seed: u64) -> i128 {
     (seed % 9) as i128 - 4

@@ -1,12 +1,10 @@
-pub mod Lexing
-pub mod Parsing
+pub mod Nodes
+pub mod Others
+pub mod Gathering
+pub mod Lists
 pub mod NameLists
 pub mod Unique
 pub mod Kept
 pub mod Scoping
-pub mod Names
+pub mod Small
 pub mod Counting
-pub mod Running
-pub mod Values
-pub mod Bound
-pub mod Safety

@@ -1,81 +1,85 @@
--- A text is at most one program, whose uses are bound in at most one way.
+-- A program is bound in at most one way.
 use Rattle.std.specs.Prelude.{slice_get}
-use Rattle.std.proofs.Common.{◌≡◌, ⊎_elim, ℕ, suc, ◌<◌, List, [], ◌∷◌, length, get_or, Some, refl, sym, ap, subst, ◌∙◌, arith}
-use Rattle.std.proofs.lemmas.Option.{slice_get_within, slice_get-get_or}
+use Rattle.std.proofs.Common.{◌≡◌, ⊎_elim, ℕ, suc, ◌<◌, List, [], ◌∷◌, length, Some, refl, sym, ap, subst, ◌∙◌, arith}
+use Rattle.std.proofs.lemmas.Option.{slice_get_within}
 use Rattle.std.proofs.lemmas.Bool.{cases_lt}
 use Rattle.lq_name.specs.declared.name.Binder.{Binder}
-use Rattle.lq_straight.specs.declared.token.Span.{Span}
+use Rattle.lq_name.specs.declared.place.Place.{Place}
+use Rattle.lq_straight.specs.declared.item.NameAt.{NameAt}
 use Rattle.lq_straight.specs.declared.item.Sum.{Sum}
 use Rattle.lq_straight.specs.declared.item.Sum.TheVariants as sum
 use Rattle.lq_straight.specs.declared.item.Right.{Right}
 use Rattle.lq_straight.specs.declared.item.Right.TheVariants as right
+use Rattle.lq_straight.specs.declared.item.Printed.{Printed}
+use Rattle.lq_straight.specs.declared.item.Printed.TheVariants as printed
 use Rattle.lq_straight.specs.declared.item.Order.{Order}
 use Rattle.lq_straight.specs.declared.item.Assertion.{Assertion}
 use Rattle.lq_straight.specs.declared.item.Item.{Item}
-use Rattle.lq_straight.specs.declared.item.Item.TheVariants as item
-use Rattle.lq_straight.specs.Program.{IsProgram, text_of, used_by_sum, used_by_right, used}
-use Rattle.lq_straight.specs.Scope.{IsNearest, IsBoundSum, IsBoundRight, IsBoundAssertion, IsBound, Resolves, EachName, IsFirstNot, IsKnown, IsFirstUnknown}
-use Rattle.lq_straight.proofs.Lexing.{one_list}
-use Rattle.lq_straight.proofs.Parsing.{spelled, one_program}
+use Rattle.lq_straight.specs.declared.item.ItemNode.{ItemNode}
+use Rattle.lq_straight.specs.declared.item.ItemNode.TheVariants.{Define, Assert, Print}
+use Rattle.lq_straight.specs.Uses.{used_by_sum, used_by_right, used_by_printed, used_by_node, used}
+use Rattle.lq_straight.specs.Scope.{IsNearest, IsBoundSum, IsBoundRight, IsBoundAssertion, IsBoundPrinted, IsBoundNode, IsBound, Resolves, EachName, IsFirstNot, IsKnown, IsFirstUnknown}
+use Rattle.lq_straight.proofs.Lists.{item_at}
 use Rattle.lq_straight.proofs.NameLists.{each_append, first_once, first_or_each}
 
-pub one_reading : (text : List ℕ) (items others : List (Item Span)) → IsProgram text items → IsProgram text others → items ≡ others
-one_reading text items others is also = one_program items others (one_list text 0 (spelled items) (spelled others) is also)
-
 -- a later first unknown name is none where an item before it has one
-not_earlier : (text : List ℕ) (items : List (Item Span)) (x y : Span) (a : IsFirstUnknown text items x) (b : IsFirstUnknown text items y) → a.at < b.at → ⊥
-not_earlier text items x y a b lt = first_or_each (IsKnown text items a.at) (used a.here) x a.first (b.earlier a.at a.here lt a.is)
+not_earlier : (items : List (Item NameAt)) (x y : NameAt) (a : IsFirstUnknown items x) (b : IsFirstUnknown items y) → a.at < b.at → ⊥
+not_earlier items x y a b lt = first_or_each (IsKnown items a.at) (used a.here) x a.first (b.earlier a.at a.here lt a.is)
 
-pub one_unknown : (text : List ℕ) (items : List (Item Span)) (x y : Span) → IsFirstUnknown text items x → IsFirstUnknown text items y → x ≡ y
-one_unknown text items x y a b =
-    ⊎_elim (λ less. absurd (not_earlier text items x y a b less))
-    (λ more. ⊎_elim (λ less. absurd (not_earlier text items y x b a less))
+pub one_unknown : (items : List (Item NameAt)) (x y : NameAt) → IsFirstUnknown items x → IsFirstUnknown items y → x ≡ y
+one_unknown items x y a b =
+    ⊎_elim (λ less. absurd (not_earlier items x y a b less))
+    (λ more. ⊎_elim (λ less. absurd (not_earlier items y x b a less))
     (λ also.
     let same : a.at ≡ b.at = omega arith in
     let there : slice_get items b.at ≡ Some a.here = subst (λ (n : ℕ). slice_get items n ≡ Some a.here) same a.is in
     let here : Some a.here ≡ Some b.here = sym there ∙ b.is in
     let item_is : a.here ≡ b.here = cc in
-    let first = subst (λ (n : ℕ). IsFirstNot (IsKnown text items n) (used a.here) x) same a.first in
-    first_once (IsKnown text items b.at) (used b.here) x y (subst (λ (i : Item Span). IsFirstNot (IsKnown text items b.at) (used i) x) item_is first) b.first)
+    let first = subst (λ (n : ℕ). IsFirstNot (IsKnown items n) (used a.here) x) same a.first in
+    first_once (IsKnown items b.at) (used b.here) x y (subst (λ (i : Item NameAt). IsFirstNot (IsKnown items b.at) (used i) x) item_is first) b.first)
     (cases_lt b.at a.at))
     (cases_lt a.at b.at)
 
 -- a bound use is known
-nearest_known : (text : List ℕ) (items : List (Item Span)) (at : ℕ) (x : Span) (k : ℕ) → IsNearest text items at (text_of text x) k → IsKnown text items at x
-nearest_known text items at x k is = (k, is.before, is.defines)
+nearest_known : (items : List (Item NameAt)) (at : ℕ) (x : NameAt) (k : ℕ) → IsNearest items at x.name.0 k → IsKnown items at x
+nearest_known items at x k is = (k, is.before, is.defines)
 
-sum_known : (text : List ℕ) (items : List (Item Span)) (at : ℕ) (s : Sum Span) (t : Sum Binder) → IsBoundSum text items at s t → EachName (IsKnown text items at) (used_by_sum s)
-sum_known text items at (sum.Use x) (sum.Use b) is = (nearest_known text items at x b.0 is, tt)
-sum_known text items at (sum.Add x n) (sum.Add b m) is = (nearest_known text items at x b.0 is.0, tt)
-sum_known text items at (sum.Sub x n) (sum.Sub b m) is = (nearest_known text items at x b.0 is.0, tt)
-sum_known text items at (sum.Whole n) (sum.Whole m) is = tt
-sum_known text items at (sum.Negative n) (sum.Negative m) is = tt
-sum_known text items at s t is = absurd is
+sum_known : (items : List (Item NameAt)) (at : ℕ) (s : Sum NameAt) (t : Sum Binder) → IsBoundSum items at s t → EachName (IsKnown items at) (used_by_sum s)
+sum_known items at (sum.Use x) (sum.Use b) is = (nearest_known items at x b.0 is, tt)
+sum_known items at (sum.Add x n) (sum.Add b m) is = (nearest_known items at x b.0 is.0, tt)
+sum_known items at (sum.Sub x n) (sum.Sub b m) is = (nearest_known items at x b.0 is.0, tt)
+sum_known items at (sum.Whole n) (sum.Whole m) is = tt
+sum_known items at (sum.Negative n) (sum.Negative m) is = tt
+sum_known items at s t is = absurd is
 
-right_known : (text : List ℕ) (items : List (Item Span)) (at : ℕ) (r : Right Span) (s : Right Binder) → IsBoundRight text items at r s → EachName (IsKnown text items at) (used_by_right r)
-right_known text items at (right.Read p) (right.Read q) is = tt
-right_known text items at (right.Sum s) (right.Sum t) is = sum_known text items at s t is
-right_known text items at r s is = absurd is
+right_known : (items : List (Item NameAt)) (at : ℕ) (r : Right NameAt) (s : Right Binder) → IsBoundRight items at r s → EachName (IsKnown items at) (used_by_right r)
+right_known items at (right.Read p) (right.Read q) is = tt
+right_known items at (right.Sum s) (right.Sum t) is = sum_known items at s t is
+right_known items at r s is = absurd is
 
-item_known : (text : List ℕ) (items : List (Item Span)) (at : ℕ) (i : Item Span) (j : Item Binder) → IsBound text items at i j → EachName (IsKnown text items at) (used i)
-item_known text items at (item.Define x r) (item.Define b s) is = right_known text items at r s is.1
-item_known text items at (item.Assert a) (item.Assert b) is =
-    each_append (IsKnown text items at) (used_by_sum a.left) (used_by_sum a.right) (sum_known text items at a.left b.left is.left) (sum_known text items at a.right b.right is.right)
-item_known text items at i j is = absurd is
+printed_known : (items : List (Item NameAt)) (at : ℕ) (e : Printed NameAt) (f : Printed Binder) → IsBoundPrinted items at e f → EachName (IsKnown items at) (used_by_printed e)
+printed_known items at (printed.Sum s) (printed.Sum t) is = sum_known items at s t is
+printed_known items at (printed.Add m n) (printed.Add k l) is = tt
+printed_known items at (printed.Sub m n) (printed.Sub k l) is = tt
+printed_known items at e f is = absurd is
 
-abbrev filler : Item Binder
-filler = item.Define (record { 0 = 0 }) (right.Read 0)
+node_known : (items : List (Item NameAt)) (at : ℕ) (i : ItemNode NameAt) (j : ItemNode Binder) → IsBoundNode items at i j → EachName (IsKnown items at) (used_by_node i)
+node_known items at (Define x r) (Define b s) is = right_known items at r s is.1
+node_known items at (Assert a) (Assert b) is =
+    each_append (IsKnown items at) (used_by_sum a.left) (used_by_sum a.right) (sum_known items at a.left b.left is.left) (sum_known items at a.right b.right is.right)
+node_known items at (Print e) (Print f) is = printed_known items at e f is
+node_known items at i j is = absurd is
 
 -- a program with an unknown name doesn't resolve
-pub unknown_or_resolved : (text : List ℕ) (items : List (Item Span)) (scoped : List (Item Binder)) (x : Span) → IsFirstUnknown text items x → Resolves text items scoped → ⊥
-unknown_or_resolved text items scoped x unknown resolves =
+pub unknown_or_resolved : (items : List (Item NameAt)) (scoped : List (Item Binder)) (x : NameAt) → IsFirstUnknown items x → Resolves items scoped → ⊥
+unknown_or_resolved items scoped x unknown resolves =
     let lt = slice_get_within items unknown.at unknown.here unknown.is in
-    let bound = slice_get-get_or scoped unknown.at filler (omega (arith, resolves.count, lt)) in
-    first_or_each (IsKnown text items unknown.at) (used unknown.here) x unknown.first
-    (item_known text items unknown.at unknown.here (get_or scoped unknown.at filler) (resolves.each unknown.at unknown.here (get_or scoped unknown.at filler) unknown.is bound))
+    let bound = item_at scoped unknown.at (omega (arith, resolves.count, lt)) in
+    first_or_each (IsKnown items unknown.at) (used unknown.here) x unknown.first
+    (node_known items unknown.at unknown.here.node bound.0.node (resolves.each unknown.at unknown.here bound.0 unknown.is bound.1).node)
 
-nearest_once : (text : List ℕ) (items : List (Item Span)) (at : ℕ) (name : List ℕ) (j k : ℕ) → IsNearest text items at name j → IsNearest text items at name k → j ≡ k
-nearest_once text items at name j k a b =
+nearest_once : (items : List (Item NameAt)) (at : ℕ) (name : ℕ) (j k : ℕ) → IsNearest items at name j → IsNearest items at name k → j ≡ k
+nearest_once items at name j k a b =
     ⊎_elim (λ less. absurd (a.last k less b.before b.defines))
     (λ more. ⊎_elim (λ less. absurd (b.last j less a.before a.defines)) (λ also. omega arith) (cases_lt k j))
     (cases_lt j k)
@@ -84,60 +88,109 @@ binder_same : (b c : Binder) → b.0 ≡ c.0 → b ≡ c
 binder_same b c e = let of : ℕ → Binder = λ n. record { 0 = n } in ap of e
 
 -- the bound forms of each sum
-of_use : (text : List ℕ) (items : List (Item Span)) (at : ℕ) (x : Span) (s : Sum Binder) → IsBoundSum text items at (sum.Use x) s → (b : Binder) × (s ≡ sum.Use b) × IsNearest text items at (text_of text x) b.0
-of_use text items at x (sum.Use b) is = (b, refl, is)
-of_use text items at x s is = absurd is
+of_use : (items : List (Item NameAt)) (at : ℕ) (x : NameAt) (s : Sum Binder) → IsBoundSum items at (sum.Use x) s → (b : Binder) × (s ≡ sum.Use b) × IsNearest items at x.name.0 b.0
+of_use items at x (sum.Use b) is = (b, refl, is)
+of_use items at x s is = absurd is
 
-of_add : (text : List ℕ) (items : List (Item Span)) (at : ℕ) (x : Span) (n : ℕ) (s : Sum Binder) → IsBoundSum text items at (sum.Add x n) s → (b : Binder) × (s ≡ sum.Add b n) × IsNearest text items at (text_of text x) b.0
-of_add text items at x n (sum.Add b m) is = (b, ap (λ (k : ℕ). sum.Add b k) (sym is.1), is.0)
-of_add text items at x n s is = absurd is
+of_add : (items : List (Item NameAt)) (at : ℕ) (x : NameAt) (n : ℕ) (s : Sum Binder) → IsBoundSum items at (sum.Add x n) s → (b : Binder) × (s ≡ sum.Add b n) × IsNearest items at x.name.0 b.0
+of_add items at x n (sum.Add b m) is = (b, ap (λ (k : ℕ). sum.Add b k) (sym is.1), is.0)
+of_add items at x n s is = absurd is
 
-of_sub : (text : List ℕ) (items : List (Item Span)) (at : ℕ) (x : Span) (n : ℕ) (s : Sum Binder) → IsBoundSum text items at (sum.Sub x n) s → (b : Binder) × (s ≡ sum.Sub b n) × IsNearest text items at (text_of text x) b.0
-of_sub text items at x n (sum.Sub b m) is = (b, ap (λ (k : ℕ). sum.Sub b k) (sym is.1), is.0)
-of_sub text items at x n s is = absurd is
+of_sub : (items : List (Item NameAt)) (at : ℕ) (x : NameAt) (n : ℕ) (s : Sum Binder) → IsBoundSum items at (sum.Sub x n) s → (b : Binder) × (s ≡ sum.Sub b n) × IsNearest items at x.name.0 b.0
+of_sub items at x n (sum.Sub b m) is = (b, ap (λ (k : ℕ). sum.Sub b k) (sym is.1), is.0)
+of_sub items at x n s is = absurd is
 
-of_whole : (text : List ℕ) (items : List (Item Span)) (at n : ℕ) (s : Sum Binder) → IsBoundSum text items at (sum.Whole n) s → s ≡ sum.Whole n
-of_whole text items at n (sum.Whole m) is = ap (λ (k : ℕ). sum.Whole k) (sym is)
-of_whole text items at n s is = absurd is
+of_whole : (items : List (Item NameAt)) (at n : ℕ) (s : Sum Binder) → IsBoundSum items at (sum.Whole n) s → s ≡ sum.Whole n
+of_whole items at n (sum.Whole m) is = ap (λ (k : ℕ). sum.Whole k) (sym is)
+of_whole items at n s is = absurd is
 
-of_negative : (text : List ℕ) (items : List (Item Span)) (at n : ℕ) (s : Sum Binder) → IsBoundSum text items at (sum.Negative n) s → s ≡ sum.Negative n
-of_negative text items at n (sum.Negative m) is = ap (λ (k : ℕ). sum.Negative k) (sym is)
-of_negative text items at n s is = absurd is
+of_negative : (items : List (Item NameAt)) (at n : ℕ) (s : Sum Binder) → IsBoundSum items at (sum.Negative n) s → s ≡ sum.Negative n
+of_negative items at n (sum.Negative m) is = ap (λ (k : ℕ). sum.Negative k) (sym is)
+of_negative items at n s is = absurd is
 
 -- two uses bound in one way
-one_bound : (text : List ℕ) (items : List (Item Span)) (at : ℕ) (name : List ℕ) (s t : Sum Binder) (make : Binder → Sum Binder) → (b : Binder) × (s ≡ make b) × IsNearest text items at name b.0 → (b : Binder) × (t ≡ make b) × IsNearest text items at name b.0 → s ≡ t
-one_bound text items at name s t make a b = a.1 ∙ ap make (binder_same a.0 b.0 (nearest_once text items at name a.0.0 b.0.0 a.2 b.2)) ∙ sym b.1
+one_bound : (items : List (Item NameAt)) (at : ℕ) (name : ℕ) (s t : Sum Binder) (make : Binder → Sum Binder) → (b : Binder) × (s ≡ make b) × IsNearest items at name b.0 → (b : Binder) × (t ≡ make b) × IsNearest items at name b.0 → s ≡ t
+one_bound items at name s t make a b = a.1 ∙ ap make (binder_same a.0 b.0 (nearest_once items at name a.0.0 b.0.0 a.2 b.2)) ∙ sym b.1
 
-sum_once : (text : List ℕ) (items : List (Item Span)) (at : ℕ) (r : Sum Span) (s t : Sum Binder) → IsBoundSum text items at r s → IsBoundSum text items at r t → s ≡ t
-sum_once text items at (sum.Use x) s t a b = one_bound text items at (text_of text x) s t (λ c. sum.Use c) (of_use text items at x s a) (of_use text items at x t b)
-sum_once text items at (sum.Add x n) s t a b = one_bound text items at (text_of text x) s t (λ c. sum.Add c n) (of_add text items at x n s a) (of_add text items at x n t b)
-sum_once text items at (sum.Sub x n) s t a b = one_bound text items at (text_of text x) s t (λ c. sum.Sub c n) (of_sub text items at x n s a) (of_sub text items at x n t b)
-sum_once text items at (sum.Whole n) s t a b = of_whole text items at n s a ∙ sym (of_whole text items at n t b)
-sum_once text items at (sum.Negative n) s t a b = of_negative text items at n s a ∙ sym (of_negative text items at n t b)
+sum_once : (items : List (Item NameAt)) (at : ℕ) (r : Sum NameAt) (s t : Sum Binder) → IsBoundSum items at r s → IsBoundSum items at r t → s ≡ t
+sum_once items at (sum.Use x) s t a b = one_bound items at x.name.0 s t (λ c. sum.Use c) (of_use items at x s a) (of_use items at x t b)
+sum_once items at (sum.Add x n) s t a b = one_bound items at x.name.0 s t (λ c. sum.Add c n) (of_add items at x n s a) (of_add items at x n t b)
+sum_once items at (sum.Sub x n) s t a b = one_bound items at x.name.0 s t (λ c. sum.Sub c n) (of_sub items at x n s a) (of_sub items at x n t b)
+sum_once items at (sum.Whole n) s t a b = of_whole items at n s a ∙ sym (of_whole items at n t b)
+sum_once items at (sum.Negative n) s t a b = of_negative items at n s a ∙ sym (of_negative items at n t b)
 
-right_once : (text : List ℕ) (items : List (Item Span)) (at : ℕ) (r : Right Span) (s t : Right Binder) → IsBoundRight text items at r s → IsBoundRight text items at r t → s ≡ t
-right_once text items at (right.Read p) (right.Read q) (right.Read n) a b = ap (λ (k : ℕ). right.Read k) (sym a ∙ b)
-right_once text items at (right.Sum r) (right.Sum s) (right.Sum t) a b = ap (λ (u : Sum Binder). right.Sum u) (sum_once text items at r s t a b)
-right_once text items at (right.Read p) (right.Sum s) t a b = absurd a
-right_once text items at (right.Sum r) (right.Read q) t a b = absurd a
-right_once text items at r s t a b = absurd b
+right_once : (items : List (Item NameAt)) (at : ℕ) (r : Right NameAt) (s t : Right Binder) → IsBoundRight items at r s → IsBoundRight items at r t → s ≡ t
+right_once items at (right.Read p) (right.Read q) (right.Read n) a b = ap (λ (k : Place). right.Read k) (sym a ∙ b)
+right_once items at (right.Sum r) (right.Sum s) (right.Sum t) a b = ap (λ (u : Sum Binder). right.Sum u) (sum_once items at r s t a b)
+right_once items at (right.Read p) (right.Sum s) t a b = absurd a
+right_once items at (right.Sum r) (right.Read q) t a b = absurd a
+right_once items at r s t a b = absurd b
 
-assertion_once : (text : List ℕ) (items : List (Item Span)) (at : ℕ) (r : Assertion Span) (s t : Assertion Binder) → IsBoundAssertion text items at r s → IsBoundAssertion text items at r t → s ≡ t
-assertion_once text items at r s t a b =
-    let left = sum_once text items at r.left s.left t.left a.left b.left in
-    let right = sum_once text items at r.right s.right t.right a.right b.right in
-    let place : s.at ≡ t.at = sym a.place ∙ b.place in
+-- the bound forms of what is printed
+of_sum : (items : List (Item NameAt)) (at : ℕ) (s : Sum NameAt) (f : Printed Binder) → IsBoundPrinted items at (printed.Sum s) f → (t : Sum Binder) × (f ≡ printed.Sum t) × IsBoundSum items at s t
+of_sum items at s (printed.Sum t) is = (t, refl, is)
+of_sum items at s f is = absurd is
+
+of_two_added : (items : List (Item NameAt)) (at m n : ℕ) (f : Printed Binder) → IsBoundPrinted items at (printed.Add m n) f → f ≡ printed.Add m n
+of_two_added items at m n (printed.Add k l) is = ap (λ (a : ℕ). printed.Add a l) (sym is.0) ∙ ap (λ (a : ℕ). printed.Add m a) (sym is.1)
+of_two_added items at m n f is = absurd is
+
+of_two_parted : (items : List (Item NameAt)) (at m n : ℕ) (f : Printed Binder) → IsBoundPrinted items at (printed.Sub m n) f → f ≡ printed.Sub m n
+of_two_parted items at m n (printed.Sub k l) is = ap (λ (a : ℕ). printed.Sub a l) (sym is.0) ∙ ap (λ (a : ℕ). printed.Sub m a) (sym is.1)
+of_two_parted items at m n f is = absurd is
+
+printed_once : (items : List (Item NameAt)) (at : ℕ) (e : Printed NameAt) (s t : Printed Binder) → IsBoundPrinted items at e s → IsBoundPrinted items at e t → s ≡ t
+printed_once items at (printed.Sum r) s t a b =
+    let p = of_sum items at r s a in
+    let q = of_sum items at r t b in
+    p.1 ∙ ap (λ (u : Sum Binder). printed.Sum u) (sum_once items at r p.0 q.0 p.2 q.2) ∙ sym q.1
+printed_once items at (printed.Add m n) s t a b = of_two_added items at m n s a ∙ sym (of_two_added items at m n t b)
+printed_once items at (printed.Sub m n) s t a b = of_two_parted items at m n s a ∙ sym (of_two_parted items at m n t b)
+
+assertion_once : (items : List (Item NameAt)) (at : ℕ) (r : Assertion NameAt) (s t : Assertion Binder) → IsBoundAssertion items at r s → IsBoundAssertion items at r t → s ≡ t
+assertion_once items at r s t a b =
+    let left = sum_once items at r.left s.left t.left a.left b.left in
+    let right = sum_once items at r.right s.right t.right a.right b.right in
+    let place : s.place ≡ t.place = sym a.place ∙ b.place in
     let order : s.order ≡ t.order = sym a.order ∙ b.order in
-    let make : ℕ → Sum Binder → Order → Sum Binder → Assertion Binder = λ p l o r. record { at = p; left = l; order = o; right = r } in
-    ap (λ (p : ℕ). make p s.left s.order s.right) place ∙ ap (λ (l : Sum Binder). make t.at l s.order s.right) left ∙ ap (λ (o : Order). make t.at t.left o s.right) order ∙ ap (make t.at t.left t.order) right
+    let make : Place → Sum Binder → Order → Sum Binder → Assertion Binder = λ p l o r. record { place = p; left = l; order = o; right = r } in
+    ap (λ (p : Place). make p s.left s.order s.right) place ∙ ap (λ (l : Sum Binder). make t.place l s.order s.right) left ∙ ap (λ (o : Order). make t.place t.left o s.right) order ∙ ap (make t.place t.left t.order) right
 
-item_once : (text : List ℕ) (items : List (Item Span)) (at : ℕ) (i : Item Span) (s t : Item Binder) → IsBound text items at i s → IsBound text items at i t → s ≡ t
-item_once text items at (item.Define x r) (item.Define b s) (item.Define c t) a d =
-    ap (λ (y : Binder). item.Define y s) (binder_same b c (a.0 ∙ sym d.0)) ∙ ap (λ (u : Right Binder). item.Define c u) (right_once text items at r s t a.1 d.1)
-item_once text items at (item.Assert r) (item.Assert s) (item.Assert t) a b = ap (λ (u : Assertion Binder). item.Assert u) (assertion_once text items at r s t a b)
-item_once text items at (item.Define x r) (item.Assert s) t a b = absurd a
-item_once text items at (item.Assert r) (item.Define c s) t a b = absurd a
-item_once text items at i s t a b = absurd b
+-- the bound forms of each form
+of_definition : (items : List (Item NameAt)) (at : ℕ) (x : NameAt) (r : Right NameAt) (j : ItemNode Binder) → IsBoundNode items at (Define x r) j → (b : Binder) × (s : Right Binder) × (j ≡ Define b s) × (b.0 ≡ at) × IsBoundRight items at r s
+of_definition items at x r (Define b s) is = (b, s, refl, is.0, is.1)
+of_definition items at x r j is = absurd is
+
+of_assertion : (items : List (Item NameAt)) (at : ℕ) (a : Assertion NameAt) (j : ItemNode Binder) → IsBoundNode items at (Assert a) j → (b : Assertion Binder) × (j ≡ Assert b) × IsBoundAssertion items at a b
+of_assertion items at a (Assert b) is = (b, refl, is)
+of_assertion items at a j is = absurd is
+
+of_print : (items : List (Item NameAt)) (at : ℕ) (e : Printed NameAt) (j : ItemNode Binder) → IsBoundNode items at (Print e) j → (f : Printed Binder) × (j ≡ Print f) × IsBoundPrinted items at e f
+of_print items at e (Print f) is = (f, refl, is)
+of_print items at e j is = absurd is
+
+node_once : (items : List (Item NameAt)) (at : ℕ) (i : ItemNode NameAt) (s t : ItemNode Binder) → IsBoundNode items at i s → IsBoundNode items at i t → s ≡ t
+node_once items at (Define x r) s t a b =
+    let p = of_definition items at x r s a in
+    let q = of_definition items at x r t b in
+    p.2
+    ∙ ap (λ (y : Binder). Define y p.1) (binder_same p.0 q.0 (p.3 ∙ sym q.3))
+    ∙ ap (λ (u : Right Binder). Define q.0 u) (right_once items at r p.1 q.1 p.4 q.4)
+    ∙ sym q.2
+node_once items at (Assert r) s t a b =
+    let p = of_assertion items at r s a in
+    let q = of_assertion items at r t b in
+    p.1 ∙ ap (λ (u : Assertion Binder). Assert u) (assertion_once items at r p.0 q.0 p.2 q.2) ∙ sym q.1
+node_once items at (Print e) s t a b =
+    let p = of_print items at e s a in
+    let q = of_print items at e t b in
+    p.1 ∙ ap (λ (u : Printed Binder). Print u) (printed_once items at e p.0 q.0 p.2 q.2) ∙ sym q.1
+
+item_once : (items : List (Item NameAt)) (at : ℕ) (i : Item NameAt) (s t : Item Binder) → IsBound items at i s → IsBound items at i t → s ≡ t
+item_once items at i s t a b =
+    let place : s.place ≡ t.place = sym a.place ∙ b.place in
+    let make : Place → ItemNode Binder → Item Binder = λ p n. record { place = p; node = n } in
+    ap (λ (p : Place). make p s.node) place ∙ ap (make t.place) (node_once items at i.node s.node t.node a.node b.node)
 
 -- lists of one length that agree at each place
 same_lists : {A : Type 0} (xs ys : List A) → length xs ≡ length ys → ((k : ℕ) (x y : A) → slice_get xs k ≡ Some x → slice_get ys k ≡ Some y → x ≡ y) → xs ≡ ys
@@ -149,10 +202,7 @@ same_lists (x ∷ xs) (y ∷ ys) len each =
     let rest : xs ≡ ys = same_lists xs ys (omega arith) (λ k v w. each (suc k) v w) in
     cc
 
-pub one_resolved : (text : List ℕ) (items : List (Item Span)) (a b : List (Item Binder)) → Resolves text items a → Resolves text items b → a ≡ b
-one_resolved text items a b r s = same_lists a b (r.count ∙ sym s.count) (λ k x y here also.
-    let there = slice_get-get_or items k none (omega (arith, r.count, slice_get_within a k x here)) in
-    item_once text items k (get_or items k none) x y (r.each k (get_or items k none) x there here) (s.each k (get_or items k none) y there also))
-  where
-    none : Item Span
-    none = item.Define (record { at = 0; len = 0 }) (right.Read 0)
+pub one_resolved : (items : List (Item NameAt)) (a b : List (Item Binder)) → Resolves items a → Resolves items b → a ≡ b
+one_resolved items a b r s = same_lists a b (r.count ∙ sym s.count) (λ k x y here also.
+    let there = item_at items k (omega (arith, r.count, slice_get_within a k x here)) in
+    item_once items k there.0 x y (r.each k there.0 x there.1 here) (s.each k there.0 y there.1 also))

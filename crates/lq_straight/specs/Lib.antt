@@ -1,8 +1,7 @@
-pub mod Words
-pub mod Tokens
-pub mod Program
-pub mod Front
-pub mod Places
+pub mod Names
+pub mod Forms
+pub mod Recognising
+pub mod Uses
 pub mod Scope
 pub mod Visible
 pub mod Meaning

@@ -5,4 +5,4 @@ use Rattle.lq_app.proofs.failures.push_point.Given as goal
 
 abbrev pub invariant-loop-at : goal.invariant-loop-at
 invariant-loop-at l =
-    (lines : List ℕ) × (l.line.items ≡ l.fn.line.items ++ lines) × ShowsPoint l.names.text.now l.names.items.now (as_point l.point) (take l.at (table_of (values_of l.point))) lines
+    (lines : List ℕ) × (l.line.items ≡ l.fn.line.items ++ lines) × ShowsPoint l.names.table.now l.names.items.now (as_point l.point) (take l.at (table_of (values_of l.point))) lines

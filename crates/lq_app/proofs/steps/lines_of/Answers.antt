@@ -3,15 +3,20 @@ use Rattle.std.proofs.lemmas.Option.{slice_get-get_or}
 use Rattle.lq_name.specs.declared.name.Binder.{Binder}
 use Rattle.lq_demand.specs.Straight.{Step, implications_of}
 use Rattle.lq_demand.specs.Plain.{IsPlainStep}
-use Rattle.lq_straight.specs.declared.item.Right.TheVariants as right
+use Rattle.lq_name.specs.declared.place.TextKind.TheVariants.{Program}
 use Rattle.lq_straight.specs.declared.item.Item.{Item}
-use Rattle.lq_straight.specs.declared.item.Item.TheVariants as item
+use Rattle.lq_name.specs.declared.place.Place.{Place}
+use Rattle.lq_straight.specs.declared.item.ItemNode.TheVariants.{Define}
+use Rattle.lq_straight.specs.declared.item.Right.TheVariants.{Read}
 use Rattle.lq_app.specs.Steps.{item_steps}
 use Rattle.lq_app.proofs.Plain.{steps_plain, steps_demand, steps_more, steps_all, small_at}
 use Rattle.lq_app.proofs.steps.lines_of.Goals as goal
 
+abbrev somewhere : Place
+somewhere = record { text = Program; line = 0; column = 0 }
+
 abbrev filler : Item Binder
-filler = item.Define (record { 0 = 0 }) (right.Read 0)
+filler = record { place = somewhere; node = Define (record { 0 = 0 }) (Read somewhere) }
 
 pub push_item-requires : goal.push_item-requires
 push_item-requires c = small_at c.args.items.now c.loop-item.item-index (get_or c.args.items.now c.loop-item.item-index filler) c.requires (slice_get-get_or c.args.items.now c.loop-item.item-index filler (omega arith))

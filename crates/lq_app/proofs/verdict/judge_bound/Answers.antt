@@ -8,15 +8,15 @@ use Rattle.lq_demand.specs.AskedView.{FailsAt}
 use Rattle.lq_app.proofs.verdict.judge_bound.Goals as goal
 
 pub returns-in-Valid : goal.returns-in-Valid
-returns-in-Valid c =
+returns-in-Valid c = λ text bound.
     let is = ap (λ (a : Asked). Ok a) c.in-Valid.is in
     let same = c.in_ok-lines.ensures.demands in
     let valid = subst (λ (l : List Implication). All IsValid l) same (c.in_ok-ask.ensures.valid is) in (
       record {
-        of = record { items = c.args.items.now; scoped = c.args.scoped.now; bound = c.requires.bound };
+        of = record { program = bound.program; items = c.args.items.now; scoped = c.args.scoped.now; recognised = bound.recognised; resolves = bound.resolves };
         gathered = subst (λ (l : List Implication). All CanBeGathered l) same (c.in_ok-ask.ensures.gathered is);
         valid = valid;
-        safe = c.valid_programs_are_safe.ensures c.args.text.now c.args.items.now c.args.scoped.now c.requires.bound.resolves valid;
+        safe = c.valid_programs_are_safe.ensures c.args.items.now c.args.scoped.now bound.resolves valid;
       },
       c.from_bytes.ensures ∙ c.new.ensures.items,
     )
@@ -37,3 +37,6 @@ past_number-requires-clause-past c =
     let stop = c.in-Stops-default-Number in
     let is = stop.is ∙ ap (λ (s : Stop). Stops stop.number s) stop.field-1-is in
     (c.in_ok-ask.ensures.number stop.number stop.past (ap (λ (a : Asked). Ok a) is)).0
+
+pub returns-in-Stops-default-Number : goal.returns-in-Stops-default-Number
+returns-in-Stops-default-Number c = λ text bound. c.past_number.ensures text c.args.table.now c.args.items.now bound

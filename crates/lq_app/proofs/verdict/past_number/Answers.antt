@@ -1,20 +1,21 @@
 use Rattle.std.specs.Prelude.{codes}
-use Rattle.std.proofs.Common.{◌++◌, inr, [], ℕ, sym, ap, ◌∙◌, arith}
+use Rattle.std.proofs.Common.{◌++◌, inr, [], sym, ap, ◌∙◌, arith}
+use Rattle.lq_name.specs.declared.place.Place.{Place}
 use Rattle.lq_app.specs.Texts.{past_text}
-use Rattle.lq_app.specs.Judgement.{head_at}
+use Rattle.lq_app.specs.Judgement.{head_lines}
 use Rattle.lq_app.proofs.Asserted.{below}
 use Rattle.lq_app.proofs.verdict.past_number.Goals as goal
 
-pub past_report-requires-clause-number : goal.past_report-requires-clause-number
-past_report-requires-clause-number c =
+pub past_report-requires : goal.past_report-requires
+past_report-requires c =
     let lt = below [] c.args.scoped.now c.args.number c.requires.first.large c.requires.first.at in
     omega arith
 
 pub returns : goal.returns
-returns c =
-    let at = c.in_ok-at.ensures in
+returns c = λ text names items bound.
+    let at = c.in_ok-place.ensures in
     inr (record {
-      of = record { items = c.requires.bound.0; scoped = c.args.scoped.now; bound = c.requires.bound.1 };
+      of = record { program = bound.program; items = items; scoped = c.args.scoped.now; recognised = bound.recognised; resolves = bound.resolves };
       number = c.args.number;
       first = c.requires.first;
       past = c.args.past.now;
@@ -22,5 +23,5 @@ returns c =
       assertion = at.0;
       asserted = at.1;
       written = c.in_ok-report.ensures
-          ∙ ap (λ (n : ℕ). head_at (codes "undecided\n") c.args.text.now c.args.number n ++ codes "number past " ++ past_text c.args.past.now ++ codes "\n") (sym at.2);
+          ∙ ap (λ (p : Place). head_lines (codes "undecided\n") c.args.number p ++ codes "number past " ++ past_text c.args.past.now ++ codes "\n") (sym at.2);
     })

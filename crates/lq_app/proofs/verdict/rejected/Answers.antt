@@ -1,8 +1,10 @@
 use Rattle.std.specs.Prelude.{codes}
 use Rattle.std.proofs.Common.{◌++◌, [], ℕ, List, sym, ap, subst, ◌∙◌, arith}
+use Rattle.lq_name.specs.declared.place.Place.{Place}
 use Rattle.lq_pred.specs.Sum.{Sum as Term}
+use Rattle.lq_pred.specs.Implication.{terms_in}
 use Rattle.lq_point.specs.Values.{as_point}
-use Rattle.lq_app.specs.Judgement.{head_at, ShowsPoint}
+use Rattle.lq_app.specs.Judgement.{head_lines, ShowsPoint}
 use Rattle.lq_app.proofs.Asserted.{below}
 use Rattle.lq_app.proofs.verdict.rejected.Goals as goal
 
@@ -10,23 +12,24 @@ pub rejected_report-requires-clause-number : goal.rejected_report-requires-claus
 rejected_report-requires-clause-number c =
     let first = c.requires.fails.first in
     let lt = below [] c.args.scoped.now c.args.number first.failing first.at in
-    let count = c.requires.bound.resolves.count in
+    let count = c.requires.count in
     omega arith
 
 pub returns : goal.returns
-returns c =
+returns c = λ text bound.
     let report = c.in_ok-report.ensures in
-    let at = c.in_ok-at.ensures in (
+    let at = c.in_ok-place.ensures in
+    let shown = subst (λ (l : List Term). ShowsPoint c.args.table.now c.args.items.now (as_point c.args.point.now) l report.0) c.requires.fails.terms report.2 in (
       record {
-        of = record { items = c.args.items.now; scoped = c.args.scoped.now; bound = c.requires.bound };
+        of = record { program = bound.program; items = c.args.items.now; scoped = c.args.scoped.now; recognised = bound.recognised; resolves = bound.resolves };
         number = c.args.number;
         point = as_point c.args.point.now;
         first = c.requires.fails.first;
         assertion = at.0;
         asserted = at.1;
         lines = report.0;
-        shows = subst (λ (l : List Term). ShowsPoint c.args.text.now c.args.items.now (as_point c.args.point.now) l report.0) c.requires.fails.terms report.2;
-        written = report.1 ∙ ap (λ (n : ℕ). head_at (codes "rejected\n") c.args.text.now c.args.number n ++ report.0) (sym at.2);
+        shows = subst (λ (names : List (List ℕ)). ShowsPoint names c.args.items.now (as_point c.args.point.now) (terms_in c.requires.fails.first.failing) report.0) (sym bound.named) shown;
+        written = report.1 ∙ ap (λ (p : Place). head_lines (codes "rejected\n") c.args.number p ++ report.0) (sym at.2);
       },
       c.from_bytes-explained.ensures ∙ c.new.ensures.items,
     )

@@ -1,8 +1,9 @@
 use Rattle.std.specs.Prelude.{codes}
-use Rattle.std.proofs.Common.{◌++◌, inl, [], ℕ, sym, ap, ◌∙◌, arith}
+use Rattle.std.proofs.Common.{◌++◌, inl, [], ℕ, List, sym, ap, ◌∙◌, arith}
+use Rattle.lq_name.specs.declared.place.Place.{Place}
 use Rattle.lq_pred.specs.PredView.{formula_of}
 use Rattle.lq_app.specs.Texts.{formula_text}
-use Rattle.lq_app.specs.Judgement.{head_at}
+use Rattle.lq_app.specs.Judgement.{head_lines}
 use Rattle.lq_app.proofs.Asserted.{below}
 use Rattle.lq_app.proofs.verdict.ungathered.Goals as goal
 
@@ -10,19 +11,20 @@ pub ungathered_report-requires-clause-number : goal.ungathered_report-requires-c
 ungathered_report-requires-clause-number c =
     let first = c.requires.first in
     let lt = below [] c.args.scoped.now c.args.number first.ungathered first.at in
-    let count = c.requires.bound.resolves.count in
+    let count = c.requires.count in
     omega arith
 
 pub returns : goal.returns
-returns c =
-    let at = c.in_ok-at.ensures in
+returns c = λ text bound.
+    let at = c.in_ok-place.ensures in
     inl (record {
-      of = record { items = c.args.items.now; scoped = c.args.scoped.now; bound = c.requires.bound };
+      of = record { program = bound.program; items = c.args.items.now; scoped = c.args.scoped.now; recognised = bound.recognised; resolves = bound.resolves };
       number = c.args.number;
       formula = formula_of c.args.pred.now;
       first = c.requires.first;
       assertion = at.0;
       asserted = at.1;
       written = c.in_ok-report.ensures
-          ∙ ap (λ (n : ℕ). head_at (codes "undecided\n") c.args.text.now c.args.number n ++ codes "number past in " ++ formula_text c.args.text.now c.args.items.now (formula_of c.args.pred.now) ++ codes "\n") (sym at.2);
+          ∙ ap (λ (p : Place). head_lines (codes "undecided\n") c.args.number p ++ codes "number past in " ++ formula_text c.args.table.now c.args.items.now (formula_of c.args.pred.now) ++ codes "\n") (sym at.2)
+          ∙ ap (λ (names : List (List ℕ)). head_lines (codes "undecided\n") c.args.number at.0.place ++ codes "number past in " ++ formula_text names c.args.items.now (formula_of c.args.pred.now) ++ codes "\n") (sym bound.named);
     })

@@ -1,9 +1,9 @@
 use Rattle.std.proofs.lemmas.Result.{IfOk-weaker}
 use Rattle.lq_demand.specs.AskedView.{IsAnswer, StopsBy}
-use Rattle.std.proofs.Common.{◌≡◌, [], length, ap, sym, ◌∙◌, subst}
+use Rattle.std.proofs.Common.{[], sym, subst}
 use Rattle.lq_pred.specs.TableView.{terms_of}
 use Rattle.lq_demand.specs.Gathered.{AreProblems}
-use Rattle.lq_demand.specs.Halts.{NoneBefore, HaltsBy}
+use Rattle.lq_demand.specs.Halts.{NoneBefore}
 use Rattle.lq_demand.specs.LinesView.{steps_of}
 use Rattle.lq_demand.specs.Problem.{problems_of}
 use Rattle.lq_demand.specs.Straight.{implications_of}

@@ -1,8 +1,8 @@
-use Rattle.std.proofs.Common.{◌≡◌, ◌<◌, ◌≤◌, ◌+◌, ◌++◌, ◌∷◌, [], Some, suc, map, length, take, drop, slice_get, get_or, ap, ap₂, subst, sym, ◌∙◌, arith}
+use Rattle.std.proofs.Common.{◌≡◌, ◌<◌, ◌+◌, ◌++◌, ◌∷◌, [], Some, suc, map, length, take, drop, slice_get, get_or, ap, ap₂, subst, sym, ◌∙◌, arith}
 use Rattle.std.proofs.lemmas.List.{map_push}
-use Rattle.lq_pred.specs.PredView.{formula_of, implication_of}
+use Rattle.lq_pred.specs.PredView.{formula_of}
 use Rattle.lq_demand.specs.LinesView.{step_of}
-use Rattle.lq_demand.specs.Straight.{assume, demand, implication, implications_of, assumed_in}
+use Rattle.lq_demand.specs.Straight.{implication, implications_of, assumed_in}
 use Rattle.lq_demand.proofs.Steps.{split_at, take_line, demand_at, assumed_more, assumed_same, count_same, count_more}
 use Rattle.lq_demand.proofs.closed.closed_at.Goals as goal
 use Rattle.lq_demand.proofs.closed.closed_at.Goals.{in-Assume+in_ok-copy-in-Assume+in_ok-push-in-Assume, in-Demand+else-demands-number}

@@ -1,4 +1,4 @@
-use Rattle.std.proofs.Common.{◌≡◌, ◌<◌, ◌≤◌, map, length, take, get_or, ap, subst, sym, ◌∙◌, arith}
+use Rattle.std.proofs.Common.{◌≡◌, ◌<◌, ◌≤◌, map, length, take, get_or, subst, arith}
 use Rattle.std.proofs.lemmas.List.{take_all, length-map}
 use Rattle.lq_pred.specs.PredView.{formula_of}
 use Rattle.lq_pred.specs.TableView.{terms_of}

@@ -1,9 +1,9 @@
-use Rattle.std.proofs.Common.{◌≡◌, refl, sym, ap, subst, ◌∙◌}
+use Rattle.std.proofs.Common.{refl, subst, ◌∙◌}
 use Rattle.lq_pred.specs.PredView.{implication_of}
 use Rattle.lq_pred.specs.Literals.{implication_literals}
 use Rattle.lq_pred.specs.TableView.{terms_of}
 use Rattle.lq_point.specs.Evaluation.{IsStepOf}
-use Rattle.lq_point.specs.Values.{numbers_of, table_of, point_of_values}
+use Rattle.lq_point.specs.Values.{numbers_of, point_of_values}
 use Rattle.lq_demand.specs.Problem.{row_sizes}
 use Rattle.lq_demand.specs.Solution.{IsSolution}
 use Rattle.lq_demand.proofs.Counterexample.{halts_of, valid_of, counterexample_of, large_of}

@@ -1,4 +1,4 @@
-use Rattle.std.proofs.Common.{◌≡◌, sym, subst, [], ap}
+use Rattle.std.proofs.Common.{sym, []}
 use Rattle.std.proofs.lemmas.List.{append-nil}
 use Rattle.lq_pred.specs.PredView.{formula_of}
 use Rattle.lq_pred.specs.TableView.{terms_of}

@@ -1,7 +1,6 @@
 use Rattle.std.proofs.Common.{◌≡◌, ◌<◌, [], ap, ◌∙◌, subst, sym, arith}
 use Rattle.std.proofs.lemmas.Result.{err_from_is_err_and}
 use Rattle.lq_linear.specs.Answers.{verdict_of}
-use Rattle.lq_diff.specs.Stops.{StopsBy}
 use Rattle.lq_diff.specs.Table.{table_rows, constants}
 use Rattle.lq_linear.specs.Contradiction.{Solves}
 use Rattle.lq_demand.specs.Problem.{numbered_from}

@@ -1,11 +1,11 @@
-use Rattle.std.proofs.Common.{rules, ◌≡◌, ◌+◌, ◌<◌, ◌≤◌, ◌++◌, [], length, take, ap, sym, ◌∙◌, subst, arith, length-append}
+use Rattle.std.proofs.Common.{◌≡◌, ◌++◌, [], length, take, ap, sym, ◌∙◌, subst, arith, length-append}
 use Rattle.std.proofs.lemmas.List.{length-take-le}
 use Rattle.std.proofs.lemmas.List.Elements.{All-get_or}
-use Rattle.std.proofs.lemmas.Result.{err_from_is_err_and, IfErr-at_err}
+use Rattle.std.proofs.lemmas.Result.{err_from_is_err_and}
 use Rattle.std.specs.Option.{IsNone}
 use Rattle.lq_linear.specs.Contradiction.{tagged}
-use Rattle.lq_diff.specs.Table.{IsDifference, TermsBelow, table_rows}
-use Rattle.lq_demand.specs.Problem.{IsTaken, numbered_from}
+use Rattle.lq_diff.specs.Table.{TermsBelow, table_rows}
+use Rattle.lq_demand.specs.Problem.{IsTaken}
 use Rattle.lq_demand.proofs.Numbered.{length_numbered, fresh, standing_more, stops_by_front}
 use Rattle.lq_demand.proofs.solve.assume.Goals as goal
 

@@ -1,7 +1,5 @@
-use Rattle.std.proofs.Common.{◌≡◌, Bool, true, false, MatchBool, ◌++◌, ◌∷◌, [], ◌+◌, ◌<◌, List, Some, length, take, slice_get, refl, ap, sym, ◌∙◌, subst, arith}
-use Rattle.std.proofs.lemmas.List.{take_all}
+use Rattle.std.proofs.Common.{◌≡◌, Bool, true, false, MatchBool, ◌++◌, [], Some, length, take, slice_get, refl, ap, sym, ◌∙◌, subst, arith}
 use Rattle.std.proofs.lemmas.Option.{slice_get_read}
-use Rattle.lq_linear.specs.Row.{Row}
 use Rattle.lq_diff.specs.Table.{table_rows}
 use Rattle.lq_demand.specs.Problem.{IsGoing, IsSolvable, IsStageTaken, rows_in, known_in, problem_after, problem_sizes, problems_of}
 use Rattle.lq_demand.proofs.Numbered.{known_by}

@@ -1,4 +1,4 @@
-use Rattle.std.proofs.Common.{◌≡◌, take, length}
+use Rattle.std.proofs.Common.{◌≡◌, take}
 use Rattle.lq_diff.specs.Table.{table_rows}
 use Rattle.lq_demand.specs.Problem.{IsGoing, rows_in, known_in, problems_of}
 use Rattle.lq_demand.specs.Halts.{NoneBefore}

@@ -1,13 +1,11 @@
-use Rattle.std.proofs.Common.{◌≡◌, ◌++◌, ◌∷◌, [], ◌+◌, ◌<◌, List, length, refl, ap, sym, ◌∙◌, subst, arith, length-append}
+use Rattle.std.proofs.Common.{◌≡◌, ◌++◌, [], length, refl, ap, sym, ◌∙◌, subst, arith, length-append}
 use Rattle.std.proofs.lemmas.Result.{err_from_is_err_and}
 use Rattle.std.specs.Option.{IsNone}
 use Rattle.lq_linear.specs.Answers.{verdict_of}
-use Rattle.lq_linear.specs.Row.{Row}
 use Rattle.lq_linear.specs.Contradiction.{tagged}
-use Rattle.lq_diff.specs.Table.{TermsBelow, table_rows, constants}
-use Rattle.lq_diff.specs.Stops.{StopsBy}
-use Rattle.lq_demand.specs.Problem.{IsGoing, numbered_from, problem_after, problem_sizes}
-use Rattle.lq_demand.proofs.Numbered.{length_numbered, fresh, standing_one, stops_by_problem, solvable_by, solves_by, stops_by_more, row_sizes-append, take_numbered}
+use Rattle.lq_diff.specs.Table.{TermsBelow, table_rows}
+use Rattle.lq_demand.specs.Problem.{numbered_from}
+use Rattle.lq_demand.proofs.Numbered.{length_numbered, fresh, standing_one, stops_by_problem, solvable_by, solves_by}
 use Rattle.lq_demand.proofs.solve.is_open.Goals as goal
 
 pub assert_row-requires-clause-takes : goal.assert_row-requires-clause-takes

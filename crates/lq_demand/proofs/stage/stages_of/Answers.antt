@@ -5,8 +5,6 @@ use Rattle.lq_pred.specs.TableView.{terms_of}
 use Rattle.lq_demand.specs.LinesView.{step_of}
 use Rattle.lq_demand.specs.Plain.{IsPlainStep}
 use Rattle.lq_demand.specs.Staging.{IsStaging}
-use Rattle.lq_demand.specs.Straight.{assume, demand}
-use Rattle.lq_demand.specs.declared.lines.Line.{Line}
 use Rattle.lq_demand.proofs.Steps.{plain_at, split_at, take_line}
 use Rattle.lq_demand.proofs.Ungathered.{ungathered_at}
 use Rattle.lq_demand.proofs.stage.stages_of.Goals as goal

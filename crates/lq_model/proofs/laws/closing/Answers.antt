@@ -1,3 +1,4 @@
+use Rattle.lq_model.proofs.Binding.{close_behind, fits_binds}
 use Rattle.lq_model.proofs.Substitution.{close-close, close-same, close-none}
 use Rattle.lq_model.proofs.laws.closing.Goals as goal
 
@@ -9,3 +10,9 @@ returns-clause-alike c = close-same
 
 pub returns-clause-by_none : goal.returns-clause-by_none
 returns-clause-by_none c = close-none
+
+pub returns-clause-behind : goal.returns-clause-behind
+returns-clause-behind c = close_behind
+
+pub returns-clause-binds : goal.returns-clause-binds
+returns-clause-binds c = fits_binds

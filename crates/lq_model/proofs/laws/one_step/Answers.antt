@@ -1,4 +1,3 @@
-use Rattle.std.proofs.Common.{sym, ◌∙◌}
 use Rattle.lq_model.proofs.Rows.{step_from, step_to}
 use Rattle.lq_model.proofs.laws.one_step.Goals as goal
 

@@ -1,5 +1,5 @@
 use Rattle.std.proofs.Common.{◌≡◌, ◌∙◌, ap, ap₂, sym}
-use Rattle.lq_pred.specs.Sum.{Sum, mul, div, rem}
+use Rattle.lq_pred.specs.Sum.{mul, div, rem}
 use Rattle.lq_pred.specs.TableView.{terms_of}
 use Rattle.lq_pred.specs.TermView.{sum_of}
 use Rattle.lq_point.proofs.TwoArguments.{product, quotient, remainder, first_fits, second_fits, two_answer, two_step}

@@ -1,9 +1,7 @@
-use Rattle.std.proofs.Common.{◌≡◌, ◌∙◌, List, [], ◌∷◌, Bool, true, false, Err, IfErr, inl, inr, refl, sym, ap, subst, lit<, rules}
-use Rattle.std.specs.List.{Contains}
+use Rattle.std.proofs.Common.{◌≡◌, [], ◌∷◌, Err, IfErr, refl, sym, subst, rules}
 use Rattle.lq_math.specs.Rational.{◌-ℚ◌}
 use Rattle.lq_num.specs.Value.{value_of}
 use Rattle.lq_num.specs.declared.past.NumberPast.{NumberPast}
-use Rattle.lq_pred.specs.Comparison.{Comparison}
 use Rattle.lq_pred.specs.Literals.{equal_row}
 use Rattle.lq_pred.specs.Points.{form_at}
 use Rattle.lq_pred.specs.TableView.{terms_of}

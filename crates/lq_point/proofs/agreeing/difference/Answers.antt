@@ -1,4 +1,4 @@
-use Rattle.std.proofs.Common.{◌≡◌, ◌∙◌, ◌<◌, All, length, true, false, unwrap_or, pos, ap, sym, subst}
+use Rattle.std.proofs.Common.{◌∙◌, ◌<◌, All, false, unwrap_or, sym, subst}
 use Rattle.lq_math.specs.RationalRing.{+ℚ_zero}
 use Rattle.lq_linear.specs.Steps.{valuation_of}
 use Rattle.lq_pred.specs.Comparison.{IsRowOf}

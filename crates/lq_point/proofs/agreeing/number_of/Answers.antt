@@ -1,4 +1,4 @@
-use Rattle.std.proofs.Common.{◌≡◌, ◌<◌, ◌∙◌, length, ap, sym, subst, rules}
+use Rattle.std.proofs.Common.{◌<◌, ◌∙◌, length, ap, sym, subst, rules}
 use Rattle.lq_linear.specs.Steps.{valuation_of}
 use Rattle.lq_pred.specs.TableView.{terms_of}
 use Rattle.lq_pred.specs.TermView.{sum_of}

@@ -1,4 +1,4 @@
-use Rattle.std.proofs.Common.{◌≡◌, ◌∙◌, ◌<◌, List, All, Err, IfErr, true, get_or, length, sym, ap, subst, rules}
+use Rattle.std.proofs.Common.{◌≡◌, ◌<◌, List, All, Err, IfErr, true, length, sym, subst, rules}
 use Rattle.lq_num.specs.declared.past.NumberPast.{NumberPast}
 use Rattle.lq_pred.specs.Comparison.{Comparison}
 use Rattle.lq_pred.specs.Literals.{comparisons_of}

@@ -1,10 +1,10 @@
-use Rattle.std.proofs.Common.{◌≡◌, ◌∙◌, ◌<◌, List, All, Bool, Result, Ok, refl, Err, IfOk, IfErr, OnOk, true, false, get_or, length, map, sym, ap, subst, rules}
+use Rattle.std.proofs.Common.{◌≡◌, ◌∙◌, List, All, Bool, Result, Ok, refl, Err, IfOk, IfErr, OnOk, true, false, get_or, sym, subst, rules}
 use Rattle.std.proofs.lemmas.List.Elements.{All-map}
 use Rattle.lq_num.specs.declared.past.NumberPast.{NumberPast}
 use Rattle.lq_pred.specs.Comparison.{CanGather}
 use Rattle.lq_pred.specs.Sum.{Sum}
 use Rattle.lq_pred.specs.declared.symbol.Symbol.{Symbol}
-use Rattle.lq_pred.specs.Implication.{terms_in, IsPoint}
+use Rattle.lq_pred.specs.Implication.{terms_in}
 use Rattle.lq_pred.specs.Literals.{comparisons_of, all_pairs, implication_literals}
 use Rattle.lq_pred.specs.PredView.{formula_of, implication_of, pred_items}
 use Rattle.lq_pred.specs.Reading.{reading_of, formula_numbered, AllFitIn}

@@ -1,5 +1,4 @@
 use Rattle.std.proofs.Common.{◌≡◌, ◌<◌, ◌≤◌, length, get_or, map, Err, IfErr, inl, inr, sym, ap, subst, ◌∙◌, arith, rules}
-use Rattle.lq_num.specs.declared.past.NumberPast.{NumberPast}
 use Rattle.lq_linear.specs.Steps.{valuation_of}
 use Rattle.lq_pred.specs.NnfView.{nnf_view, nnfs_view, nnf_items, readings_of}
 use Rattle.lq_point.specs.Evaluation.{CanEvaluate, CanEvaluateEach, HasAllValues, HasEachValue, IsStepIn, IsStepInAny}

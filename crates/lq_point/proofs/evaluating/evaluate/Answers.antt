@@ -1,4 +1,4 @@
-use Rattle.std.proofs.Common.{◌≡◌, ◌∙◌, ap, sym, subst, Err, IfErr, rules}
+use Rattle.std.proofs.Common.{◌≡◌, ◌∙◌, sym, subst, Err, IfErr, rules}
 use Rattle.lq_num.specs.declared.past.NumberPast.{NumberPast}
 use Rattle.lq_pred.specs.Literals.{comparisons_of}
 use Rattle.lq_pred.specs.NnfView.{nnf_view}

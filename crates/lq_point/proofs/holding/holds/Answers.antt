@@ -1,7 +1,6 @@
 use Rattle.std.proofs.Common.{◌≡◌, ◌∙◌, ap, subst, true, false, unwrap_or}
 use Rattle.lq_linear.specs.Steps.{valuation_of}
 use Rattle.lq_pred.specs.NnfView.{nnf_view}
-use Rattle.lq_pred.specs.Points.{Meets}
 use Rattle.lq_pred.specs.RowMeaning.{MeetsRows}
 use Rattle.lq_pred.specs.Table.{all_differ}
 use Rattle.lq_point.specs.Values.{numbers_of, table_of, values_of, flags_of, classes_of, flag_value, class_value, as_point, point_of_values}

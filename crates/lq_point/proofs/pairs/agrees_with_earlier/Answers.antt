@@ -1,4 +1,4 @@
-use Rattle.std.proofs.Common.{◌≡◌, ◌∙◌, ◌<◌, length, List, [], Bool, Some, None, Err, IfErr, slice_get, get_or, refl, sym, ap, subst, arith, rules}
+use Rattle.std.proofs.Common.{◌≡◌, ◌∙◌, ◌<◌, length, [], None, Err, IfErr, get_or, refl, sym, subst, arith, rules}
 use Rattle.lq_num.specs.declared.past.NumberPast.{NumberPast}
 use Rattle.lq_pred.specs.Implication.{Agree}
 use Rattle.lq_pred.specs.Literals.{pair_rows, all_pairs}

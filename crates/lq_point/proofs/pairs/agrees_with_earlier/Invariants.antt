@@ -1,5 +1,4 @@
-use Rattle.std.proofs.Common.{◌≡◌, ◌<◌, ℕ, Bool, List, Some, None}
-use Rattle.lq_pred.specs.Sum.{Sum}
+use Rattle.std.proofs.Common.{◌≡◌, Bool, List}
 use Rattle.lq_pred.specs.TableView.{terms_of}
 use Rattle.lq_pred.specs.declared.symbol.Symbol.{Symbol}
 use Rattle.lq_point.specs.Values.{point_from}

@@ -1,6 +1,6 @@
-use Rattle.std.proofs.Common.{◌≡◌, ◌∙◌, ◌<◌, ◌≤◌, ◌+◌, length, List, [], Bool, ℕ, refl, sym, ap, subst, arith, below_more}
+use Rattle.std.proofs.Common.{◌∙◌, ◌<◌, ◌≤◌, ◌+◌, length, List, ℕ, refl, sym, subst, arith, below_more}
 use Rattle.lq_pred.specs.TableView.{terms_of}
-use Rattle.lq_point.specs.Agreeing.{AgreesBefore, AllAgree}
+use Rattle.lq_point.specs.Agreeing.{AgreesBefore}
 use Rattle.lq_point.specs.Values.{point_from}
 use Rattle.lq_point.proofs.Walks.{all_from_before, before_from_all}
 use Rattle.lq_point.proofs.pairs.all_agree.Goals as goal

@@ -1,4 +1,4 @@
-use Rattle.std.proofs.Common.{◌≡◌, ◌∙◌, ◌<◌, ◌+◌, [], ◌∷◌, ◌++◌, length, length-append, sym, ap, subst, arith}
+use Rattle.std.proofs.Common.{◌≡◌, ◌∙◌, ◌+◌, [], ◌∷◌, ◌++◌, length, length-append, ap}
 use Rattle.lq_pred.specs.TableView.{terms_of}
 use Rattle.lq_pred.specs.TermView.{sum_of}
 use Rattle.lq_point.proofs.Earlier.{latest_more, earlier_more}

@@ -1,4 +1,4 @@
-use Rattle.std.proofs.Common.{◌≡◌, vec_len, length}
+use Rattle.std.proofs.Common.{◌≡◌, length}
 use Rattle.lq_pred.specs.TableView.{terms_of}
 use Rattle.lq_point.specs.declared.agreeing.Function.{Function}
 use Rattle.lq_point.specs.Nearest.{IsNearest, HasEarlier, place_of}

@@ -1,4 +1,4 @@
-use Rattle.std.proofs.Common.{◌≡◌, ◌∙◌, Some, Bool, true, false, List, [], ◌∷◌, ℕ, Option, None, cond, refl, sym, ap, ap₂, if◌then◌else◌, ◌==◌}
+use Rattle.std.proofs.Common.{◌≡◌, ◌∙◌, Some, List, ℕ, refl, sym, ap, ap₂, if◌then◌else◌}
 use Rattle.std.specs.Map.{lookup}
 use Rattle.lq_pred.specs.TermView.{sum_of}
 use Rattle.lq_point.specs.contracts.agreeing.FunctionPartialEq.TheImpl.{ghosts}

@@ -3,6 +3,7 @@ use Rattle.std.proofs.lemmas.Result.{IfOk-weaker}
 use Rattle.lq_simplex.specs.Systems.{Parts, System}
 use Rattle.lq_simplex.specs.Standing.{AllRead, AllBare}
 use Rattle.lq_simplex.proofs.Tables.{bounds_below, BothTight, both_given, crossed_kept, all_solved, none_weaker}
+use Rattle.lq_simplex.proofs.Resting.{rests_settled}
 use Rattle.lq_simplex.proofs.tableau.decide.Goals as goal
 
 pub new-requires : goal.new-requires
@@ -23,3 +24,20 @@ returns-clause-solved c =
     let forms : s.forms ≡ c.args.basis.now.forms = c.pivots.ensures.forms ∙ c.in_ok-settle.ensures.forms in
     let read : AllRead s.forms rows = subst (λ (f : List Parts). AllRead f rows) (sym forms) c.requires.read in
     IfOk-weaker c.pivots.result _ _ (λ found. none_weaker found (λ all. all_solved s rows c.in_ok-limits.limits read bare tight all)) c.pivots.ensures.solved
+
+pub returns-in_err-settle-clause-rests : goal.returns-in_err-settle-clause-rests
+returns-in_err-settle-clause-rests c = λ ever among rests.
+    let rows = c.args.rows.now in let limits = c.in_ok-limits.limits in
+    let tight : BothTight rows limits = record { lower = c.in_ok-limits.ensures.lower; upper = c.in_ok-limits.ensures.upper } in
+    rests_settled ever rows limits c.args.basis.now c.settle.new.basis c.requires.read (both_given rows limits tight)
+    c.in_err-settle.ensures.forms c.in_err-settle.ensures.settles among rests
+
+pub returns-clause-rests : goal.returns-clause-rests
+returns-clause-rests c = λ ever among rests.
+    let rows = c.args.rows.now in let limits = c.in_ok-limits.limits in
+    let tight : BothTight rows limits = record { lower = c.in_ok-limits.ensures.lower; upper = c.in_ok-limits.ensures.upper } in
+    let given = both_given rows limits tight in
+    let forms = c.in_ok-settle.ensures.forms in
+    rests_settled ever rows limits c.settle.new.basis c.pivots.new.basis (subst (λ (f : List Parts). AllRead f rows) (sym forms) c.requires.read) given
+    c.pivots.ensures.forms c.pivots.ensures.settles among
+    (rests_settled ever rows limits c.args.basis.now c.settle.new.basis c.requires.read given forms c.in_ok-settle.ensures.settles among rests)

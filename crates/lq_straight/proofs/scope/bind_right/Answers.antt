@@ -2,7 +2,7 @@ use Rattle.std.proofs.Common.{◌≡◌, Err, ap, ◌∙◌}
 use Rattle.std.proofs.lemmas.Result.{err_from_is_err_and}
 use Rattle.lq_straight.specs.declared.scope.ScopeError.{ScopeError}
 use Rattle.lq_straight.specs.declared.scope.ScopeError.TheVariants.{Unknown}
-use Rattle.lq_straight.specs.Program.{used_by_right}
+use Rattle.lq_straight.specs.Uses.{used_by_right}
 use Rattle.lq_straight.proofs.scope.bind_right.Goals as goal
 
 pub returns-in_err-bind_sum-in-Sum-clause-unknown : goal.returns-in_err-bind_sum-in-Sum-clause-unknown

@@ -1,4 +1,4 @@
-use Rattle.std.proofs.Common.{◌≡◌, ◌∙◌, true, false, sym, subst}
+use Rattle.std.proofs.Common.{◌≡◌, true, false, sym, subst}
 use Rattle.lq_pred.specs.Implication.{IsPoint}
 use Rattle.lq_pred.specs.PredView.{implication_of}
 use Rattle.lq_pred.specs.TableView.{terms_of}

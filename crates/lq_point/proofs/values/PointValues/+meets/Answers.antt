@@ -1,11 +1,11 @@
-use Rattle.std.proofs.Common.{◌≡◌, ◌<◌, ◌≤◌, length, get_or, map, refl, inl, inr, sym, ap, subst, ◌∙◌, arith, rules}
+use Rattle.std.proofs.Common.{◌≡◌, ◌<◌, ◌≤◌, length, get_or, map, refl, inl, inr, sym, ap, subst, ◌∙◌, arith}
 use Rattle.lq_linear.specs.Steps.{valuation_of}
 use Rattle.lq_pred.specs.NnfView.{nnf_view, nnfs_view, nnf_items, readings_of}
 use Rattle.lq_pred.specs.RowMeaning.{MeetsRows, MeetsAllRows, MeetsAnyRow}
 use Rattle.lq_point.specs.Evaluation.{CanEvaluate, CanEvaluateEach}
 use Rattle.lq_point.specs.Values.{numbers_of, point_of_values}
 use Rattle.lq_point.proofs.Size.{size, size_each, item_smaller}
-use Rattle.lq_point.proofs.Items.{each_item, some_item, item_of_each, view_items, items_more}
+use Rattle.lq_point.proofs.Items.{each_item, some_item, item_of_each, view_items}
 use Rattle.lq_point.proofs.values.PointValues.+meets.Goals as goal
 
 pub meets_all-meets-requires : goal.meets_all-meets-requires

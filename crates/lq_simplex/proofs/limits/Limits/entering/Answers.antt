@@ -21,11 +21,19 @@ bounds-values-entry c =
 pub returns-then-not-is_stuck-clause-some : goal.returns-then-not-is_stuck-clause-some
 returns-then-not-is_stuck-clause-some c = (c.loop-entry.entry-index, there c.args.line.now c.loop-entry.entry-index c.entry-item.result c.loop-entry-test.true c.entry-item.is, c.loop-entry.invariant)
 
+pub returns-then-not-is_stuck-clause-moves : goal.returns-then-not-is_stuck-clause-moves
+returns-then-not-is_stuck-clause-moves c = λ blocked.
+    let line = c.args.line.now in let i = c.loop-entry.entry-index in let e = c.entry-item.result in let values = c.args.values.now in
+    let within : e.variable < length values = variables_below (length values) line i e c.requires (there line i e c.loop-entry-test.true c.entry-item.is) in
+    c.is_stuck.ensures.no c.if-not-is_stuck.true blocked.limit
+    (ap (λ (s : Side). limit_at c.args.self.now s e.variable) c.blocking-toward.ensures ∙ blocked.is)
+    (rw (c.blocking-toward.ensures, sym (value_there values e.variable c.index-values-entry.result within c.index-values-entry.is)) blocked.past)
+
 pub loop-entry-preserved : goal.loop-entry-preserved
 loop-entry-preserved c =
     let line = c.args.line.now in let i = c.loop-entry.entry-index in let e = c.entry-item.result in let values = c.args.values.now in
     let within : e.variable < length values = variables_below (length values) line i e c.requires (there line i e c.loop-entry-test.true c.entry-item.is) in
-    let stuck = c.is_stuck.ensures c.if-not-is_stuck.false in
+    let stuck = c.is_stuck.ensures.yes c.if-not-is_stuck.false in
     let more : take (i + 1) line ≡ take i line ++ e ∷ [] = take_more line i e c.loop-entry-test.true ∙ ap (λ (f : Entry). take i line ++ f ∷ []) (sym c.entry-item.is) in
     subst (AllBlocked c.args.self.now c.args.side (valuation_of values)) (sym more)
     (blocked_push c.args.self.now c.args.side (valuation_of values) (take i line) e c.loop-entry.invariant

@@ -1,0 +1,11 @@
+pub mod Sorts
+pub mod Signatures
+pub mod Flows
+pub mod Checked
+pub mod Nesting
+pub mod Rows
+pub mod Terms
+pub mod Nodes
+pub mod Runs
+pub mod Texts
+pub mod Counting

@@ -1,0 +1,9 @@
+pub mod Value
+pub mod Types
+pub mod Patterns
+pub mod Expressions
+pub mod Items
+pub mod Predicates
+pub mod Made
+pub mod Trees
+pub mod Laws

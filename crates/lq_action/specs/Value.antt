@@ -1,0 +1,63 @@
+-- What has been read and isn't yet part of a larger value: the values on which actions work.
+use Rattle.std.specs.Prelude.{ℕ, suc, List, ◌∷◌, Option, Some, None}
+use Rattle.lq_name.specs.declared.place.Place.{Place}
+use Rattle.lq_tree.specs.Items.{Named, Construct, ItemTree}
+use Rattle.lq_tree.specs.MeasureTrees.{EquationTree, MeasureTree}
+use Rattle.lq_tree.specs.Pattern.{Pattern}
+use Rattle.lq_tree.specs.PredTree.{PredTree}
+use Rattle.lq_tree.specs.Qualifiers.{QualifierTree}
+use Rattle.lq_tree.specs.Tree.{Tree, tree, Form}
+use Rattle.lq_tree.specs.TreeView.{Case, Recursive}
+use Rattle.lq_tree.specs.TypeTree.{TypeTree}
+
+-- a token as actions see it: its place, the number of its text where it is a name, and its value where it is a number
+pub record Lexeme : Type 0 where
+  pub place : Place
+  pub name : ℕ
+  pub value : ℕ
+
+-- Where the commas of an expression stand: it is a tuple without parentheses around it, such a tuple directly in parentheses, or neither.
+pub data Commas : Type 0 where
+  bare : Commas
+  enclosed : Commas
+  absent : Commas
+
+-- Values. An expression, a type and a predicate have the place of their first token beside them, parentheses around them among the
+-- tokens: a larger one that begins with them begins there. A row has the place at which it begins.
+pub data Value : Type 0 where
+  -- the place of a token
+  mark : Place → Value
+  -- a name and its place
+  named : ℕ → Place → Value
+  expression : Tree → Place → Commas → Value
+  expressions : List Tree → Place → Value
+  -- an array and an index, before it is known whether an element is read or written
+  element : Tree → Tree → Place → Value
+  arms : List Case → Value
+  -- a name and the function that it names in its own body
+  recursive : ℕ → Recursive → Value
+  pattern_read : Pattern → Value
+  patterns : List Pattern → Place → Value
+  type_read : TypeTree → Place → Value
+  types : List TypeTree → Place → Value
+  parameters : List Named → Value
+  constructors : List Construct → Value
+  items : List ItemTree → Value
+  predicate : PredTree → Place → Value
+  qualifiers : List QualifierTree → Value
+  equations : List EquationTree → Value
+  measures : List MeasureTree → Value
+
+-- the values, the last one first, and how many nodes of expressions have been made
+pub record Making : Type 0 where
+  pub made : ℕ
+  pub values : List Value
+
+-- the values alone
+abbrev pub with_values : ℕ → Option (List Value) → Option Making
+with_values n None = None
+with_values n (Some vs) = Some (record { made = n; values = vs })
+
+-- one more node, which has the next number
+abbrev pub with_node : ℕ → Place → Form → Commas → List Value → Option Making
+with_node n place form commas vs = Some (record { made = suc n; values = expression (tree n place form) place commas ∷ vs })

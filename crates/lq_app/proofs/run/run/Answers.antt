@@ -1,0 +1,10 @@
+use Rattle.std.proofs.Common.{List, ℕ, ap, ◌∙◌}
+use Rattle.lq_io.specs.Sink.{with_more}
+use Rattle.lq_app.specs.Report.{visit}
+use Rattle.lq_app.proofs.Sending.{sent_whole}
+use Rattle.lq_app.proofs.run.run.Goals as goal
+
+pub returns-in-Ok-send-clause-report : goal.returns-in-Ok-send-clause-report
+returns-in-Ok-send-clause-report g c =
+    sent_whole c.args.words.now (visit g.F.Folder.files g.F.Folder.absents g.F.Folder.failures c.args.folder.now c.answer_to.new.folder) c.in-Ok.answer.status c.in-Ok.answer.report (g.K.Sink.taken c.args.out.now) (g.K.Sink.taken c.send.new.out)
+    c.in-Ok.ensures (c.in-Ok-send.ensures.ok ∙ ap (λ (l : List ℕ). with_more l (g.K.Sink.taken c.args.out.now)) c.as_bytes.ensures)

@@ -1,0 +1,22 @@
+use Rattle.std.proofs.Common.{Err, ap, ◌∙◌, arith}
+use Rattle.lq_straight.specs.Forms.{items_in}
+use Rattle.lq_straight.specs.declared.forms.FormError.{FormError}
+use Rattle.lq_tree.specs.Texts.{program_view}
+use Rattle.lq_app.proofs.Refusing.{items_count, no_form_due}
+use Rattle.lq_app.proofs.verdict.items_of.Goals as goal
+
+pub returns-in-Ok-clause-ok : goal.returns-in-Ok-clause-ok
+returns-in-Ok-clause-ok c =
+    let parsed = c.in_ok-parsed.ensures.ok in
+    record { program = parsed.program; named = parsed.named; recognised = ap items_in parsed.same ∙ c.in-Ok.ensures.ok }
+
+pub returns-in-Ok-clause-count : goal.returns-in-Ok-clause-count
+returns-in-Ok-clause-count c =
+    let count = items_count (program_view c.in_ok-parsed.parsed.program) c.in-Ok.items.items c.in-Ok.ensures.ok in
+    let low = c.in_ok-parsed.ensures.count in
+    omega arith
+
+pub returns-in-Err-Unbuilt-clause-refused : goal.returns-in-Err-Unbuilt-clause-refused
+returns-in-Err-Unbuilt-clause-refused c =
+    let first = c.in-Err-Unbuilt.ensures.unbuilt c.in-Err-Unbuilt.place (ap (λ (e : FormError). Err e) c.in-Err-Unbuilt.field-0-is) in
+    no_form_due c.args.text.now (program_view c.in_ok-parsed.parsed.program) c.in_ok-parsed.parsed.names c.in-Err-Unbuilt.place c.refused.result c.in_ok-parsed.ensures.ok first c.refused.ensures

@@ -1,0 +1,91 @@
+// Tokens as actions see them.
+ghost use Rattle.std.specs.Prelude.{◌≡◌, ◌≤◌, ◌<◌, ◌+◌, ◌-◌, ◌^◌, length, take, map, slice_get, Some, IfOk, OnOk, OnErr};
+ghost use Rattle.std.specs.Str.{IsAscii};
+ghost use Rattle.lq_lex.specs.Reading.{IsTokens, tokens_of};
+ghost use Rattle.lq_name.specs.NameTable.{IsNameTable, with_text};
+ghost use Rattle.lq_parse.specs.Lexemes.{HasNameBytes, NameFits};
+ghost use Rattle.lq_parse.specs.Trees.{lexeme_of, name_of, value_of, with_name, with_names};
+ghost use Rattle.lq_parse.specs.Views.{lexeme_view};
+
+use crate::terminals::bytes_of;
+use crate::values::Lexeme;
+use lq_lex::{TokenKind, Tokens};
+use lq_name::{Name, NameTable, TextKind};
+use std::alloc::{AllocError, Global};
+use std::str;
+
+// The number of a name, which is added to the table.
+fn number_of(word: &[u8], names: &mut NameTable) -> Result<Name, AllocError>
+    requires room { length names.old < 2 ^ 32 - 1 }
+    requires ascii { IsAscii word.now }
+    ensures names { OnOk result (names.new ≡ with_text names.old word.now) }
+    ensures number { IfOk result (λ n. slice_get names.new n.0 ≡ Some word.now) }
+    ensures err { OnErr result (names.new ≡ names.old) }
+    ensures table { IsNameTable names.new }
+{
+    let Ok(word) = str::from_utf8(word) else {
+        unreachable!()
+    };
+    names.intern(word)
+}
+
+// The number of a token that is a name, which is added to the table; 0 where the token is none.
+fn name_of(kind: TokenKind, word: &[u8], names: &mut NameTable) -> Result<Name, AllocError>
+    requires room { length names.old < 2 ^ 32 - 1 }
+    requires ascii { HasNameBytes kind word.now }
+    ensures names { OnOk result (names.new ≡ with_name kind word.now names.old) }
+    ensures number { IfOk result (λ n. NameFits names.new kind word.now n.0) }
+    ensures err { OnErr result (names.new ≡ names.old) }
+    ensures table { IsNameTable names.new }
+{
+    let _len = names.len();
+    match kind {
+        TokenKind::Lower => number_of(word, names),
+        TokenKind::Upper => number_of(word, names),
+        TokenKind::TypeVar => number_of(word, names),
+        TokenKind::Number(_) => Ok(Name(0)),
+        TokenKind::Keyword => Ok(Name(0)),
+        TokenKind::Symbol => Ok(Name(0)),
+    }
+}
+
+fn value_of(kind: TokenKind) -> u128
+    ensures { result ≡ value_of kind }
+{
+    match kind {
+        TokenKind::Number(value) => value,
+        _ => 0,
+    }
+}
+
+// The tokens of this text as actions see them. Their names are added to the table.
+pub(crate) fn lexemes_of(
+    alloc: Global,
+    kind: TextKind,
+    text: &[u8],
+    tokens: &Tokens,
+    names: &mut NameTable,
+) -> Result<Vec<Lexeme>, AllocError>
+    requires small { length text.now ≤ 2 ^ 24 }
+    requires tokens { IsTokens kind text.now (tokens_of tokens.now) }
+    requires room { length names.old ≤ 2 ^ 31 }
+    ensures ok { IfOk result (λ ls. map lexeme_view ls.items ≡ map (lexeme_of names.new text.now) (tokens_of tokens.now)) }
+    ensures names { OnOk result (names.new ≡ with_names text.now (tokens_of tokens.now) names.old) }
+    ensures kept { take (length names.old) names.new ≡ names.old }
+    ensures added { length names.new ≤ length names.old + length (tokens_of tokens.now) }
+    ensures table { IsNameTable names.new }
+{
+    let mut lexemes = Vec::new(alloc);
+    let mut at = 0;
+    let _len = names.len();
+    while let Some(token) = tokens.get(at) {
+        let name = name_of(token.kind, bytes_of(text, token), names)?;
+        lexemes.push(Lexeme {
+            place: token.place,
+            name,
+            value: value_of(token.kind),
+        })?;
+        at += 1;
+    }
+    Ok(lexemes)
+}

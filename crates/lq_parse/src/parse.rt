@@ -1,0 +1,144 @@
+// The trees of the three texts.
+ghost use Rattle.std.specs.Prelude.{◌≡◌, ◌<◌, ◌≤◌, ◌+◌, ◌^◌, length, take, IfOk, OnOk, Err};
+ghost use Rattle.lq_lex.specs.Reading.{IsTokens, tokens_of, end_place_of};
+ghost use Rattle.lq_name.specs.NameTable.{IsNameTable};
+ghost use Rattle.lq_name.specs.declared.place.Place.{Place};
+ghost use Rattle.lq_name.specs.declared.place.TextKind.TheVariants as kind;
+ghost use Rattle.lq_tree.specs.Texts.{program_view, quals_view, measures_view};
+ghost use Rattle.lq_action.specs.Value.{items, qualifiers, measures};
+ghost use Rattle.lq_parse.specs.Making.{Makes, making_view};
+ghost use Rattle.lq_parse.specs.Texts.{IsSyntax, IsTooDeep};
+ghost use Rattle.lq_parse.specs.Trees.{IsRead, with_names};
+ghost use Rattle.lq_parse.specs.declared.error.ParseError.TheVariants.{Syntax, TooDeep};
+
+use crate::builder::Builder;
+use crate::entries::{pop_measures, pop_qualifiers};
+use crate::error::ParseError;
+use crate::items::pop_items;
+use crate::lexemes::lexemes_of;
+use crate::run::run;
+use crate::steps::steps_of;
+use crate::values::MakeError;
+use lq_action::{few_items, readings_make_texts};
+use lq_lex::Tokens;
+use lq_name::TextKind;
+use lq_tree::{Measures, NameTable, Program, Quals};
+use std::alloc::Global;
+
+// What the tokens of this text make. The names in it are added to the table, unless the tokens are refused.
+fn built(
+    alloc: Global,
+    kind: TextKind,
+    tokens: &Tokens,
+    text: &[u8],
+    names: &mut NameTable,
+) -> Result<Builder, ParseError>
+    requires small { length text.now ≤ 2 ^ 24 }
+    requires tokens { IsTokens kind text.now (tokens_of tokens.now) }
+    requires room { length names.old ≤ 2 ^ 31 }
+    ensures ok { IfOk result (λ b. Makes kind text.now names.new (tokens_of tokens.now) (making_view b)) }
+    ensures names { OnOk result (names.new ≡ with_names text.now (tokens_of tokens.now) names.old) }
+    ensures kept { take (length names.old) names.new ≡ names.old }
+    ensures added { length names.new ≤ length names.old + length (tokens_of tokens.now) }
+    ensures table { IsNameTable names.new }
+    ensures syntax { (place : Place) → result ≡ Err (Syntax place) → IsSyntax kind text.now (tokens_of tokens.now) (end_place_of tokens.now) place }
+    ensures too_deep { (place : Place) → result ≡ Err (TooDeep place) → IsTooDeep kind text.now (tokens_of tokens.now) (end_place_of tokens.now) place }
+    ensures unchanged_by_syntax { (place : Place) → result ≡ Err (Syntax place) → names.new ≡ names.old }
+    ensures unchanged_by_depth { (place : Place) → result ≡ Err (TooDeep place) → names.new ≡ names.old }
+{
+    readings_make_texts();
+    let _len = names.len();
+    let events = steps_of(alloc, kind, text, tokens)?;
+    let lexemes = lexemes_of(alloc, kind, text, tokens, names)?;
+    match run(alloc, &events, &lexemes) {
+        Ok(builder) => Ok(builder),
+        Err(MakeError::Memory) => Err(ParseError::Memory),
+        Err(MakeError::Misfit) => unreachable!(),
+    }
+}
+
+/// The program that the tokens of this text are. The names in it are added to the table, unless the tokens are refused.
+pub fn parse_program(
+    alloc: Global,
+    tokens: &Tokens,
+    text: &[u8],
+    names: &mut NameTable,
+) -> Result<Program, ParseError>
+    requires small { length text.now ≤ 2 ^ 24 }
+    requires tokens { IsTokens kind.Program text.now (tokens_of tokens.now) }
+    requires room { length names.old ≤ 2 ^ 31 }
+    ensures ok { IfOk result (λ p. IsRead kind.Program text.now names.new (tokens_of tokens.now) (items (program_view p))) }
+    ensures count { IfOk result (λ p. length (program_view p) < 2 ^ 32) }
+    ensures names { OnOk result (names.new ≡ with_names text.now (tokens_of tokens.now) names.old) }
+    ensures kept { take (length names.old) names.new ≡ names.old }
+    ensures added { length names.new ≤ length names.old + length (tokens_of tokens.now) }
+    ensures table { IsNameTable names.new }
+    ensures syntax { (place : Place) → result ≡ Err (Syntax place) → IsSyntax kind.Program text.now (tokens_of tokens.now) (end_place_of tokens.now) place }
+    ensures too_deep { (place : Place) → result ≡ Err (TooDeep place) → IsTooDeep kind.Program text.now (tokens_of tokens.now) (end_place_of tokens.now) place }
+    ensures unchanged_by_syntax { (place : Place) → result ≡ Err (Syntax place) → names.new ≡ names.old }
+    ensures unchanged_by_depth { (place : Place) → result ≡ Err (TooDeep place) → names.new ≡ names.old }
+{
+    readings_make_texts();
+    few_items();
+    let mut builder = built(alloc, TextKind::Program, tokens, text, names)?;
+    match pop_items(&mut builder.values) {
+        Ok(row) => Ok(Program::new(row)),
+        Err(_) => unreachable!(),
+    }
+}
+
+/// The qualifiers that the tokens of this text are. The names in them are added to the table, unless the tokens are refused.
+pub fn parse_quals(
+    alloc: Global,
+    tokens: &Tokens,
+    text: &[u8],
+    names: &mut NameTable,
+) -> Result<Quals, ParseError>
+    requires small { length text.now ≤ 2 ^ 24 }
+    requires tokens { IsTokens kind.Quals text.now (tokens_of tokens.now) }
+    requires room { length names.old ≤ 2 ^ 31 }
+    ensures ok { IfOk result (λ q. IsRead kind.Quals text.now names.new (tokens_of tokens.now) (qualifiers (quals_view q))) }
+    ensures names { OnOk result (names.new ≡ with_names text.now (tokens_of tokens.now) names.old) }
+    ensures kept { take (length names.old) names.new ≡ names.old }
+    ensures added { length names.new ≤ length names.old + length (tokens_of tokens.now) }
+    ensures table { IsNameTable names.new }
+    ensures syntax { (place : Place) → result ≡ Err (Syntax place) → IsSyntax kind.Quals text.now (tokens_of tokens.now) (end_place_of tokens.now) place }
+    ensures too_deep { (place : Place) → result ≡ Err (TooDeep place) → IsTooDeep kind.Quals text.now (tokens_of tokens.now) (end_place_of tokens.now) place }
+    ensures unchanged_by_syntax { (place : Place) → result ≡ Err (Syntax place) → names.new ≡ names.old }
+    ensures unchanged_by_depth { (place : Place) → result ≡ Err (TooDeep place) → names.new ≡ names.old }
+{
+    readings_make_texts();
+    let mut builder = built(alloc, TextKind::Quals, tokens, text, names)?;
+    match pop_qualifiers(&mut builder.values) {
+        Ok(row) => Ok(Quals::new(row)),
+        Err(_) => unreachable!(),
+    }
+}
+
+/// The measures that the tokens of this text are. The names in them are added to the table, unless the tokens are refused.
+pub fn parse_measures(
+    alloc: Global,
+    tokens: &Tokens,
+    text: &[u8],
+    names: &mut NameTable,
+) -> Result<Measures, ParseError>
+    requires small { length text.now ≤ 2 ^ 24 }
+    requires tokens { IsTokens kind.Measures text.now (tokens_of tokens.now) }
+    requires room { length names.old ≤ 2 ^ 31 }
+    ensures ok { IfOk result (λ m. IsRead kind.Measures text.now names.new (tokens_of tokens.now) (measures (measures_view m))) }
+    ensures names { OnOk result (names.new ≡ with_names text.now (tokens_of tokens.now) names.old) }
+    ensures kept { take (length names.old) names.new ≡ names.old }
+    ensures added { length names.new ≤ length names.old + length (tokens_of tokens.now) }
+    ensures table { IsNameTable names.new }
+    ensures syntax { (place : Place) → result ≡ Err (Syntax place) → IsSyntax kind.Measures text.now (tokens_of tokens.now) (end_place_of tokens.now) place }
+    ensures too_deep { (place : Place) → result ≡ Err (TooDeep place) → IsTooDeep kind.Measures text.now (tokens_of tokens.now) (end_place_of tokens.now) place }
+    ensures unchanged_by_syntax { (place : Place) → result ≡ Err (Syntax place) → names.new ≡ names.old }
+    ensures unchanged_by_depth { (place : Place) → result ≡ Err (TooDeep place) → names.new ≡ names.old }
+{
+    readings_make_texts();
+    let mut builder = built(alloc, TextKind::Measures, tokens, text, names)?;
+    match pop_measures(&mut builder.values) {
+        Ok(row) => Ok(Measures::new(row)),
+        Err(_) => unreachable!(),
+    }
+}

@@ -1,0 +1,15 @@
+use Rattle.std.proofs.Common.{sym, subst}
+use Rattle.lq_simplex.specs.Table.{Table, Handed}
+use Rattle.lq_simplex.proofs.tableau.TableauLinearEngine.assert_row.Goals as goal
+
+pub returns-in-Ok-clause-handed : goal.returns-in-Ok-clause-handed
+returns-in-Ok-clause-handed c = λ rows h.
+    let t : Table = record { system = c.self.inside.basis; rows = c.self.inside.rows.items; found = c.self.inside.found.items; answer = c.self.inside.answer; limit = c.self.inside.limit } in
+    let before : Handed t rows = subst (λ u. Handed u rows) (sym c.self.view_is) h in
+    record { among = c.stand.ensures.among rows before.among; rests = c.stand.ensures.rests rows before.rests }
+
+pub returns-in-Err-clause-handed : goal.returns-in-Err-clause-handed
+returns-in-Err-clause-handed c = λ rows h.
+    let t : Table = record { system = c.self.inside.basis; rows = c.self.inside.rows.items; found = c.self.inside.found.items; answer = c.self.inside.answer; limit = c.self.inside.limit } in
+    let before : Handed t rows = subst (λ u. Handed u rows) (sym c.self.view_is) h in
+    record { among = c.stand.ensures.among rows before.among; rests = c.stand.ensures.rests rows before.rests }

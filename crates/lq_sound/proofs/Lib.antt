@@ -1,0 +1,4 @@
+pub mod Closing
+pub mod Bound
+pub mod Running
+pub mod Safety

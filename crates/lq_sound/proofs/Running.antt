@@ -1,0 +1,152 @@
+-- Runs of items that meet no fault, and never get stuck.
+use Rattle.std.specs.Prelude.{ℤ, pos, ◌+ℤ◌, ◌-ℤ◌}
+use Rattle.std.proofs.Common.{◌≡◌, ℕ, zero, suc, true, false, List, [], ◌∷◌, ◌++◌, Some, refl, sym, subst}
+use Rattle.lq_name.specs.declared.name.Binder.{Binder}
+use Rattle.lq_name.specs.declared.operation.ArithOp.TheVariants as op
+use Rattle.lq_name.specs.declared.operation.CompareOp.{CompareOp}
+use Rattle.lq_name.specs.declared.place.Place.{Place}
+use Rattle.lq_tree.specs.Pattern.{Pattern, pattern, bind, nothing}
+use Rattle.lq_pred.specs.declared.symbol.Symbol.{Symbol}
+use Rattle.lq_pred.specs.declared.symbol.Symbol.TheVariants.{Value, Bound, Position}
+use Rattle.lq_pred.specs.Truth.{Meaning, term_value}
+use Rattle.lq_model.specs.Core.{assert, print, read, arithmetic, comparison, Core, val, one, two, v_whole, v_flag, v_unit, Pairs, value_in, close}
+use Rattle.lq_model.specs.Operations.{World, compares, read_act}
+use Rattle.lq_model.specs.Step.{done}
+use Rattle.lq_model.specs.Program.{Item, let_item, close_items, State, Turn, to, item_next, turn_of, after_turn, outcome_from, IsCalm}
+use Rattle.lq_model.specs.FromTree.{core_of}
+use Rattle.lq_straight.specs.declared.item.Sum.{Sum}
+use Rattle.lq_straight.specs.declared.item.Sum.TheVariants as sum
+use Rattle.lq_straight.specs.declared.item.Printed.{Printed}
+use Rattle.lq_straight.specs.declared.item.Printed.TheVariants as printed
+use Rattle.lq_straight.specs.Meaning.{sum_tree, printed_tree}
+use Rattle.lq_straight.specs.Demands.{term_of}
+use Rattle.lq_sound.proofs.Bound.{SumUses, PrintedUses}
+
+-- no number of steps from here meets a fault or gets stuck
+abbrev pub Calm : List Item → World → Type 0
+Calm is w = (n : ℕ) → IsCalm (outcome_from n (record { items = is; world = w })).ending
+
+pub done_calm : (w : World) → Calm [] w
+done_calm w zero = tt
+done_calm w (suc n) = tt
+
+-- one step more in front
+stepped : (i : Item) (is : List Item) (w : World) (s : State) → turn_of (i ∷ is) w ≡ to s → Calm s.items s.world → Calm (i ∷ is) w
+stepped i is w s e calm zero = tt
+stepped i is w s e calm (suc n) = subst (λ (t : Turn). IsCalm (after_turn t w (outcome_from n)).ending) (sym e) (calm n)
+
+-- an item whose expression has become this one
+abbrev left_with : Pattern → Core → List Item → World → State
+left_with q e is w = record { items = let_item q e ∷ is; world = w }
+
+-- ---- sums
+
+-- the numbers that the binders stand for
+abbrev number_in : (ℕ → ℤ) → Symbol → ℤ
+number_in of Value = pos 0
+number_in of (Bound x) = of x.0
+number_in of (Position i) = pos 0
+
+abbrev pub meaning : (ℕ → ℤ) → Meaning
+meaning of = record { number = number_in of; holds = λ x. false; object = λ x. 0; length = λ n. pos 0; measured = λ f n. pos 0 }
+
+abbrev pub amount : (ℕ → ℤ) → Sum Binder → ℤ
+amount of t = term_value (meaning of) (term_of t)
+
+-- the binder has its number for a value
+abbrev pub HasNumber : Pairs → (ℕ → ℤ) → ℕ → Type 0
+HasNumber ps of y = value_in ps y ≡ Some (v_whole (of y))
+
+abbrev number : ℤ → Core
+number n = val (v_whole n)
+
+abbrev plus : Place → ℤ → ℤ → Core
+plus p m n = two (arithmetic op.Add p) (number m) (number n)
+
+abbrev minus : Place → ℤ → ℤ → Core
+minus p m n = two (arithmetic op.Sub p) (number m) (number n)
+
+-- the step of a sum of numbers within an expression
+record Steps (q : Pattern) (whole : Core → Core) (is : List Item) (w : World) : Type 0 where
+  added : (p : Place) (m n : ℤ) → turn_of (let_item q (whole (plus p m n)) ∷ is) w ≡ to (left_with q (whole (number (m +ℤ n))) is w)
+  taken : (p : Place) (m n : ℤ) → turn_of (let_item q (whole (minus p m n)) ∷ is) w ≡ to (left_with q (whole (number (m -ℤ n))) is w)
+
+-- a run is calm where it is with the number in place of the sum
+sum_calm : (ps : Pairs) (of : ℕ → ℤ) (p : Place) (t : Sum Binder) (q : Pattern) (whole : Core → Core) (is : List Item) (w : World) → SumUses (HasNumber ps of) t
+    → Steps q whole is w → Calm (let_item q (whole (number (amount of t))) ∷ is) w → Calm (let_item q (whole (close ps (core_of (sum_tree p t)))) ∷ is) w
+sum_calm ps of p (sum.Use x) q whole is w has steps calm = rw has calm
+sum_calm ps of p (sum.Add x n) q whole is w has steps calm =
+    let m = of x.0 in
+    rw has (stepped (let_item q (whole (plus p m (pos n)))) is w (left_with q (whole (number (m +ℤ pos n))) is w) (steps.added p m (pos n)) calm)
+sum_calm ps of p (sum.Sub x n) q whole is w has steps calm =
+    let m = of x.0 in
+    rw has (stepped (let_item q (whole (minus p m (pos n)))) is w (left_with q (whole (number (m -ℤ pos n))) is w) (steps.taken p m (pos n)) calm)
+sum_calm ps of p (sum.Whole n) q whole is w has steps calm = calm
+sum_calm ps of p (sum.Negative n) q whole is w has steps calm = calm
+
+-- ---- definitions
+
+-- the number replaces the variable in the items after it
+value_calm : (p : Place) (x : ℕ) (n : ℤ) (is : List Item) (w : World) → Calm (close_items ((x, v_whole n) ∷ []) is) w → Calm (let_item (pattern p (bind x)) (number n) ∷ is) w
+value_calm p x n is w calm = stepped (let_item (pattern p (bind x)) (number n)) is w (record { items = close_items ((x, v_whole n) ∷ []) is; world = w }) refl calm
+
+pub sum_defined_calm : (ps : Pairs) (of : ℕ → ℤ) (p : Place) (x : ℕ) (t : Sum Binder) (is : List Item) (w : World) → SumUses (HasNumber ps of) t
+    → Calm (close_items ((x, v_whole (amount of t)) ∷ []) is) w → Calm (let_item (pattern p (bind x)) (close ps (core_of (sum_tree p t))) ∷ is) w
+sum_defined_calm ps of p x t is w has calm =
+    sum_calm ps of p t (pattern p (bind x)) (λ e. e) is w has (record { added = λ r m n. refl; taken = λ r m n. refl }) (value_calm p x (amount of t) is w calm)
+
+-- the next input replaces the variable, and with none left the run is over
+pub read_calm : (p r : Place) (x : ℕ) (is : List Item) (w : World) → ((n : ℤ) (v : World) → Calm (close_items ((x, v_whole n) ∷ []) is) v)
+    → Calm (let_item (pattern p (bind x)) (one (read r) (val v_unit)) ∷ is) w
+read_calm p r x is w calm zero = tt
+read_calm p r x is w calm (suc k) = by_input w.input
+  where
+    by_input : (input : List ℤ) → IsCalm (after_turn (item_next (pattern p (bind x)) is (Some (done (read_act r input w)))) w (outcome_from k)).ending
+    by_input [] = tt
+    by_input (n ∷ ns) = value_calm p x n is (record w { input = ns }) (calm n (record w { input = ns })) k
+
+-- ---- assertions
+
+-- an item of unit is gone
+unit_calm : (p : Place) (is : List Item) (w : World) → Calm is w → Calm (let_item (pattern p nothing) (val v_unit) ∷ is) w
+unit_calm p is w calm = stepped (let_item (pattern p nothing) (val v_unit)) is w (record { items = is; world = w }) refl calm
+
+-- what is true gives unit
+true_calm : (p r : Place) (is : List Item) (w : World) → Calm is w → Calm (let_item (pattern p nothing) (one (assert r) (val (v_flag true))) ∷ is) w
+true_calm p r is w calm = stepped (let_item (pattern p nothing) (one (assert r) (val (v_flag true)))) is w (left_with (pattern p nothing) (val v_unit) is w) refl (unit_calm p is w calm)
+
+-- numbers that compare so
+compared_calm : (p r : Place) (o : CompareOp) (m n : ℤ) (is : List Item) (w : World) → compares o m n ≡ true → Calm is w
+    → Calm (let_item (pattern p nothing) (one (assert r) (two (comparison o) (number m) (number n))) ∷ is) w
+compared_calm p r o m n is w holds calm =
+    stepped (let_item (pattern p nothing) (one (assert r) (two (comparison o) (number m) (number n)))) is w
+    (left_with (pattern p nothing) (one (assert r) (val (v_flag (compares o m n)))) is w) refl (rw holds (true_calm p r is w calm))
+
+pub asserted_calm : (ps : Pairs) (of : ℕ → ℤ) (p r : Place) (o : CompareOp) (a b : Sum Binder) (is : List Item) (w : World) → SumUses (HasNumber ps of) a → SumUses (HasNumber ps of) b
+    → compares o (amount of a) (amount of b) ≡ true → Calm is w
+    → Calm (let_item (pattern p nothing) (one (assert r) (two (comparison o) (close ps (core_of (sum_tree p a))) (close ps (core_of (sum_tree p b))))) ∷ is) w
+asserted_calm ps of p r o a b is w left right holds calm =
+    sum_calm ps of p a (pattern p nothing) (λ e. one (assert r) (two (comparison o) e (close ps (core_of (sum_tree p b))))) is w left (record { added = λ s m n. refl; taken = λ s m n. refl })
+    (sum_calm ps of p b (pattern p nothing) (λ e. one (assert r) (two (comparison o) (number (amount of a)) e)) is w right (record { added = λ s m n. refl; taken = λ s m n. refl })
+    (compared_calm p r o (amount of a) (amount of b) is w holds calm))
+
+-- ---- printing
+
+number_printed_calm : (p : Place) (n : ℤ) (is : List Item) (w : World) → Calm is (record w { output = w.output ++ n ∷ [] }) → Calm (let_item (pattern p nothing) (one print (number n)) ∷ is) w
+number_printed_calm p n is w calm =
+    let after : World = record w { output = w.output ++ n ∷ [] } in
+    stepped (let_item (pattern p nothing) (one print (number n))) is w (left_with (pattern p nothing) (val v_unit) is after) refl (unit_calm p is after calm)
+
+pub printed_calm : (ps : Pairs) (of : ℕ → ℤ) (p : Place) (e : Printed Binder) (is : List Item) (w : World) → PrintedUses (HasNumber ps of) e → ((v : World) → Calm is v)
+    → Calm (let_item (pattern p nothing) (one print (close ps (core_of (printed_tree p e)))) ∷ is) w
+printed_calm ps of p (printed.Sum t) is w has calm =
+    sum_calm ps of p t (pattern p nothing) (λ e. one print e) is w has (record { added = λ s m n. refl; taken = λ s m n. refl })
+    (number_printed_calm p (amount of t) is w (calm (record w { output = w.output ++ amount of t ∷ [] })))
+printed_calm ps of p (printed.Add m n) is w has calm =
+    stepped (let_item (pattern p nothing) (one print (plus p (pos m) (pos n)))) is w
+    (left_with (pattern p nothing) (one print (number (pos m +ℤ pos n))) is w) refl
+    (number_printed_calm p (pos m +ℤ pos n) is w (calm (record w { output = w.output ++ (pos m +ℤ pos n) ∷ [] })))
+printed_calm ps of p (printed.Sub m n) is w has calm =
+    stepped (let_item (pattern p nothing) (one print (minus p (pos m) (pos n)))) is w
+    (left_with (pattern p nothing) (one print (number (pos m -ℤ pos n))) is w) refl
+    (number_printed_calm p (pos m -ℤ pos n) is w (calm (record w { output = w.output ++ (pos m -ℤ pos n) ∷ [] })))

@@ -1,0 +1,14 @@
+// Laws of the definitions. Nothing is run.
+ghost use Rattle.lq_straight.specs.Demands.{ValidIsSafe};
+
+use lq_model::closing_items;
+use lq_pred::whole_numbers_are_a_point;
+
+/// A straight-line program whose names are all bound and whose demands are all valid is safe: on every input, no number
+/// of steps meets a fault, and a step is always there until no item is left or the input has ended.
+pub fn valid_programs_are_safe()
+    ensures { ValidIsSafe }
+{
+    whole_numbers_are_a_point();
+    closing_items();
+}

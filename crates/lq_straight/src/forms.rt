@@ -1,0 +1,318 @@
+// The straight-line programs among the trees.
+ghost use Rattle.std.specs.Prelude.{◌≡◌, ◌<◌, ◌^◌, IfOk, Err};
+ghost use Rattle.lq_name.specs.declared.place.Place.{Place};
+ghost use Rattle.lq_tree.specs.Items.{let_of, item_view};
+ghost use Rattle.lq_tree.specs.Pattern.{pattern, bind};
+ghost use Rattle.lq_tree.specs.PatternView.{pat_view};
+ghost use Rattle.lq_tree.specs.Texts.{program_view};
+ghost use Rattle.lq_tree.specs.Tree.{tree, use_of, whole, arithmetic};
+ghost use Rattle.lq_tree.specs.TreeView.{parsed_view};
+ghost use Rattle.lq_straight.specs.Forms.{is, unbuilt, variable_in, literal_in, sum_in, unit_in, primitive_in, right_in, with_order, asserted_in, printed_in, done_in, node_in, item_in, items_in};
+ghost use Rattle.lq_straight.specs.Recognising.{Answers};
+ghost use Rattle.lq_straight.specs.Uses.{AreSmall, IsSmallSum, IsSmallRight, IsSmallNode, IsSmallItem};
+ghost use Rattle.lq_straight.specs.declared.forms.FormError.TheVariants.{Unbuilt, Memory};
+
+use crate::item::{Assertion, Item, ItemNode, NameAt, Order, Printed, Right, Sum};
+use crate::names::{PRINT_INT, READ_INT, is_primitive};
+use lq_name::{ArithOp, CompareOp, Name, Place};
+use lq_tree::{Expr, Item as ItemTree, ItemNode as ItemForm, Node, Pat, PatNode, Program};
+use std::alloc::{AllocError, AllocFailed, Global};
+use thiserror::Error;
+
+/// Why a program is not read as a straight-line one.
+#[derive(Debug, Drop, Error)]
+pub enum FormError {
+    /// The first node, in preorder, or the first token of the first item, whose form isn't judged yet.
+    #[error("a form that isn't built yet")]
+    Unbuilt(Place),
+    #[error("out of memory")]
+    Memory,
+}
+
+impl From<AllocError> for FormError {
+    ghost from_gives = { λ _ e. e ≡ Memory };
+
+    fn from(_: AllocError) -> Self {
+        FormError::Memory
+    }
+}
+
+impl<T: Drop> From<AllocFailed<T>> for FormError {
+    ghost from_gives = { λ _ e. e ≡ Memory };
+
+    fn from(_: AllocFailed<T>) -> Self {
+        FormError::Memory
+    }
+}
+
+// A variable, unless the name is that of a primitive.
+fn variable(name: Name, place: Place) -> Result<NameAt, Place>
+    ensures { Answers result (variable_in (tree 0 place (use_of name.0))) }
+{
+    if is_primitive(name) {
+        return Err(place);
+    }
+    Ok(NameAt { name, place })
+}
+
+fn variable_in(tree: &Expr<Name>) -> Result<NameAt, Place>
+    ensures { Answers result (variable_in (parsed_view tree.now)) }
+{
+    match &tree.node {
+        Node::Use(name) => variable(*name, tree.place),
+        _ => Err(tree.place),
+    }
+}
+
+// The literal, unless it has a sign.
+fn literal(n: i128, place: Place) -> Result<u128, Place>
+    ensures literal { Answers result (literal_in (tree 0 place (whole n))) }
+    ensures small { IfOk result (λ n. n < 2 ^ 127) }
+{
+    if n < 0 {
+        return Err(place);
+    }
+    Ok(n.unsigned_abs())
+}
+
+fn literal_in(tree: &Expr<Name>) -> Result<u128, Place>
+    ensures literal { Answers result (literal_in (parsed_view tree.now)) }
+    ensures small { IfOk result (λ n. n < 2 ^ 127) }
+{
+    match &tree.node {
+        Node::Whole(n) => literal(*n, tree.place),
+        _ => Err(tree.place),
+    }
+}
+
+// A literal as a sum.
+fn literal_sum(n: i128, place: Place) -> Result<Sum<NameAt>, Place>
+    ensures sum { Answers result (sum_in (tree 0 place (whole n))) }
+    ensures small { IfOk result (λ s. IsSmallSum s) }
+{
+    if n >= 0 {
+        Ok(Sum::Whole(n.unsigned_abs()))
+    } else if n == i128::MIN {
+        Err(place)
+    } else {
+        Ok(Sum::Negative(n.unsigned_abs()))
+    }
+}
+
+// A variable with a literal added or taken away.
+fn arith_sum(
+    op: ArithOp,
+    left: &Expr<Name>,
+    right: &Expr<Name>,
+    place: Place,
+) -> Result<Sum<NameAt>, Place>
+    ensures sum { Answers result (sum_in (tree 0 place (arithmetic op (parsed_view left.now) (parsed_view right.now)))) }
+    ensures small { IfOk result (λ s. IsSmallSum s) }
+{
+    match op {
+        ArithOp::Add => {
+            let name = variable_in(left)?;
+            let literal = literal_in(right)?;
+            Ok(Sum::Add(name, literal))
+        }
+        ArithOp::Sub => {
+            let name = variable_in(left)?;
+            let literal = literal_in(right)?;
+            Ok(Sum::Sub(name, literal))
+        }
+        _ => Err(place),
+    }
+}
+
+fn sum_in(tree: &Expr<Name>) -> Result<Sum<NameAt>, Place>
+    ensures sum { Answers result (sum_in (parsed_view tree.now)) }
+    ensures small { IfOk result (λ s. IsSmallSum s) }
+{
+    match &tree.node {
+        Node::Whole(n) => literal_sum(*n, tree.place),
+        Node::Use(name) => Ok(Sum::Use(variable(*name, tree.place)?)),
+        Node::Arith(op, left, right) => arith_sum(*op, left, right, tree.place),
+        _ => Err(tree.place),
+    }
+}
+
+// Whether the tree is `()`.
+fn unit_in(tree: &Expr<Name>) -> Result<(), Place>
+    ensures { Answers result (unit_in tt (parsed_view tree.now)) }
+{
+    match &tree.node {
+        Node::Unit => Ok(()),
+        _ => Err(tree.place),
+    }
+}
+
+// Whether the tree is the primitive of this name.
+fn primitive_in(primitive: Name, tree: &Expr<Name>) -> Result<(), Place>
+    ensures { Answers result (primitive_in primitive.0 (parsed_view tree.now) (is tt)) }
+{
+    match &tree.node {
+        Node::Use(name) => {
+            if *name == primitive {
+                return Ok(());
+            }
+            Err(tree.place)
+        }
+        _ => Err(tree.place),
+    }
+}
+
+fn right_in(tree: &Expr<Name>) -> Result<Right<NameAt>, Place>
+    ensures right { Answers result (right_in (parsed_view tree.now)) }
+    ensures small { IfOk result (λ r. IsSmallRight r) }
+{
+    match &tree.node {
+        Node::Call(function, argument) => {
+            primitive_in(READ_INT, function)?;
+            unit_in(argument)?;
+            Ok(Right::Read(tree.place))
+        }
+        _ => Ok(Right::Sum(sum_in(tree)?)),
+    }
+}
+
+// The order that the comparison at this place asks for.
+fn order_of(op: CompareOp, place: Place) -> Result<Order, Place>
+    ensures { Answers result (with_order op place (λ o. is o)) }
+{
+    match op {
+        CompareOp::Eq => Err(place),
+        CompareOp::Ne => Err(place),
+        CompareOp::Lt => Ok(Order::Less),
+        CompareOp::Le => Ok(Order::AtMost),
+        CompareOp::Gt => Ok(Order::Greater),
+        CompareOp::Ge => Ok(Order::AtLeast),
+    }
+}
+
+// What is asserted at this place.
+fn asserted_in(place: Place, tree: &Expr<Name>) -> Result<ItemNode<NameAt>, Place>
+    ensures asserted { Answers result (asserted_in place (parsed_view tree.now)) }
+    ensures small { IfOk result (λ n. IsSmallNode n) }
+{
+    match &tree.node {
+        Node::Compare(op, left, right) => {
+            let order = order_of(*op, tree.place)?;
+            let left = sum_in(left)?;
+            let right = sum_in(right)?;
+            Ok(ItemNode::Assert(Assertion {
+                place,
+                left,
+                order,
+                right,
+            }))
+        }
+        _ => Err(tree.place),
+    }
+}
+
+// What is printed: two literals, or a sum.
+fn printed_arith(
+    op: ArithOp,
+    left: &Expr<Name>,
+    right: &Expr<Name>,
+    place: Place,
+) -> Result<Printed<NameAt>, Place>
+    ensures { Answers result (printed_in (tree 0 place (arithmetic op (parsed_view left.now) (parsed_view right.now)))) }
+{
+    match literal_in(left) {
+        Ok(m) => match op {
+            ArithOp::Add => Ok(Printed::Add(m, literal_in(right)?)),
+            ArithOp::Sub => Ok(Printed::Sub(m, literal_in(right)?)),
+            _ => Err(place),
+        },
+        Err(_) => Ok(Printed::Sum(arith_sum(op, left, right, place)?)),
+    }
+}
+
+fn printed_in(tree: &Expr<Name>) -> Result<Printed<NameAt>, Place>
+    ensures { Answers result (printed_in (parsed_view tree.now)) }
+{
+    match &tree.node {
+        Node::Arith(op, left, right) => printed_arith(*op, left, right, tree.place),
+        _ => Ok(Printed::Sum(sum_in(tree)?)),
+    }
+}
+
+// The right side of `let () =`.
+fn done_in(tree: &Expr<Name>) -> Result<ItemNode<NameAt>, Place>
+    ensures done { Answers result (done_in (parsed_view tree.now)) }
+    ensures small { IfOk result (λ n. IsSmallNode n) }
+{
+    match &tree.node {
+        Node::Assert(asserted) => asserted_in(tree.place, asserted),
+        Node::Call(function, argument) => {
+            primitive_in(PRINT_INT, function)?;
+            Ok(ItemNode::Print(printed_in(argument)?))
+        }
+        _ => Err(tree.place),
+    }
+}
+
+// The definition of a name by the item at this place.
+fn defined_in(place: Place, name: NameAt, tree: &Expr<Name>) -> Result<ItemNode<NameAt>, Place>
+    ensures node { Answers result (node_in place (let_of (pattern name.place (bind name.name.0)) (parsed_view tree.now))) }
+    ensures small { IfOk result (λ n. IsSmallNode n) }
+{
+    if is_primitive(name.name) {
+        return Err(place);
+    }
+    Ok(ItemNode::Define(name, right_in(tree)?))
+}
+
+// What the item at this place does with the value of the tree.
+fn bound_in(place: Place, pattern: &Pat<Name>, tree: &Expr<Name>) -> Result<ItemNode<NameAt>, Place>
+    ensures node { Answers result (node_in place (let_of (pat_view Name (λ n. n.0) pattern.now) (parsed_view tree.now))) }
+    ensures small { IfOk result (λ n. IsSmallNode n) }
+{
+    match &pattern.node {
+        PatNode::Bind(name) => {
+            let name = NameAt {
+                name: *name,
+                place: pattern.place,
+            };
+            defined_in(place, name, tree)
+        }
+        PatNode::Unit => done_in(tree),
+        PatNode::Any => Err(place),
+        PatNode::Tuple(_) => Err(place),
+        PatNode::Build(_, _, _) => Err(place),
+    }
+}
+
+fn item_in(item: &ItemTree<Name>) -> Result<Item<NameAt>, Place>
+    ensures item { Answers result (item_in (item_view Name (λ n. n.0) item.now)) }
+    ensures small { IfOk result (λ i. IsSmallItem i) }
+{
+    match &item.node {
+        ItemForm::Let(pattern, tree) => {
+            let node = bound_in(item.place, pattern, tree)?;
+            Ok(Item {
+                place: item.place,
+                node,
+            })
+        }
+        ItemForm::Type(_) => Err(item.place),
+        ItemForm::LetRec(_, _) => Err(item.place),
+    }
+}
+
+/// The items of a straight-line program, whose names are those of a table that `name_table` began.
+pub fn recognise(alloc: Global, program: &Program) -> Result<Vec<Item<NameAt>>, FormError>
+    ensures ok { IfOk result (λ items. items_in (program_view program.now) ≡ is items.items) }
+    ensures small { IfOk result (λ items. AreSmall items.items) }
+    ensures unbuilt { (p : Place) → result ≡ Err (Unbuilt p) → items_in (program_view program.now) ≡ unbuilt p }
+{
+    let mut items = Vec::new(alloc);
+    for tree in program.items() {
+        match item_in(tree) {
+            Ok(item) => items.push(item)?,
+            Err(place) => return Err(FormError::Unbuilt(place)),
+        }
+    }
+    Ok(items)
+}
