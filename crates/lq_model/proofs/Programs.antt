@@ -26,22 +26,22 @@ close_items-close [] d g = refl
 close_items-close (let_item q e ∷ is) d g =
     ap₂ (λ a b. let_item q a ∷ b) (close-close e d g)
     (close_items-close is (without (bound_in q) d) (without (bound_in q) g) ∙ ap (λ l. close_items l is) (sym (without-append (bound_in q) d g)))
-close_items-close (rec_item f q e ∷ is) d g =
-    ap₂ (λ a b. rec_item f q a ∷ b) (in_body (f ∷ bound_in q) d g e)
+close_items-close (rec_item f q b ∷ is) d g =
+    ap₂ (λ a l. rec_item f q a ∷ l) (in_body (f ∷ bound_in q) d g b)
     (close_items-close is (without (f ∷ []) d) (without (f ∷ []) g) ∙ ap (λ l. close_items l is) (sym (without-append (f ∷ []) d g)))
 
 pub close_items-same : (is : List Item) (d g : Pairs) → SameIn d g → close_items d is ≡ close_items g is
 close_items-same [] d g h = refl
 close_items-same (let_item q e ∷ is) d g h =
     ap₂ (λ a b. let_item q a ∷ b) (close-same e d g h) (close_items-same is (without (bound_in q) d) (without (bound_in q) g) (same_without (bound_in q) d g h))
-close_items-same (rec_item f q e ∷ is) d g h =
-    ap₂ (λ a b. rec_item f q a ∷ b) (close-same e (without (f ∷ bound_in q) d) (without (f ∷ bound_in q) g) (same_without (f ∷ bound_in q) d g h))
+close_items-same (rec_item f q b ∷ is) d g h =
+    ap₂ (λ a l. rec_item f q a ∷ l) (close-same b (without (f ∷ bound_in q) d) (without (f ∷ bound_in q) g) (same_without (f ∷ bound_in q) d g h))
     (close_items-same is (without (f ∷ []) d) (without (f ∷ []) g) (same_without (f ∷ []) d g h))
 
 pub close_items-none : (is : List Item) → close_items [] is ≡ is
 close_items-none [] = refl
 close_items-none (let_item q e ∷ is) = ap₂ (λ a b. let_item q a ∷ b) (close-none e) (close_items-none is)
-close_items-none (rec_item f q e ∷ is) = ap₂ (λ a b. rec_item f q a ∷ b) (close-none e) (close_items-none is)
+close_items-none (rec_item f q b ∷ is) = ap₂ (λ a l. rec_item f q a ∷ l) (close-none b) (close_items-none is)
 
 pub close_items-behind : (xs : List ℕ) (ps env : Pairs) (is : List Item) → ArePairsOf xs ps → close_items ps (close_items (without xs env) is) ≡ close_items (ps ++ env) is
 close_items-behind xs ps env is h = close_items-close is (without xs env) ps ∙ close_items-same is (without xs env ++ ps) (ps ++ env) (same_behind xs ps env h)
