@@ -12,14 +12,11 @@ use Rattle.lq_model.specs.Laws.{SameIn, ArePairsOf, IsOver}
 use Rattle.lq_model.specs.Adequacy.{Steps, here, onward, Does, IsAdequateOfPrograms, IsCompleteOfPrograms, IsSafeByMeaning}
 use Rattle.lq_model.proofs.Rows.{step_from}
 use Rattle.lq_model.proofs.Runs.{stays_over}
-use Rattle.lq_model.proofs.Substitution.{without-append, same_without, close-close, close-same, close-none}
+use Rattle.lq_model.proofs.Substitution.{without-append, in_body, same_without, close-close, close-same, close-none}
 use Rattle.lq_model.proofs.Binding.{same_behind, pair_of}
 use Rattle.lq_model.proofs.Adequate.{no_value, no_step, adequate}
 
 -- ---- closings of items
-
-in_body : (xs : List ℕ) (d g : Pairs) (b : Core) → close (without xs g) (close (without xs d) b) ≡ close (without xs (d ++ g)) b
-in_body xs d g b = close-close b (without xs d) (without xs g) ∙ ap (λ l. close l b) (sym (without-append xs d g))
 
 pub close_items-close : (is : List Item) (d g : Pairs) → close_items g (close_items d is) ≡ close_items (d ++ g) is
 close_items-close [] d g = refl
@@ -70,6 +67,9 @@ one_turn q is e w o j h k =
 after_one : (k j : ℕ) → suc k + j ≡ suc (k + j)
 after_one k j = omega arith
 
+one_more : (j : ℕ) → 1 + j ≡ suc j
+one_more j = omega arith
+
 run_on : (k : ℕ) (q : Pattern) (is : List Item) (e d : Core) (w u : World) → Steps k e w d u → (j : ℕ)
     → outcome_from (k + j) (at (let_item q e ∷ is) w) ≡ outcome_from j (at (let_item q d ∷ is) u)
 run_on _ q is _ _ _ _ (here e w) j = let z : 0 + j ≡ j = omega arith in ap (λ m. outcome_from m (at (let_item q e ∷ is) w)) z
@@ -101,9 +101,6 @@ item_ends n q is e w (comes v u) go h k =
     ends_later n h.0 (at (let_item q e ∷ is) w) (at (let_item q h.1 ∷ is) u) (go v u) (run_on h.0 q is e h.1 w u h.2)
     (ends_later n 1 (at (let_item q h.1 ∷ is) u) (at (defined q v is) u) (go v u) (λ j.
     ap (λ m. outcome_from m (at (let_item q h.1 ∷ is) u)) (one_more j) ∙ ap (λ x. after_turn (let_turn q h.1 is u x) u (outcome_from j)) h.3) (k v u))
-  where
-    one_more : (j : ℕ) → 1 + j ≡ suc j
-    one_more j = omega arith
 item_ends n q is e w (fails x p u) go h k =
     (h.0 + 1, run_on h.0 q is e h.1 w u h.2 1 ∙ one_turn q is h.1 u (Some (faults x p)) 0 (no_value h.1 u (faults x p) h.3) (step_from h.1 u (faults x p) h.3), tt)
 item_ends n q is e w (runs_out p u) go h k =
@@ -122,9 +119,6 @@ items_end n (rec_item f q b ∷ is) env w =
     ends_later n 1 (at (close_items env (rec_item f q b ∷ is)) w) (at (close_items ((f, g) ∷ env) is) w) (items_meaning n is ((f, g) ∷ env) w) (λ j.
     ap (λ m. outcome_from m (at (close_items env (rec_item f q b ∷ is)) w)) (one_more j)
     ∙ ap (λ l. outcome_from j (at l w)) (close_items-behind (f ∷ []) ((f, g) ∷ []) env is (pair_of f g))) (items_end n is ((f, g) ∷ env) w)
-  where
-    one_more : (j : ℕ) → 1 + j ≡ suc j
-    one_more j = omega arith
 
 -- ---- programs
 

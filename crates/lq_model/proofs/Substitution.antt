@@ -65,6 +65,9 @@ mutual
   close_arms-close (more_arms q e cs) d g =
       ap₂ (more_arms q) (body_close (bound_in q) e d g (close-close e (without (bound_in q) d) (without (bound_in q) g))) (close_arms-close cs d g)
 
+pub in_body : (xs : List ℕ) (d g : Pairs) (b : Core) → close (without xs g) (close (without xs d) b) ≡ close (without xs (d ++ g)) b
+in_body xs d g b = body_close xs b d g (close-close b (without xs d) (without xs g))
+
 -- ---- by the same values
 
 -- what is left of a value where the variable is among those that are left out
