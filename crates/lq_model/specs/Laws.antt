@@ -1,5 +1,5 @@
 -- The laws of the meaning.
-use Rattle.std.specs.Prelude.{◌≡◌, ◌↔◌, ℕ, ◌+◌, ◌≤◌, ℤ, ◌==◌, List, [], ◌++◌, length, Some, None, is_some}
+use Rattle.std.specs.Prelude.{◌≡◌, ◌↔◌, ℕ, ◌+◌, ◌≤◌, ℤ, ◌==◌, List, [], ◌∷◌, ◌++◌, length, Some, None, is_some}
 use Rattle.std.specs.List.{list_any}
 use Rattle.lq_tree.specs.Pattern.{Pattern, bound_in}
 use Rattle.lq_model.specs.Core.{Core, Value, Pairs, value_in, without, close, as_value}
@@ -83,6 +83,13 @@ ValuesRest = (e : Core) (w : World) (v : Value) → as_value e ≡ Some v → st
 -- the pairs are of these variables
 abbrev pub ArePairsOf : List ℕ → Pairs → Type 0
 ArePairsOf xs ps = (x : ℕ) → is_some (value_in ps x) ≡ list_any (λ y. y == x) xs
+
+-- one pair is of its one variable, and pairs of some variables with pairs of others behind them are of all of these
+abbrev pub OneIsPaired : Type 0
+OneIsPaired = (x : ℕ) (v : Value) → ArePairsOf (x ∷ []) ((x, v) ∷ [])
+
+abbrev pub PairsJoin : Type 0
+PairsJoin = (xs ys : List ℕ) (ps qs : Pairs) → ArePairsOf xs ps → ArePairsOf ys qs → ArePairsOf (xs ++ ys) (ps ++ qs)
 
 -- Where variables were left out of a closing, closing by values for them is one closing, in which those values count. What a pattern
 -- gives, where a value fits it, is of the variables that it binds.

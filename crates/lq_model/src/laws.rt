@@ -1,4 +1,4 @@
-ghost use Rattle.lq_model.specs.Laws.{IsStepFunction, IsDetermined, IsDeterminedOnStates, HasOneOutcome, IsSafeBySteps, StaysOver, OutputGrows, OutputPasses, ClosesTwice, ClosesAlike, ClosesByNone, ClosesBehind, FitsBinds, ItemsCloseTwice, ItemsCloseAlike, ItemsCloseByNone, ItemsCloseBehind, StepsInside, PartsWait, ValuesRest, MeansAlike, MeansClosed, MeansMore};
+ghost use Rattle.lq_model.specs.Laws.{IsStepFunction, IsDetermined, IsDeterminedOnStates, HasOneOutcome, IsSafeBySteps, StaysOver, OutputGrows, OutputPasses, ClosesTwice, ClosesAlike, ClosesByNone, ClosesBehind, FitsBinds, OneIsPaired, PairsJoin, ItemsCloseTwice, ItemsCloseAlike, ItemsCloseByNone, ItemsCloseBehind, StepsInside, PartsWait, ValuesRest, MeansAlike, MeansClosed, MeansMore};
 ghost use Rattle.lq_model.specs.Numbers.{HaveNoBound, DividesTowardZero};
 ghost use Rattle.lq_model.specs.Adequacy.{IsAdequate, IsComplete, IsAdequateOfPrograms, IsCompleteOfPrograms, IsSafeByMeaning};
 
@@ -45,13 +45,16 @@ pub fn parts_step()
 {}
 
 /// Values are put for variables all at once: one closing after another is one closing, by the values alone,
-/// and no value changes nothing. Values for variables that an earlier closing left out count before its own.
+/// and no value changes nothing. Values for variables that an earlier closing left out count before its own. One
+/// value is for one variable, and two lists of values are together for the variables of both.
 pub fn closing()
     ensures twice { ClosesTwice }
     ensures alike { ClosesAlike }
     ensures by_none { ClosesByNone }
     ensures behind { ClosesBehind }
     ensures binds { FitsBinds }
+    ensures one { OneIsPaired }
+    ensures together { PairsJoin }
 {}
 
 /// The same for the items of a program.
