@@ -5,7 +5,7 @@ use Rattle.lq_model.specs.Core.{Core, Value, as_value}
 use Rattle.lq_model.specs.Operations.{World}
 use Rattle.lq_model.specs.Step.{Next, goes, faults, ends}
 use Rattle.lq_model.specs.StepFunction.{step}
-use Rattle.lq_model.specs.Program.{Item, let_item, rec_item, defined, State, fault, input_ended, stuck, Outcome, Turn, to, over, item_next, let_turn, turn_of, turn, after_turn, outcome_from, outcome, started, IsCalm}
+use Rattle.lq_model.specs.Program.{Item, let_item, rec_item, defined, State, stuck, Outcome, Turn, to, over, item_next, let_turn, turn_of, turn, after_turn, outcome_from, outcome, started, IsCalm}
 use Rattle.lq_model.specs.Run.{state, Transition, define_value, define_function, item_goes, item_faults, item_ends, Reaches, no_steps, goes_on, breaks_off, is_finished, is_stuck}
 use Rattle.lq_model.specs.Laws.{IsDeterminedOnStates, HasOneOutcome, IsSafeBySteps}
 use Rattle.lq_model.proofs.Rows.{step_from, step_to}
