@@ -12,6 +12,7 @@ use Rattle.lq_model.specs.Program.{Item, let_item, rec_item, close_items, define
 abbrev pub state : List Item → World → State
 state is w = record { items = is; world = w }
 
+-- from a state to the next one, or to the ending with which the run is over
 pub data Transition : State → Turn → Type 0 where
   -- `let p = v`: the value replaces the variable in the items after it, and the item is gone
   define_value : (q : Pattern) (e : Core) (v : Value) (is : List Item) (w : World) → as_value e ≡ Some v → Transition (state (let_item q e ∷ is) w) (to (state (defined q v is) w))
