@@ -48,7 +48,7 @@ some_or : (o r : Option Value) → is_some (or_else o r) ≡ (is_some o || is_so
 some_or (Some v) r = refl
 some_or None r = refl
 
-pairs_append : (xs ys : List ℕ) (ps qs : Pairs) → ArePairsOf xs ps → ArePairsOf ys qs → ArePairsOf (xs ++ ys) (ps ++ qs)
+pub pairs_append : (xs ys : List ℕ) (ps qs : Pairs) → ArePairsOf xs ps → ArePairsOf ys qs → ArePairsOf (xs ++ ys) (ps ++ qs)
 pairs_append xs ys ps qs h g k =
     ap is_some (value_in-append ps qs k) ∙ some_or (value_in ps k) (value_in qs k) ∙ ap₂ (λ a b. a || b) (h k) (g k)
     ∙ sym (list_any-append (λ y. y == k) xs ys)

@@ -8,3 +8,4 @@ pub mod WholeNumbers
 pub mod UnderEnvironments
 pub mod Complete
 pub mod Deeper
+pub mod States

@@ -12,36 +12,33 @@ use Rattle.lq_model.specs.Laws.{SameIn, ArePairsOf, IsOver}
 use Rattle.lq_model.specs.Adequacy.{Steps, here, onward, Does, IsAdequateOfPrograms, IsCompleteOfPrograms, IsSafeByMeaning}
 use Rattle.lq_model.proofs.Rows.{step_from}
 use Rattle.lq_model.proofs.Runs.{stays_over}
-use Rattle.lq_model.proofs.Substitution.{without-append, same_without, close-close, close-same, close-none}
+use Rattle.lq_model.proofs.Substitution.{without-append, in_body, same_without, close-close, close-same, close-none}
 use Rattle.lq_model.proofs.Binding.{same_behind, pair_of}
 use Rattle.lq_model.proofs.Adequate.{no_value, no_step, adequate}
 
 -- ---- closings of items
-
-in_body : (xs : List ℕ) (d g : Pairs) (b : Core) → close (without xs g) (close (without xs d) b) ≡ close (without xs (d ++ g)) b
-in_body xs d g b = close-close b (without xs d) (without xs g) ∙ ap (λ l. close l b) (sym (without-append xs d g))
 
 pub close_items-close : (is : List Item) (d g : Pairs) → close_items g (close_items d is) ≡ close_items (d ++ g) is
 close_items-close [] d g = refl
 close_items-close (let_item q e ∷ is) d g =
     ap₂ (λ a b. let_item q a ∷ b) (close-close e d g)
     (close_items-close is (without (bound_in q) d) (without (bound_in q) g) ∙ ap (λ l. close_items l is) (sym (without-append (bound_in q) d g)))
-close_items-close (rec_item f q e ∷ is) d g =
-    ap₂ (λ a b. rec_item f q a ∷ b) (in_body (f ∷ bound_in q) d g e)
+close_items-close (rec_item f q b ∷ is) d g =
+    ap₂ (λ a l. rec_item f q a ∷ l) (in_body (f ∷ bound_in q) d g b)
     (close_items-close is (without (f ∷ []) d) (without (f ∷ []) g) ∙ ap (λ l. close_items l is) (sym (without-append (f ∷ []) d g)))
 
 pub close_items-same : (is : List Item) (d g : Pairs) → SameIn d g → close_items d is ≡ close_items g is
 close_items-same [] d g h = refl
 close_items-same (let_item q e ∷ is) d g h =
     ap₂ (λ a b. let_item q a ∷ b) (close-same e d g h) (close_items-same is (without (bound_in q) d) (without (bound_in q) g) (same_without (bound_in q) d g h))
-close_items-same (rec_item f q e ∷ is) d g h =
-    ap₂ (λ a b. rec_item f q a ∷ b) (close-same e (without (f ∷ bound_in q) d) (without (f ∷ bound_in q) g) (same_without (f ∷ bound_in q) d g h))
+close_items-same (rec_item f q b ∷ is) d g h =
+    ap₂ (λ a l. rec_item f q a ∷ l) (close-same b (without (f ∷ bound_in q) d) (without (f ∷ bound_in q) g) (same_without (f ∷ bound_in q) d g h))
     (close_items-same is (without (f ∷ []) d) (without (f ∷ []) g) (same_without (f ∷ []) d g h))
 
 pub close_items-none : (is : List Item) → close_items [] is ≡ is
 close_items-none [] = refl
 close_items-none (let_item q e ∷ is) = ap₂ (λ a b. let_item q a ∷ b) (close-none e) (close_items-none is)
-close_items-none (rec_item f q e ∷ is) = ap₂ (λ a b. rec_item f q a ∷ b) (close-none e) (close_items-none is)
+close_items-none (rec_item f q b ∷ is) = ap₂ (λ a l. rec_item f q a ∷ l) (close-none b) (close_items-none is)
 
 pub close_items-behind : (xs : List ℕ) (ps env : Pairs) (is : List Item) → ArePairsOf xs ps → close_items ps (close_items (without xs env) is) ≡ close_items (ps ++ env) is
 close_items-behind xs ps env is h = close_items-close is (without xs env) ps ∙ close_items-same is (without xs env ++ ps) (ps ++ env) (same_behind xs ps env h)
@@ -69,6 +66,9 @@ one_turn q is e w o j h k =
 
 after_one : (k j : ℕ) → suc k + j ≡ suc (k + j)
 after_one k j = omega arith
+
+one_more : (j : ℕ) → 1 + j ≡ suc j
+one_more j = omega arith
 
 run_on : (k : ℕ) (q : Pattern) (is : List Item) (e d : Core) (w u : World) → Steps k e w d u → (j : ℕ)
     → outcome_from (k + j) (at (let_item q e ∷ is) w) ≡ outcome_from j (at (let_item q d ∷ is) u)
@@ -101,9 +101,6 @@ item_ends n q is e w (comes v u) go h k =
     ends_later n h.0 (at (let_item q e ∷ is) w) (at (let_item q h.1 ∷ is) u) (go v u) (run_on h.0 q is e h.1 w u h.2)
     (ends_later n 1 (at (let_item q h.1 ∷ is) u) (at (defined q v is) u) (go v u) (λ j.
     ap (λ m. outcome_from m (at (let_item q h.1 ∷ is) u)) (one_more j) ∙ ap (λ x. after_turn (let_turn q h.1 is u x) u (outcome_from j)) h.3) (k v u))
-  where
-    one_more : (j : ℕ) → 1 + j ≡ suc j
-    one_more j = omega arith
 item_ends n q is e w (fails x p u) go h k =
     (h.0 + 1, run_on h.0 q is e h.1 w u h.2 1 ∙ one_turn q is h.1 u (Some (faults x p)) 0 (no_value h.1 u (faults x p) h.3) (step_from h.1 u (faults x p) h.3), tt)
 item_ends n q is e w (runs_out p u) go h k =
@@ -122,9 +119,6 @@ items_end n (rec_item f q b ∷ is) env w =
     ends_later n 1 (at (close_items env (rec_item f q b ∷ is)) w) (at (close_items ((f, g) ∷ env) is) w) (items_meaning n is ((f, g) ∷ env) w) (λ j.
     ap (λ m. outcome_from m (at (close_items env (rec_item f q b ∷ is)) w)) (one_more j)
     ∙ ap (λ l. outcome_from j (at l w)) (close_items-behind (f ∷ []) ((f, g) ∷ []) env is (pair_of f g))) (items_end n is ((f, g) ∷ env) w)
-  where
-    one_more : (j : ℕ) → 1 + j ≡ suc j
-    one_more j = omega arith
 
 -- ---- programs
 

@@ -11,28 +11,26 @@ pub joined : Cores → Cores → Cores
 joined acc none = acc
 joined acc (more e es) = joined (with_part acc e) es
 
-appended : Cores → Cores → Cores
-appended none es = es
-appended (more d ds) es = more d (appended ds es)
+-- the parts before, put before the others
+abbrev pub behind : Cores → Cores → Cores
+behind none es = es
+behind (more d ds) es = more d (behind ds es)
 
-appended-part : (acc : Cores) (e : Core) (es : Cores) → appended (with_part acc e) es ≡ appended acc (more e es)
-unfolding appended
-appended-part none e es = refl
-appended-part (more d ds) e es = ap (more d) (appended-part ds e es)
+pub behind-part : (acc : Cores) (e : Core) (es : Cores) → behind (with_part acc e) es ≡ behind acc (more e es)
+behind-part none e es = refl
+behind-part (more d ds) e es = ap (more d) (behind-part ds e es)
 
-appended-none : (acc : Cores) → appended acc none ≡ acc
-unfolding appended
-appended-none none = refl
-appended-none (more d ds) = ap (more d) (appended-none ds)
+behind-none : (acc : Cores) → behind acc none ≡ acc
+behind-none none = refl
+behind-none (more d ds) = ap (more d) (behind-none ds)
 
-joined-appended : (acc es : Cores) → joined acc es ≡ appended acc es
-unfolding joined appended
-joined-appended acc none = sym (appended-none acc)
-joined-appended acc (more e es) = joined-appended (with_part acc e) es ∙ appended-part acc e es
+joined-behind : (acc es : Cores) → joined acc es ≡ behind acc es
+unfolding joined
+joined-behind acc none = sym (behind-none acc)
+joined-behind acc (more e es) = joined-behind (with_part acc e) es ∙ behind-part acc e es
 
 joined-none : (es : Cores) → joined none es ≡ es
-unfolding appended
-joined-none es = joined-appended none es
+joined-none es = joined-behind none es
 
 pub first_value : (e : Core) (o : Option Value) (vs : Option Values) (us : Values) → both_values o vs ≡ Some us → (v : Value) × (ws : Values) × (o ≡ Some v) × (vs ≡ Some ws)
 first_value e None vs us h = cc
@@ -143,15 +141,6 @@ flag_from (v_array r k) go n h = cc
 
 some_once : (a b : Next) → Some a ≡ Some b → a ≡ b
 some_once a b h = cc
-
--- the parts before, put before the others
-abbrev pub behind : Cores → Cores → Cores
-behind none es = es
-behind (more d ds) es = more d (behind ds es)
-
-pub behind-part : (acc : Cores) (e : Core) (es : Cores) → behind (with_part acc e) es ≡ behind acc (more e es)
-behind-part none e es = refl
-behind-part (more d ds) e es = ap (more d) (behind-part ds e es)
 
 pub placed-behind : (acc : Cores) (e : Core) (es : Cores) → placed acc e es ≡ behind acc (more e es)
 placed-behind none e es = refl

@@ -42,9 +42,9 @@ mutual
   close-close (row r es) d g = ap (row r) (close_all-close es d g)
   close-close (let_in q e b) d g =
       ap₂ (let_in q) (close-close e d g) (body_close (bound_in q) b d g (close-close b (without (bound_in q) d) (without (bound_in q) g)))
-  close-close (let_rec f q e b) d g =
-      ap₂ (let_rec f q) (body_close (f ∷ bound_in q) e d g (close-close e (without (f ∷ bound_in q) d) (without (f ∷ bound_in q) g)))
-      (body_close (f ∷ []) b d g (close-close b (without (f ∷ []) d) (without (f ∷ []) g)))
+  close-close (let_rec f q b e) d g =
+      ap₂ (let_rec f q) (body_close (f ∷ bound_in q) b d g (close-close b (without (f ∷ bound_in q) d) (without (f ∷ bound_in q) g)))
+      (body_close (f ∷ []) e d g (close-close e (without (f ∷ []) d) (without (f ∷ []) g)))
   close-close (call f a) d g = ap₂ call (close-close f d g) (close-close a d g)
   close-close (one o e) d g = ap (one o) (close-close e d g)
   close-close (two o a b) d g = ap₂ (two o) (close-close a d g) (close-close b d g)
@@ -64,6 +64,9 @@ mutual
   close_arms-close no_arms d g = refl
   close_arms-close (more_arms q e cs) d g =
       ap₂ (more_arms q) (body_close (bound_in q) e d g (close-close e (without (bound_in q) d) (without (bound_in q) g))) (close_arms-close cs d g)
+
+pub in_body : (xs : List ℕ) (d g : Pairs) (b : Core) → close (without xs g) (close (without xs d) b) ≡ close (without xs (d ++ g)) b
+in_body xs d g b = body_close xs b d g (close-close b (without xs d) (without xs g))
 
 -- ---- by the same values
 
@@ -102,9 +105,9 @@ mutual
   close-same (fun q b) d g h = ap (fun q) (close-same b (without (bound_in q) d) (without (bound_in q) g) (same_without (bound_in q) d g h))
   close-same (row r es) d g h = ap (row r) (close_all-same es d g h)
   close-same (let_in q e b) d g h = ap₂ (let_in q) (close-same e d g h) (close-same b (without (bound_in q) d) (without (bound_in q) g) (same_without (bound_in q) d g h))
-  close-same (let_rec f q e b) d g h =
-      ap₂ (let_rec f q) (close-same e (without (f ∷ bound_in q) d) (without (f ∷ bound_in q) g) (same_without (f ∷ bound_in q) d g h))
-      (close-same b (without (f ∷ []) d) (without (f ∷ []) g) (same_without (f ∷ []) d g h))
+  close-same (let_rec f q b e) d g h =
+      ap₂ (let_rec f q) (close-same b (without (f ∷ bound_in q) d) (without (f ∷ bound_in q) g) (same_without (f ∷ bound_in q) d g h))
+      (close-same e (without (f ∷ []) d) (without (f ∷ []) g) (same_without (f ∷ []) d g h))
   close-same (call f a) d g h = ap₂ call (close-same f d g h) (close-same a d g h)
   close-same (one o e) d g h = ap (one o) (close-same e d g h)
   close-same (two o a b) d g h = ap₂ (two o) (close-same a d g h) (close-same b d g h)
@@ -134,7 +137,7 @@ mutual
   close-none (fun q b) = ap (fun q) (close-none b)
   close-none (row r es) = ap (row r) (close_all-none es)
   close-none (let_in q e b) = ap₂ (let_in q) (close-none e) (close-none b)
-  close-none (let_rec f q e b) = ap₂ (let_rec f q) (close-none e) (close-none b)
+  close-none (let_rec f q b e) = ap₂ (let_rec f q) (close-none b) (close-none e)
   close-none (call f a) = ap₂ call (close-none f) (close-none a)
   close-none (one o e) = ap (one o) (close-none e)
   close-none (two o a b) = ap₂ (two o) (close-none a) (close-none b)

@@ -7,7 +7,7 @@ use Rattle.lq_model.specs.Core.{Core, val, use_of, fun, row, let_in, let_rec, ca
 use Rattle.lq_model.specs.Operations.{World, fits, fits_form}
 use Rattle.lq_model.specs.Meaning.{Answer, comes, fails, runs_out, too_deep, gets_stuck, and_then, looked_up, on_truth, choose, fitting, with_parameter, eval, eval_all, eval_arms, call_meaning}
 use Rattle.lq_model.specs.Laws.{SameIn, ArePairsOf, MeansAlike, MeansClosed}
-use Rattle.lq_model.proofs.Substitution.{close-close, close-same, same_without, without-append}
+use Rattle.lq_model.proofs.Substitution.{in_body, close-same, same_without}
 use Rattle.lq_model.proofs.Binding.{or_else, value_in-append, same_behind, pair_of, fits_binds}
 
 -- ---- answers and what follows them
@@ -69,9 +69,6 @@ same_left_out : (xs : List ℕ) (ps d g : Pairs) → ArePairsOf xs ps → SameIn
 same_left_out xs ps d g h k =
     ap (λ l. value_in l k) (sym (append_assoc (without xs d) ps g)) ∙ value_in-append (without xs d ++ ps) g k
     ∙ ap (λ o. or_else o (value_in g k)) (same_behind xs ps d h k) ∙ sym (value_in-append (ps ++ d) g k) ∙ ap (λ l. value_in l k) (append_assoc ps d g)
-
-in_body : (xs : List ℕ) (d g : Pairs) (b : Core) → close (without xs g) (close (without xs d) b) ≡ close (without xs (d ++ g)) b
-in_body xs d g b = close-close b (without xs d) (without xs g) ∙ ap (λ l. close l b) (sym (without-append xs d g))
 
 module _ (called : Value → Value → World → Answer) where
   mutual

@@ -36,6 +36,7 @@ mutual
     fun : Pattern → Core → Core
     row : Row → Cores → Core
     let_in : Pattern → Core → Core → Core
+    -- `let rec f = fun q -> b in e`: the name f, the parameter q, the function's body b, and the expression e behind it
     let_rec : ℕ → Pattern → Core → Core → Core
     call : Core → Core → Core
     one : Operation → Core → Core
@@ -97,7 +98,7 @@ abbrev mutual
   close ps (fun q b) = fun q (close (without (bound_in q) ps) b)
   close ps (row r es) = row r (close_all ps es)
   close ps (let_in q e b) = let_in q (close ps e) (close (without (bound_in q) ps) b)
-  close ps (let_rec f q e b) = let_rec f q (close (without (f ∷ bound_in q) ps) e) (close (without (f ∷ []) ps) b)
+  close ps (let_rec f q b e) = let_rec f q (close (without (f ∷ bound_in q) ps) b) (close (without (f ∷ []) ps) e)
   close ps (call f a) = call (close ps f) (close ps a)
   close ps (one o e) = one o (close ps e)
   close ps (two o a b) = two o (close ps a) (close ps b)
@@ -144,7 +145,7 @@ abbrev mutual
   as_value (fun q b) = Some (v_fun q b)
   as_value (row r es) = with_values r (as_values es)
   as_value (let_in q e b) = None
-  as_value (let_rec f q e b) = None
+  as_value (let_rec f q b e) = None
   as_value (call f a) = None
   as_value (one o e) = None
   as_value (two o a b) = None

@@ -224,3 +224,50 @@ AssertionExample =
 
 abbrev pub UnreachedExample : Type 0
 UnreachedExample = Gives (run (node 6 form.assert_false) ∷ []) [] (fault AssertFailed (at 6)) []
+
+-- what so many steps of a program give, without input
+abbrev pub After : ℕ → List ItemTree → Ending → List ℤ → Type 0
+After n is ending output = outcome (items_of is) [] n ≡ record { ending = ending; output = output }
+
+-- `let x = 1 + 2`, `let () = print_int x; print_int 4`
+abbrev pub two_prints : List ItemTree
+two_prints =
+    define 0 (plain (form.arithmetic op.Add (number (pos 1)) (number (pos 2))))
+    ∷ run (chained (plain (form.print (name 0))) (plain (form.print (number (pos 4))))) ∷ []
+
+-- Its steps: the sum; 3 replaces x; the first print; the rest of the chain; the second print; the item is gone, and none is left. Nothing
+-- follows.
+abbrev pub StepsExample : Type 0
+StepsExample =
+    After 0 two_prints running []
+    × After 1 two_prints running []
+    × After 2 two_prints running []
+    × After 3 two_prints running (pos 3 ∷ [])
+    × After 4 two_prints running (pos 3 ∷ [])
+    × After 5 two_prints running (pos 3 ∷ pos 4 ∷ [])
+    × After 6 two_prints finished (pos 3 ∷ pos 4 ∷ [])
+    × After 7 two_prints finished (pos 3 ∷ pos 4 ∷ [])
+
+-- a program without items is finished, and `let () = assert false` is not before its one step
+abbrev pub FirstStepExample : Type 0
+FirstStepExample =
+    After 0 [] finished []
+    × After 0 (run (node 6 form.assert_false) ∷ []) running []
+    × After 1 (run (node 6 form.assert_false) ∷ []) (fault AssertFailed (at 6)) []
+
+-- `(fun _ -> 3) 7` and `(fun () -> 4) ()`
+abbrev pub ParameterExample : Type 0
+ParameterExample =
+    Gives (printed (plain (form.call (plain (form.fun (pattern (at 0) any) (number (pos 3)))) (number (pos 7))))
+    ∷ printed (plain (form.call (plain (form.fun (pattern (at 0) nothing) (number (pos 4)))) (plain form.unit))) ∷ [])
+    [] finished (pos 3 ∷ pos 4 ∷ [])
+
+-- `let a = Array.make 2 0 in a.(i) <- 7; print_int a.(i)`
+abbrev pub stored_at : ℤ → ItemTree
+stored_at i =
+    run (plain (form.let_in (variable 0) (plain (form.make (number (pos 2)) (number (pos 0))))
+    (chained (node 5 (form.store (name 0) (number i) (number (pos 7)))) (plain (form.print (plain (form.fetch (name 0) (number i))))))))
+
+-- a store at the last index, and one at the length
+abbrev pub StoreExample : Type 0
+StoreExample = Gives (stored_at (pos 1) ∷ []) [] finished (pos 7 ∷ []) × Gives (stored_at (pos 2) ∷ []) [] (fault OutOfBounds (at 5)) []

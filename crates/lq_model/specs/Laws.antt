@@ -1,5 +1,5 @@
 -- The laws of the meaning.
-use Rattle.std.specs.Prelude.{◌≡◌, ◌↔◌, ℕ, ◌+◌, ◌≤◌, ℤ, ◌==◌, List, [], ◌++◌, length, Some, None, is_some}
+use Rattle.std.specs.Prelude.{◌≡◌, ◌↔◌, ℕ, ◌+◌, ◌≤◌, ℤ, ◌==◌, List, [], ◌∷◌, ◌++◌, length, Some, None, is_some}
 use Rattle.std.specs.List.{list_any}
 use Rattle.lq_tree.specs.Pattern.{Pattern, bound_in}
 use Rattle.lq_model.specs.Core.{Core, Value, Pairs, value_in, without, close, as_value}
@@ -7,7 +7,8 @@ use Rattle.lq_model.specs.Operations.{World, fits}
 use Rattle.lq_model.specs.Step.{Next, Step, Frame, plug, IsReady}
 use Rattle.lq_model.specs.StepFunction.{inside, step}
 use Rattle.lq_model.specs.Meaning.{Answer, comes, fails, runs_out, too_deep, gets_stuck, meaning}
-use Rattle.lq_model.specs.Program.{Item, close_items, Ending, running, finished, input_ended, fault, stuck, Outcome, outcome}
+use Rattle.lq_model.specs.Program.{Item, close_items, State, Turn, Ending, running, finished, input_ended, fault, stuck, Outcome, outcome, started, IsCalm, IsSafe}
+use Rattle.lq_model.specs.Run.{Transition, Reaches}
 
 -- the function gives exactly what the rows give; so an expression has at most one step in a world
 abbrev pub IsStepFunction : Type 0
@@ -16,9 +17,20 @@ IsStepFunction = (e : Core) (w : World) (n : Next) → Step e w n ↔ (step e w 
 abbrev pub IsDetermined : Type 0
 IsDetermined = (e : Core) (w : World) (n m : Next) → Step e w n → Step e w m → n ≡ m
 
--- a program has exactly one outcome, with one output, for each input and number of steps
+-- a state has at most one step
+abbrev pub IsDeterminedOnStates : Type 0
+IsDeterminedOnStates = (s : State) (t r : Turn) → Transition s t → Transition s r → t ≡ r
+
+-- The steps of a program on an input have exactly one outcome, with one output, for each number of steps: it is the one that `outcome`
+-- gives.
 abbrev pub HasOneOutcome : Type 0
-HasOneOutcome = (is : List Item) (input : List ℤ) (n : ℕ) → (o : Outcome) × (outcome is input n ≡ o) × ((other : Outcome) → outcome is input n ≡ other → other ≡ o)
+HasOneOutcome =
+    (is : List Item) (input : List ℤ) (n : ℕ)
+    → Reaches n (started is input) (outcome is input n) × ((o : Outcome) → Reaches n (started is input) o → o ≡ outcome is input n)
+
+-- so a program is safe exactly where every outcome to which its steps come is neither a fault nor stuck
+abbrev pub IsSafeBySteps : Type 0
+IsSafeBySteps = (is : List Item) → IsSafe is ↔ ((input : List ℤ) (n : ℕ) (o : Outcome) → Reaches n (started is input) o → IsCalm o.ending)
 
 abbrev pub IsOver : Ending → Type 0
 IsOver running = ⊥
@@ -71,6 +83,13 @@ ValuesRest = (e : Core) (w : World) (v : Value) → as_value e ≡ Some v → st
 -- the pairs are of these variables
 abbrev pub ArePairsOf : List ℕ → Pairs → Type 0
 ArePairsOf xs ps = (x : ℕ) → is_some (value_in ps x) ≡ list_any (λ y. y == x) xs
+
+-- one pair is of its one variable, and pairs of some variables with pairs of others behind them are of all of these
+abbrev pub OneIsPaired : Type 0
+OneIsPaired = (x : ℕ) (v : Value) → ArePairsOf (x ∷ []) ((x, v) ∷ [])
+
+abbrev pub PairsJoin : Type 0
+PairsJoin = (xs ys : List ℕ) (ps qs : Pairs) → ArePairsOf xs ps → ArePairsOf ys qs → ArePairsOf (xs ++ ys) (ps ++ qs)
 
 -- Where variables were left out of a closing, closing by values for them is one closing, in which those values count. What a pattern
 -- gives, where a value fits it, is of the variables that it binds.

@@ -3,6 +3,7 @@ pub mod Operations
 pub mod Step
 pub mod StepFunction
 pub mod Program
+pub mod Run
 pub mod FromTree
 pub mod Meaning
 pub mod Laws

@@ -13,7 +13,8 @@ pub data Item : Type 0 where
   let_item : Pattern → Core → Item
   rec_item : ℕ → Pattern → Core → Item
 
--- closed values in the place of variables in the items, up to where a variable is defined again
+-- Closed values in the place of variables in the items. Where an item defines a variable again, its right side still has the value, and
+-- the items after it don't. A recursive function's own name and what its parameter binds aren't replaced in its body.
 abbrev pub close_items : Pairs → List Item → List Item
 close_items ps [] = []
 close_items ps (let_item q e ∷ is) = let_item q (close ps e) ∷ close_items (without (bound_in q) ps) is
@@ -29,8 +30,7 @@ pub record State : Type 0 where
   pub items : List Item
   pub world : World
 
--- What a run has come to: more to do, no item left, an input that ended at a place, a fault at a place, or a state that isn't finished
--- and has no step. A well-typed program never gets stuck.
+-- what a run has come to: more to do, no item left, an input that ended at a place, a fault at a place, or an item left and no step
 pub data Ending : Type 0 where
   running : Ending
   finished : Ending

@@ -128,13 +128,13 @@ pub data Step : Core → World → Next → Type 0 where
   let_value : (q : Pattern) (e b : Core) (v : Value) (w : World) → as_value e ≡ Some v → Step (let_in q e b) w (goes (applied [] q b v) w)
   -- `let rec f = fun in e`: e with the recursive function in place of f
   let_function : (f : ℕ) (q : Pattern) (b e : Core) (w : World) → Step (let_rec f q b e) w (goes (close ((f, v_rec f q b) ∷ []) e) w)
-  -- `v w`: the body of v with w for its parameter
+  -- `v w`: the body of v with w for its parameter, and with a recursive function also for its own name
   call_body : (f a : Core) (u v : Value) (b : Core) (w : World) → as_value f ≡ Some u → as_value a ≡ Some v → body_of u v ≡ Some b → Step (call f a) w (goes b w)
-  -- operations on one value: unary minus, `not`, `assert`, `Array.length`, `print_int`, `read_int`
+  -- an operation on one value: unary minus, `not`, `assert`, `Array.length`, `print_int`, `read_int`; what it gives, its fault or the end of the input
   unary : (o : Operation) (e : Core) (v : Value) (w : World) (a : Act) → as_value e ≡ Some v → unary_act o v w ≡ Some a → Step (one o e) w (done a)
-  -- operations on two values: arithmetic, comparisons, `Array.make n v`, `a.(i)`
+  -- an operation on two values: arithmetic, comparisons, `Array.make n v`, `a.(i)`; what it gives, or its fault
   binary : (o : Binary) (d e : Core) (u v : Value) (w : World) (a : Act) → as_value d ≡ Some u → as_value e ≡ Some v → binary_act o u v w ≡ Some a → Step (two o d e) w (done a)
-  -- `a.(i) <- v`: unit and the changed store, or the fault
+  -- `a.(i) <- v`: unit and the changed store, or the fault OutOfBounds
   storing : (p : Place) (d i e : Core) (t u v : Value) (w : World) (a : Act) → as_value d ≡ Some t → as_value i ≡ Some u → as_value e ≡ Some v → store_act p t u v w ≡ Some a
       → Step (store p d i e) w (done a)
   -- `v && e`, `v || e`: the left value if it decides, else the right expression

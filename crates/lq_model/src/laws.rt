@@ -1,17 +1,20 @@
-ghost use Rattle.lq_model.specs.Laws.{IsStepFunction, IsDetermined, HasOneOutcome, StaysOver, OutputGrows, OutputPasses, ClosesTwice, ClosesAlike, ClosesByNone, ClosesBehind, FitsBinds, ItemsCloseTwice, ItemsCloseAlike, ItemsCloseByNone, ItemsCloseBehind, StepsInside, PartsWait, ValuesRest, MeansAlike, MeansClosed, MeansMore};
+ghost use Rattle.lq_model.specs.Laws.{IsStepFunction, IsDetermined, IsDeterminedOnStates, HasOneOutcome, IsSafeBySteps, StaysOver, OutputGrows, OutputPasses, ClosesTwice, ClosesAlike, ClosesByNone, ClosesBehind, FitsBinds, OneIsPaired, PairsJoin, ItemsCloseTwice, ItemsCloseAlike, ItemsCloseByNone, ItemsCloseBehind, StepsInside, PartsWait, ValuesRest, MeansAlike, MeansClosed, MeansMore};
 ghost use Rattle.lq_model.specs.Numbers.{HaveNoBound, DividesTowardZero};
 ghost use Rattle.lq_model.specs.Adequacy.{IsAdequate, IsComplete, IsAdequateOfPrograms, IsCompleteOfPrograms, IsSafeByMeaning};
 
 /// The step function gives exactly what the rows of the relation give, so an expression has at most one step
-/// in a world.
+/// in a world; and a state of a program has at most one.
 pub fn one_step()
     ensures function { IsStepFunction }
     ensures once { IsDetermined }
+    ensures states { IsDeterminedOnStates }
 {}
 
-/// A program has exactly one outcome for each input and number of steps, and so one output.
+/// The steps of a program have exactly one outcome for each input and number of steps, and so one output; it is
+/// the one that the function gives. So a program is safe exactly where no outcome of its steps is a fault or stuck.
 pub fn one_outcome()
-    ensures { HasOneOutcome }
+    ensures one { HasOneOutcome }
+    ensures safe { IsSafeBySteps }
 {}
 
 /// Numbers have no bound: literals, numbers of the input and results of arithmetic are those of whole numbers,
@@ -42,13 +45,16 @@ pub fn parts_step()
 {}
 
 /// Values are put for variables all at once: one closing after another is one closing, by the values alone,
-/// and no value changes nothing. Values for variables that an earlier closing left out count before its own.
+/// and no value changes nothing. Values for variables that an earlier closing left out count before its own. One
+/// value is for one variable, and two lists of values are together for the variables of both.
 pub fn closing()
     ensures twice { ClosesTwice }
     ensures alike { ClosesAlike }
     ensures by_none { ClosesByNone }
     ensures behind { ClosesBehind }
     ensures binds { FitsBinds }
+    ensures one { OneIsPaired }
+    ensures together { PairsJoin }
 {}
 
 /// The same for the items of a program.

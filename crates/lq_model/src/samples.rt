@@ -1,4 +1,4 @@
-ghost use Rattle.lq_model.specs.Examples.{QuotientExample, RemainderExample, ProductExample, ComparisonExample, OrderExample, InputExample, ShadowingExample, HidingExample, CallExample, PartialExample, RecursionExample, DepthExample, LocalExample, LoopExample, AliasExample, MatchExample, TupleExample, LogicExample, DivisorExample, BoundsExample, LengthExample, CaseExample, AssertionExample, UnreachedExample};
+ghost use Rattle.lq_model.specs.Examples.{QuotientExample, RemainderExample, ProductExample, ComparisonExample, OrderExample, InputExample, ShadowingExample, HidingExample, CallExample, PartialExample, RecursionExample, DepthExample, LocalExample, LoopExample, AliasExample, MatchExample, TupleExample, LogicExample, DivisorExample, BoundsExample, LengthExample, CaseExample, AssertionExample, UnreachedExample, StepsExample, FirstStepExample, ParameterExample, StoreExample};
 
 /// Small programs, one or more for each group of forms: what their first steps give, and what they mean.
 pub fn examples()
@@ -26,4 +26,8 @@ pub fn examples()
     ensures case { CaseExample }
     ensures assertion { AssertionExample }
     ensures unreached { UnreachedExample }
+    ensures steps { StepsExample }
+    ensures first_step { FirstStepExample }
+    ensures parameter { ParameterExample }
+    ensures store { StoreExample }
 {}

@@ -13,36 +13,17 @@ use Rattle.lq_straight.specs.declared.item.Printed.TheVariants as printed
 use Rattle.lq_straight.specs.declared.item.Item.{Item}
 use Rattle.lq_straight.specs.declared.item.ItemNode.{ItemNode}
 use Rattle.lq_straight.specs.declared.item.ItemNode.TheVariants.{Define, Assert, Print}
+use Rattle.lq_straight.specs.Uses.{used_by_sum, used_by_right, used_by_printed}
 use Rattle.lq_straight.specs.Scope.{IsDefinitionOf, Defines, IsNearest, IsBoundSum, IsBoundRight, IsBoundPrinted, IsBoundNode, Resolves}
 
--- the use of a sum is so
-abbrev pub SumUses : (ℕ → Type 0) → Sum Binder → Type 0
-SumUses Is (sum.Use x) = Is x.0
-SumUses Is (sum.Add x n) = Is x.0
-SumUses Is (sum.Sub x n) = Is x.0
-SumUses Is (sum.Whole n) = Unit {0}
-SumUses Is (sum.Negative n) = Unit {0}
+-- each of these binders is so
+abbrev pub Each : (ℕ → Type 0) → List Binder → Type 0
+Each Is [] = Unit {0}
+Each Is (x ∷ xs) = Is x.0 × Each Is xs
 
-abbrev pub RightUses : (ℕ → Type 0) → Right Binder → Type 0
-RightUses Is (right.Read p) = Unit {0}
-RightUses Is (right.Sum s) = SumUses Is s
-
-abbrev pub PrintedUses : (ℕ → Type 0) → Printed Binder → Type 0
-PrintedUses Is (printed.Sum s) = SumUses Is s
-PrintedUses Is (printed.Add m n) = Unit {0}
-PrintedUses Is (printed.Sub m n) = Unit {0}
-
-pub sum_uses : (Is Also : ℕ → Type 0) → ((y : ℕ) → Is y → Also y) → (s : Sum Binder) → SumUses Is s → SumUses Also s
-sum_uses Is Also f (sum.Use x) is = f x.0 is
-sum_uses Is Also f (sum.Add x n) is = f x.0 is
-sum_uses Is Also f (sum.Sub x n) is = f x.0 is
-sum_uses Is Also f (sum.Whole n) is = tt
-sum_uses Is Also f (sum.Negative n) is = tt
-
-pub printed_uses : (Is Also : ℕ → Type 0) → ((y : ℕ) → Is y → Also y) → (e : Printed Binder) → PrintedUses Is e → PrintedUses Also e
-printed_uses Is Also f (printed.Sum s) is = sum_uses Is Also f s is
-printed_uses Is Also f (printed.Add m n) is = tt
-printed_uses Is Also f (printed.Sub m n) is = tt
+pub each_also : (Is Also : ℕ → Type 0) → ((y : ℕ) → Is y → Also y) → (xs : List Binder) → Each Is xs → Each Also xs
+each_also Is Also f [] each = tt
+each_also Is Also f (x ∷ xs) each = (f x.0 each.0, each_also Is Also f xs each.1)
 
 -- the item with this number is before that one, and a definition
 abbrev pub Before : (ℕ → Type 0) → ℕ → ℕ → Type 0
@@ -50,9 +31,9 @@ Before Is at y = (y < at) × Is y
 
 -- The item with this number: a definition binds the number, other items aren't definitions, and what is used is a definition before it.
 abbrev pub IsBoundAt : (ℕ → Type 0) → ℕ → ItemNode Binder → Type 0
-IsBoundAt Is at (Define x r) = (x.0 ≡ at) × RightUses (Before Is at) r
-IsBoundAt Is at (Assert a) = (Is at → ⊥) × SumUses (Before Is at) a.left × SumUses (Before Is at) a.right
-IsBoundAt Is at (Print e) = (Is at → ⊥) × PrintedUses (Before Is at) e
+IsBoundAt Is at (Define x r) = (x.0 ≡ at) × Each (Before Is at) (used_by_right r)
+IsBoundAt Is at (Assert a) = (Is at → ⊥) × Each (Before Is at) (used_by_sum a.left) × Each (Before Is at) (used_by_sum a.right)
+IsBoundAt Is at (Print e) = (Is at → ⊥) × Each (Before Is at) (used_by_printed e)
 
 -- each of the items, numbered from here on
 abbrev pub AreBoundFrom : (ℕ → Type 0) → ℕ → List (Item Binder) → Type 0
@@ -66,20 +47,20 @@ IsDefinition items y = (name : ℕ) × Defines items y name
 nearest_before : (items : List (Item NameAt)) (at name y : ℕ) → IsNearest items at name y → Before (IsDefinition items) at y
 nearest_before items at name y near = (near.before, (name, near.defines))
 
-sum_bound : (items : List (Item NameAt)) (at : ℕ) (s : Sum NameAt) (t : Sum Binder) → IsBoundSum items at s t → SumUses (Before (IsDefinition items) at) t
-sum_bound items at (sum.Use x) (sum.Use b) is = nearest_before items at x.name.0 b.0 is
-sum_bound items at (sum.Add x n) (sum.Add b m) is = nearest_before items at x.name.0 b.0 is.0
-sum_bound items at (sum.Sub x n) (sum.Sub b m) is = nearest_before items at x.name.0 b.0 is.0
+sum_bound : (items : List (Item NameAt)) (at : ℕ) (s : Sum NameAt) (t : Sum Binder) → IsBoundSum items at s t → Each (Before (IsDefinition items) at) (used_by_sum t)
+sum_bound items at (sum.Use x) (sum.Use b) is = (nearest_before items at x.name.0 b.0 is, tt)
+sum_bound items at (sum.Add x n) (sum.Add b m) is = (nearest_before items at x.name.0 b.0 is.0, tt)
+sum_bound items at (sum.Sub x n) (sum.Sub b m) is = (nearest_before items at x.name.0 b.0 is.0, tt)
 sum_bound items at (sum.Whole n) (sum.Whole m) is = tt
 sum_bound items at (sum.Negative n) (sum.Negative m) is = tt
 sum_bound items at s t is = absurd is
 
-right_bound : (items : List (Item NameAt)) (at : ℕ) (r : Right NameAt) (q : Right Binder) → IsBoundRight items at r q → RightUses (Before (IsDefinition items) at) q
+right_bound : (items : List (Item NameAt)) (at : ℕ) (r : Right NameAt) (q : Right Binder) → IsBoundRight items at r q → Each (Before (IsDefinition items) at) (used_by_right q)
 right_bound items at (right.Read p) (right.Read q) is = tt
 right_bound items at (right.Sum s) (right.Sum t) is = sum_bound items at s t is
 right_bound items at r q is = absurd is
 
-printed_bound : (items : List (Item NameAt)) (at : ℕ) (e : Printed NameAt) (f : Printed Binder) → IsBoundPrinted items at e f → PrintedUses (Before (IsDefinition items) at) f
+printed_bound : (items : List (Item NameAt)) (at : ℕ) (e : Printed NameAt) (f : Printed Binder) → IsBoundPrinted items at e f → Each (Before (IsDefinition items) at) (used_by_printed f)
 printed_bound items at (printed.Sum s) (printed.Sum t) is = sum_bound items at s t is
 printed_bound items at (printed.Add m n) (printed.Add k l) is = tt
 printed_bound items at (printed.Sub m n) (printed.Sub k l) is = tt

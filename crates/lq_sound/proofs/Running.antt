@@ -18,9 +18,10 @@ use Rattle.lq_straight.specs.declared.item.Sum.{Sum}
 use Rattle.lq_straight.specs.declared.item.Sum.TheVariants as sum
 use Rattle.lq_straight.specs.declared.item.Printed.{Printed}
 use Rattle.lq_straight.specs.declared.item.Printed.TheVariants as printed
+use Rattle.lq_straight.specs.Uses.{used_by_sum, used_by_printed}
 use Rattle.lq_straight.specs.Meaning.{sum_tree, printed_tree}
 use Rattle.lq_straight.specs.Demands.{term_of}
-use Rattle.lq_sound.proofs.Bound.{SumUses, PrintedUses}
+use Rattle.lq_sound.proofs.Bound.{Each}
 
 -- no number of steps from here meets a fault or gets stuck
 abbrev pub Calm : List Item → World → Type 0
@@ -72,15 +73,15 @@ record Steps (q : Pattern) (whole : Core → Core) (is : List Item) (w : World) 
   taken : (p : Place) (m n : ℤ) → turn_of (let_item q (whole (minus p m n)) ∷ is) w ≡ to (left_with q (whole (number (m -ℤ n))) is w)
 
 -- a run is calm where it is with the number in place of the sum
-sum_calm : (ps : Pairs) (of : ℕ → ℤ) (p : Place) (t : Sum Binder) (q : Pattern) (whole : Core → Core) (is : List Item) (w : World) → SumUses (HasNumber ps of) t
+sum_calm : (ps : Pairs) (of : ℕ → ℤ) (p : Place) (t : Sum Binder) (q : Pattern) (whole : Core → Core) (is : List Item) (w : World) → Each (HasNumber ps of) (used_by_sum t)
     → Steps q whole is w → Calm (let_item q (whole (number (amount of t))) ∷ is) w → Calm (let_item q (whole (close ps (core_of (sum_tree p t)))) ∷ is) w
-sum_calm ps of p (sum.Use x) q whole is w has steps calm = rw has calm
+sum_calm ps of p (sum.Use x) q whole is w has steps calm = rw has.0 calm
 sum_calm ps of p (sum.Add x n) q whole is w has steps calm =
     let m = of x.0 in
-    rw has (stepped (let_item q (whole (plus p m (pos n)))) is w (left_with q (whole (number (m +ℤ pos n))) is w) (steps.added p m (pos n)) calm)
+    rw has.0 (stepped (let_item q (whole (plus p m (pos n)))) is w (left_with q (whole (number (m +ℤ pos n))) is w) (steps.added p m (pos n)) calm)
 sum_calm ps of p (sum.Sub x n) q whole is w has steps calm =
     let m = of x.0 in
-    rw has (stepped (let_item q (whole (minus p m (pos n)))) is w (left_with q (whole (number (m -ℤ pos n))) is w) (steps.taken p m (pos n)) calm)
+    rw has.0 (stepped (let_item q (whole (minus p m (pos n)))) is w (left_with q (whole (number (m -ℤ pos n))) is w) (steps.taken p m (pos n)) calm)
 sum_calm ps of p (sum.Whole n) q whole is w has steps calm = calm
 sum_calm ps of p (sum.Negative n) q whole is w has steps calm = calm
 
@@ -90,7 +91,7 @@ sum_calm ps of p (sum.Negative n) q whole is w has steps calm = calm
 value_calm : (p : Place) (x : ℕ) (n : ℤ) (is : List Item) (w : World) → Calm (close_items ((x, v_whole n) ∷ []) is) w → Calm (let_item (pattern p (bind x)) (number n) ∷ is) w
 value_calm p x n is w calm = stepped (let_item (pattern p (bind x)) (number n)) is w (record { items = close_items ((x, v_whole n) ∷ []) is; world = w }) refl calm
 
-pub sum_defined_calm : (ps : Pairs) (of : ℕ → ℤ) (p : Place) (x : ℕ) (t : Sum Binder) (is : List Item) (w : World) → SumUses (HasNumber ps of) t
+pub sum_defined_calm : (ps : Pairs) (of : ℕ → ℤ) (p : Place) (x : ℕ) (t : Sum Binder) (is : List Item) (w : World) → Each (HasNumber ps of) (used_by_sum t)
     → Calm (close_items ((x, v_whole (amount of t)) ∷ []) is) w → Calm (let_item (pattern p (bind x)) (close ps (core_of (sum_tree p t))) ∷ is) w
 sum_defined_calm ps of p x t is w has calm =
     sum_calm ps of p t (pattern p (bind x)) (λ e. e) is w has (record { added = λ r m n. refl; taken = λ r m n. refl }) (value_calm p x (amount of t) is w calm)
@@ -122,7 +123,7 @@ compared_calm p r o m n is w holds calm =
     stepped (let_item (pattern p nothing) (one (assert r) (two (comparison o) (number m) (number n)))) is w
     (left_with (pattern p nothing) (one (assert r) (val (v_flag (compares o m n)))) is w) refl (rw holds (true_calm p r is w calm))
 
-pub asserted_calm : (ps : Pairs) (of : ℕ → ℤ) (p r : Place) (o : CompareOp) (a b : Sum Binder) (is : List Item) (w : World) → SumUses (HasNumber ps of) a → SumUses (HasNumber ps of) b
+pub asserted_calm : (ps : Pairs) (of : ℕ → ℤ) (p r : Place) (o : CompareOp) (a b : Sum Binder) (is : List Item) (w : World) → Each (HasNumber ps of) (used_by_sum a) → Each (HasNumber ps of) (used_by_sum b)
     → compares o (amount of a) (amount of b) ≡ true → Calm is w
     → Calm (let_item (pattern p nothing) (one (assert r) (two (comparison o) (close ps (core_of (sum_tree p a))) (close ps (core_of (sum_tree p b))))) ∷ is) w
 asserted_calm ps of p r o a b is w left right holds calm =
@@ -137,7 +138,7 @@ number_printed_calm p n is w calm =
     let after : World = record w { output = w.output ++ n ∷ [] } in
     stepped (let_item (pattern p nothing) (one print (number n))) is w (left_with (pattern p nothing) (val v_unit) is after) refl (unit_calm p is after calm)
 
-pub printed_calm : (ps : Pairs) (of : ℕ → ℤ) (p : Place) (e : Printed Binder) (is : List Item) (w : World) → PrintedUses (HasNumber ps of) e → ((v : World) → Calm is v)
+pub printed_calm : (ps : Pairs) (of : ℕ → ℤ) (p : Place) (e : Printed Binder) (is : List Item) (w : World) → Each (HasNumber ps of) (used_by_printed e) → ((v : World) → Calm is v)
     → Calm (let_item (pattern p nothing) (one print (close ps (core_of (printed_tree p e)))) ∷ is) w
 printed_calm ps of p (printed.Sum t) is w has calm =
     sum_calm ps of p t (pattern p nothing) (λ e. one print e) is w has (record { added = λ s m n. refl; taken = λ s m n. refl })

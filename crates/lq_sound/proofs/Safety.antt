@@ -25,10 +25,11 @@ use Rattle.lq_straight.specs.declared.item.Order.TheVariants.{Less, AtMost, Grea
 use Rattle.lq_straight.specs.declared.item.Item.{Item}
 use Rattle.lq_straight.specs.declared.item.ItemNode.{ItemNode}
 use Rattle.lq_straight.specs.declared.item.ItemNode.TheVariants.{Define, Assert, Print}
+use Rattle.lq_straight.specs.Uses.{used_by_sum, used_by_printed}
 use Rattle.lq_straight.specs.Meaning.{op_of, node_tree, program_of}
 use Rattle.lq_straight.specs.Demands.{term_of, goal_of, known_behind, with_demand, implications_from, ValidIsSafe}
 use Rattle.lq_sound.proofs.Closing.{Closing, close_defined, close_past}
-use Rattle.lq_sound.proofs.Bound.{SumUses, sum_uses, printed_uses, Before, IsBoundAt, AreBoundFrom, IsDefinition, resolved_bound}
+use Rattle.lq_sound.proofs.Bound.{Each, each_also, Before, IsBoundAt, AreBoundFrom, IsDefinition, resolved_bound}
 use Rattle.lq_sound.proofs.Running.{Calm, done_calm, meaning, amount, HasNumber, sum_defined_calm, read_calm, asserted_calm, printed_calm}
 
 -- what is true of valid implications, and of closing
@@ -96,10 +97,10 @@ agrees_before at x v of num e agree y lt =
 hold_still : (at x : ℕ) (v : ℤ) (of : ℕ → ℤ) (known : List Formula) → x ≡ at → HoldIn at of known → HoldIn (suc at) (with_number x v of) known
 hold_still at x v of known e hold num agree = hold num (agrees_before at x v of num e agree)
 
-same_amount : (num of : ℕ → ℤ) (t : Sum Binder) → SumUses (λ y. num y ≡ of y) t → amount num t ≡ amount of t
-same_amount num of (sum.Use x) is = is
-same_amount num of (sum.Add x n) is = ap (λ (v : ℤ). v +ℤ pos n) is
-same_amount num of (sum.Sub x n) is = ap (λ (v : ℤ). v -ℤ pos n) is
+same_amount : (num of : ℕ → ℤ) (t : Sum Binder) → Each (λ y. num y ≡ of y) (used_by_sum t) → amount num t ≡ amount of t
+same_amount num of (sum.Use x) is = is.0
+same_amount num of (sum.Add x n) is = ap (λ (v : ℤ). v +ℤ pos n) is.0
+same_amount num of (sum.Sub x n) is = ap (λ (v : ℤ). v -ℤ pos n) is.0
 same_amount num of (sum.Whole n) is = refl
 same_amount num of (sum.Negative n) is = refl
 
@@ -107,11 +108,11 @@ each_true_push : (m : Meaning) (known : List Formula) (p : Formula) → EachTrue
 each_true_push m [] p each is = (is, tt)
 each_true_push m (q ∷ known) p each is = (each.0, each_true_push m known p each.1 is)
 
-hold_more : (Is : ℕ → Type 0) (at : ℕ) (x : Binder) (t : Sum Binder) (of : ℕ → ℤ) (known : List Formula) → x.0 ≡ at → SumUses (Before Is at) t → HoldIn at of known
+hold_more : (Is : ℕ → Type 0) (at : ℕ) (x : Binder) (t : Sum Binder) (of : ℕ → ℤ) (known : List Formula) → x.0 ≡ at → Each (Before Is at) (used_by_sum t) → HoldIn at of known
     → HoldIn (suc at) (with_number x.0 (amount of t) of) (known ++ compare Eq (var (Bound x)) (term_of t) ∷ [])
 hold_more Is at x t of known e uses hold num agree =
     let before = agrees_before at x.0 (amount of t) of num e agree in
-    let as_before = same_amount num of t (sum_uses (Before Is at) (λ y. num y ≡ of y) (λ y b. before y b.0) t uses) in
+    let as_before = same_amount num of t (each_also (Before Is at) (λ y. num y ≡ of y) (λ y b. before y b.0) (used_by_sum t) uses) in
     let same : num x.0 ≡ amount num t = agree x.0 (omega arith) ∙ new_number x.0 (amount of t) of ∙ sym as_before in
     each_true_push (meaning num) known (compare Eq (var (Bound x)) (term_of t)) (hold num before) ((Decides-int_eq (num x.0) (amount num t)).1 same)
 
@@ -147,15 +148,15 @@ node_calm : Laws → (Is : ℕ → Type 0) (at : ℕ) (p : Place) (n : ItemNode 
 node_calm laws Is at p (Define x (right.Read r)) known later is bound valid rest ps of fills hold w =
     read_calm p r x.0 (close_items (without (x.0 ∷ []) ps) is) w (λ v after. behind_calm laws Is at x.0 v known is bound.0 rest ps of fills (hold_still at x.0 v of known bound.0 hold) after)
 node_calm laws Is at p (Define x (right.Sum t)) known later is bound valid rest ps of fills hold w =
-    sum_defined_calm ps of p x.0 t (close_items (without (x.0 ∷ []) ps) is) w (sum_uses (Before Is at) (HasNumber ps of) fills t bound.1)
+    sum_defined_calm ps of p x.0 t (close_items (without (x.0 ∷ []) ps) is) w (each_also (Before Is at) (HasNumber ps of) fills (used_by_sum t) bound.1)
     (behind_calm laws Is at x.0 (amount of t) (known_behind known (Define x (right.Sum t))) is bound.0 rest ps of fills (hold_more Is at x t of known bound.0 bound.1 hold) w)
 node_calm laws Is at p (Assert a) known later is bound valid rest ps of fills hold w =
     let goal_is = laws.valid (meaning of) (record { hypotheses = known; goal = goal_of a }) (All-head IsValid _ later valid) (hold of (λ y lt. refl)) in
     asserted_calm ps of p a.place (op_of a.order) a.left a.right (close_items (without [] ps) is) w
-    (sum_uses (Before Is at) (HasNumber ps of) fills a.left bound.1) (sum_uses (Before Is at) (HasNumber ps of) fills a.right bound.2)
+    (each_also (Before Is at) (HasNumber ps of) fills (used_by_sum a.left) bound.1) (each_also (Before Is at) (HasNumber ps of) fills (used_by_sum a.right) bound.2)
     (same_order a.order (amount of a.left) (amount of a.right) ∙ goal_is) (past_calm laws Is at known is bound.0 rest ps of fills hold w)
 node_calm laws Is at p (Print e) known later is bound valid rest ps of fills hold w =
-    printed_calm ps of p e (close_items (without [] ps) is) w (printed_uses (Before Is at) (HasNumber ps of) fills e bound.1)
+    printed_calm ps of p e (close_items (without [] ps) is) w (each_also (Before Is at) (HasNumber ps of) fills (used_by_printed e) bound.1)
     (λ after. past_calm laws Is at known is bound.0 rest ps of fills hold after)
 
 later_valid : (known : List Formula) (n : ItemNode Binder) (later : List Implication) → All IsValid (with_demand known n later) → All IsValid later

@@ -1,7 +1,7 @@
 // Laws of the definitions. Nothing is run.
 ghost use Rattle.lq_straight.specs.Demands.{ValidIsSafe};
 
-use lq_model::closing_items;
+use lq_model::{closing, closing_items};
 use lq_pred::whole_numbers_are_a_point;
 
 /// A straight-line program whose names are all bound and whose demands are all valid is safe: on every input, no number
@@ -10,5 +10,6 @@ pub fn valid_programs_are_safe()
     ensures { ValidIsSafe }
 {
     whole_numbers_are_a_point();
+    closing();
     closing_items();
 }

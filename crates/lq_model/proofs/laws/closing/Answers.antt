@@ -1,4 +1,4 @@
-use Rattle.lq_model.proofs.Binding.{close_behind, fits_binds}
+use Rattle.lq_model.proofs.Binding.{close_behind, fits_binds, pair_of, pairs_append}
 use Rattle.lq_model.proofs.Substitution.{close-close, close-same, close-none}
 use Rattle.lq_model.proofs.laws.closing.Goals as goal
 
@@ -16,3 +16,9 @@ returns-clause-behind c = close_behind
 
 pub returns-clause-binds : goal.returns-clause-binds
 returns-clause-binds c = fits_binds
+
+pub returns-clause-one : goal.returns-clause-one
+returns-clause-one c = pair_of
+
+pub returns-clause-together : goal.returns-clause-together
+returns-clause-together c = pairs_append

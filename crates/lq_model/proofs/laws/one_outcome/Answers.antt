@@ -1,6 +1,8 @@
-use Rattle.std.proofs.Common.{refl, sym}
-use Rattle.lq_model.specs.Program.{outcome}
+use Rattle.lq_model.proofs.States.{one_outcome, safe_by_steps}
 use Rattle.lq_model.proofs.laws.one_outcome.Goals as goal
 
-pub returns : goal.returns
-returns c = λ is input n. (outcome is input n, refl, λ other e. sym e)
+pub returns-clause-one : goal.returns-clause-one
+returns-clause-one c = one_outcome
+
+pub returns-clause-safe : goal.returns-clause-safe
+returns-clause-safe c = safe_by_steps
