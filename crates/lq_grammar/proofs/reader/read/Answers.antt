@@ -1,11 +1,11 @@
-use Rattle.std.proofs.Common.{◌≡◌, ◌∷◌, ◌+◌, ◌-◌, ◌<◌, ◌≤◌, [], ◌++◌, refl, reverse, arith, sym, ◌∙◌, ap, List, length, get_or, Some, subst, true, ◌^◌}
+use Rattle.std.proofs.Common.{◌≡◌, ◌∷◌, ◌+◌, ◌<◌, ◌≤◌, [], ◌++◌, refl, reverse, arith, sym, ◌∙◌, ap, List, length, get_or, subst, true}
 use Rattle.lq_grammar.specs.declared.symbol.Symbol.{Symbol}
 use Rattle.lq_grammar.specs.declared.symbol.Symbol.TheVariants.{Word, Part, Make, Leave}
 use Rattle.lq_grammar.specs.declared.symbol.Event.TheVariants as event
 use Rattle.lq_grammar.specs.declared.kind.Kind.TheVariants as kind
 use Rattle.lq_grammar.specs.Kinds.{same_kind}
-use Rattle.lq_grammar.specs.Grammar.{way, alternatives, takes, passes, refuses, start_of}
-use Rattle.lq_grammar.specs.Levels.{kind_at, depth}
+use Rattle.lq_grammar.specs.Grammar.{alternatives, start_of}
+use Rattle.lq_grammar.specs.Levels.{way, takes, passes, refuses, kind_at, depth}
 use Rattle.lq_grammar.proofs.SameKind.{same_kind-eq, same_kind-refl}
 use Rattle.lq_grammar.proofs.States.{opening, pop_state, same_state, state_start, state_make, state_leave, state_pass, state_take, state_word, syntax_refused, syntax_word, syntax_over, syntax_end_word, syntax_end_refused, deep_word, deep_taken, deep_refused, text_end, shallow_end, left_over, takes_within, takes_less, passes_less, over_smaller, at_syntax, at_too_deep, level_fits, empty}
 use Rattle.lq_grammar.proofs.reader.read.Goals as goal
