@@ -303,6 +303,28 @@ module _ (start : Rule) (limit : ℕ) (kinds : List Kind) (ss : List Symbol) (pa
     pub shallow_end : State start limit kinds [] past at level → IsShallow start limit kinds (length kinds)
     shallow_end s = rw over at s.shallow
 
+module _ (start : Rule) (limit : ℕ) (kinds : List Kind) (ss : List Symbol) (past : List Event) (at level : ℕ) where
+  -- the next token is this one
+  pub state_next : (k : Kind) → kind_at kinds at ≡ Some k → level ≤ limit → State start limit kinds (Word k ∷ ss) past at level → State start limit kinds ss (past ++ event.Take ∷ []) (at + 1) level
+  state_next k e small s = elim (cases_lt at (length kinds)) [
+    | inl room ↦ let there : Some (get_or kinds at k) ≡ Some k = sym (kind_there start limit kinds ss past at level k room) ∙ e in let same : get_or kinds at k ≡ k = cc in state_word start limit kinds ss past at level k room k same small s
+    | inr over ↦ let none : kind_at kinds at ≡ None = rw (drop_all at kinds over) in absurd cc
+  ]
+
+  -- the token that is read next is another one
+  pub syntax_next : (k : Kind) → ((kind_at kinds at ≡ Some k) × (level ≤ limit) → ⊥) → (at < length kinds → level ≤ limit) → State start limit kinds (Word k ∷ ss) past at level → IsSyntax start limit kinds at
+  syntax_next k other small s = elim (cases_lt at (length kinds)) [
+    | inl room ↦ syntax_word start limit kinds ss past at level k room k (λ is. other (kind_there start limit kinds ss past at level k room ∙ ap Some is, small room)) (small room) s
+    | inr over ↦ syntax_end_word start limit kinds ss past at level (omega (arith, s.within)) k s
+  ]
+
+  -- the next token makes nothing of the part
+  pub syntax_part : (d : Kind) (x : Rule) → way (kind_at kinds at) (alternatives x) ≡ refuses → (at < length kinds → level ≤ limit) → State start limit kinds (Part x ∷ ss) past at level → IsSyntax start limit kinds at
+  syntax_part d x e small s = elim (cases_lt at (length kinds)) [
+    | inl room ↦ syntax_refused start limit kinds ss past at level d room x e (small room) s
+    | inr over ↦ syntax_end_refused start limit kinds ss past at level (omega (arith, s.within)) x e s
+  ]
+
 pub at_syntax : (start : Rule) (limit : ℕ) (kinds : List Kind) (here at : ℕ) → here ≡ at → IsSyntax start limit kinds here → IsSyntax start limit kinds at
 at_syntax start limit kinds here at e h = subst (IsSyntax start limit kinds) e h
 
