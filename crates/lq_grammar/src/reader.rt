@@ -70,7 +70,7 @@ fn fits(kinds: &[Kind], at: usize, kind: Kind, level: usize, limit: usize) -> bo
     }
 }
 
-// Why the reading ends here, where no text goes on with the next token.
+// Why no token is taken here: the next one is too deep or a stop, or there is none.
 fn refusal(kinds: &[Kind], at: usize, level: usize, limit: usize) -> ReadError
     ensures syntax { (place : ℕ) → result ≡ Syntax place → (place ≡ at) × (at < length kinds.now → level ≤ limit) }
     ensures too_deep { (place : ℕ) → result ≡ TooDeep place → (place ≡ at) × (at < length kinds.now) × (limit < level) }
