@@ -16,10 +16,10 @@ use Rattle.lq_grammar.specs.declared.rule.EntryPart.TheVariants.{Quals}
 use Rattle.lq_grammar.specs.declared.rule.PredPart.TheVariants.{Predicate}
 use Rattle.lq_grammar.specs.declared.symbol.Symbol.{Symbol}
 use Rattle.lq_grammar.specs.declared.symbol.Symbol.TheVariants.{Part}
-use Rattle.lq_grammar.specs.Grammar.{Alternative, begins, before, otherwise, alternatives, takes, passes, way}
+use Rattle.lq_grammar.specs.Grammar.{Alternative, begins, before, otherwise, alternatives}
 use Rattle.lq_grammar.specs.Kinds as kinds
 use Rattle.lq_grammar.specs.Kinds.{same_kind}
-use Rattle.lq_grammar.specs.Levels.{depth}
+use Rattle.lq_grammar.specs.Levels.{takes, passes, way, depth}
 use Rattle.lq_action.proofs.Sorts.{Sort, same_sort, same_sort-eq, Step, beside, below, Signature}
 use Rattle.lq_action.proofs.Signatures.{signature}
 use Rattle.lq_action.proofs.Flows.{Slot, slot, Last, unknown, last_of, paid, Pulled, lacks, pulled, pull, put, put_pulled, all_needs, part_use, Flow, stuck, ends, flow, Above, FlowsAbove, goes_on-ends, flow-above, flow-append, vaguer-same}

@@ -1,12 +1,12 @@
 -- Each step makes at most one item.
 use Rattle.std.specs.Prelude.{◌^◌, nat_lt}
-use Rattle.std.proofs.Common.{◌≡◌, ℕ, suc, ◌+◌, ◌≤◌, Bool, true, false, if◌then◌else◌, pos, List, [], ◌∷◌, ◌++◌, length, Option, Some, None, subst, arith}
+use Rattle.std.proofs.Common.{◌≡◌, ℕ, suc, ◌+◌, ◌≤◌, Bool, true, false, if◌then◌else◌, List, [], ◌∷◌, ◌++◌, length, Option, Some, None, subst, arith}
 use Rattle.std.proofs.lemmas.List.{length-append}
 use Rattle.lq_name.specs.declared.place.Place.{Place}
 use Rattle.lq_tree.specs.Items.{ItemTree, type_of, let_of, let_rec_of}
 use Rattle.lq_tree.specs.PredTree as pred
 use Rattle.lq_tree.specs.PredTree.{PredTree, PredForm}
-use Rattle.lq_tree.specs.Tree.{Tree, tree, Form, flag, unit, use_of, qualified, tuple, build, list_of, call, arithmetic, negated, compare, not_of, and_of, or_of, chain}
+use Rattle.lq_tree.specs.Tree.{Tree, Form, unit, qualified, tuple, build, list_of, call, arithmetic, negated, compare, not_of, and_of, or_of, chain}
 use Rattle.lq_tree.specs.TreeView.{trees_of}
 use Rattle.lq_tree.specs.declared.expr.Arguments.TheVariants.{Apart}
 use Rattle.lq_grammar.specs.declared.symbol.Action.{Action}
@@ -27,12 +27,12 @@ use Rattle.lq_grammar.specs.declared.symbol.EntryAction.{EntryAction}
 use Rattle.lq_grammar.specs.declared.symbol.EntryAction.TheVariants.{NoQualifiers, AddQualifier, NoMeasures, AddMeasure, NoEquations, AppendEquation}
 use Rattle.lq_grammar.specs.declared.symbol.PredAction.{PredAction}
 use Rattle.lq_grammar.specs.declared.symbol.PredAction.TheVariants.{PredLiteral, PredNegative, PredTruth, PredUntruth, PredUse, PredPlaceholder, PredApply, PredQualified, PredNegate, PredNot, PredAnd, PredOr, IffOf, PredInside, PredArith, PredCompare}
-use Rattle.lq_action.specs.Value.{Lexeme, Commas, bare, absent, Value, mark, named, expression, expressions, element, arms, recursive, pattern_read, patterns, type_read, types, parameters, constructors, items, predicate, qualifiers, equations, measures, Making, with_values, with_node}
+use Rattle.lq_action.specs.Value.{Lexeme, Commas, bare, absent, Value, mark, named, expression, expressions, element, arms, recursive, pattern_read, patterns, type_read, types, parameters, constructors, items, predicate, qualifiers, equations, measures, Making, with_values}
 use Rattle.lq_action.specs.Types.{two_types, append_type, apply_type, apply_types, product_type, arrow_type, type_inside, typing_made}
 use Rattle.lq_action.specs.Patterns.{cons_name, unit_pattern, nil_pattern, cons_pattern, two_patterns, append_pattern, tuple_pattern, tuple_here, build_pattern, pattern_inside, pattern_made}
 use Rattle.lq_action.specs.Expressions.{literal, negative_literal, in_parentheses, assert_form, of_name, at_mark, of_one, of_two, of_row, build_one, enclose, element_of, fetch_of, store_of, function_of, function_here, recursive_of, recursive_here, let_of_all, let_rec_of_all, append_arm, match_of, if_of, if_only, two_trees, append_tree, operand_made, block_made}
-use Rattle.lq_action.specs.Items.{parameter_at, add_let, add_rec, add_type, add_parameter, add_constructor, add_qualifier, append_equation, add_measure, item_made, entry_made}
-use Rattle.lq_action.specs.Predicates.{pred_literal, pred_negative, with_predicate, pred_of_name, pred_apply, pred_qualified, pred_of_one, pred_of_two, pred_inside, pred_made}
+use Rattle.lq_action.specs.Items.{add_let, add_rec, add_type, add_parameter, add_constructor, add_qualifier, append_equation, add_measure, item_made, entry_made}
+use Rattle.lq_action.specs.Predicates.{pred_literal, pred_negative, pred_of_name, pred_apply, pred_qualified, pred_of_one, pred_of_two, pred_inside, pred_made}
 use Rattle.lq_action.specs.Made.{made}
 use Rattle.lq_action.specs.Trees.{and_then, run}
 

@@ -1,7 +1,7 @@
 -- A reading whose levels are within a limit makes one value, which nests no deeper.
 use Rattle.std.proofs.Common.{◌≡◌, ℕ, suc, ◌+◌, ◌*◌, ◌≤◌, refl, sym, ◌∙◌, Option, Some, None, List, [], ◌∷◌, ◌++◌, arith, length}
-use Rattle.lq_grammar.specs.Grammar.{alternatives, takes, passes, way}
-use Rattle.lq_grammar.specs.Levels.{depth, Within, over, word, takes_one, passes_on, makes, leaves}
+use Rattle.lq_grammar.specs.Grammar.{alternatives}
+use Rattle.lq_grammar.specs.Levels.{takes, passes, way, depth, Within, over, word, takes_one, passes_on, makes, leaves}
 use Rattle.lq_grammar.specs.Reading.{next}
 use Rattle.lq_grammar.specs.declared.kind.Kind.{Kind}
 use Rattle.lq_grammar.specs.declared.rule.Rule.{Rule}

@@ -1,7 +1,7 @@
 -- The table is checked once, by computing.
 use Rattle.std.specs.Prelude.{if◌then◌else◌}
 use Rattle.std.specs.List.{list_any, list_all}
-use Rattle.std.proofs.Common.{◌≡◌, ℕ, ◌+◌, ◌<◌, refl, sym, ap, ◌∙◌, subst, Bool, true, false, ◌&&◌, Option, Some, None, List, [], ◌∷◌, ◌++◌, arith}
+use Rattle.std.proofs.Common.{◌≡◌, ℕ, ◌+◌, refl, Bool, true, false, ◌&&◌, Option, Some, None, List, [], ◌∷◌}
 use Rattle.std.proofs.Math.Dec.{ltb}
 use Rattle.lq_grammar.specs.declared.kind.Kind.{Kind}
 use Rattle.lq_grammar.specs.declared.rule.Rule.{Rule}
@@ -15,10 +15,10 @@ use Rattle.lq_grammar.specs.declared.rule.EntryPart.TheVariants.{Quals}
 use Rattle.lq_grammar.specs.declared.rule.PredPart.TheVariants.{Predicate}
 use Rattle.lq_grammar.specs.declared.symbol.Symbol.{Symbol}
 use Rattle.lq_grammar.specs.declared.symbol.Symbol.TheVariants.{Word, Part, Make, Leave}
-use Rattle.lq_grammar.specs.Kinds.{same_kind}
-use Rattle.lq_grammar.specs.Grammar.{Alternative, begins, before, otherwise, alternatives, Way, takes, passes, refuses, way}
+use Rattle.lq_grammar.specs.Grammar.{Alternative, begins, before, otherwise, alternatives}
+use Rattle.lq_grammar.specs.Levels.{Way, takes, passes, refuses, way}
 use Rattle.lq_grammar.proofs.Facts.{lead, follow, weight, blocks}
-use Rattle.lq_grammar.proofs.SameKind.{same_next, same_next-eq, same_kind-eq}
+use Rattle.lq_grammar.proofs.SameKind.{same_next}
 
 abbrev pub or_next : Option Kind → Option Kind → Option Kind
 or_next None n = n

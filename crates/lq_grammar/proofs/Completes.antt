@@ -1,22 +1,19 @@
 -- Whatever is still to be read has a shortest reading.
-use Rattle.std.specs.Prelude.{IsTrue}
-use Rattle.std.specs.List.{list_any, list_all}
-use Rattle.std.proofs.Common.{◌≡◌, ℕ, suc, zero, ◌+◌, ◌<◌, refl, sym, ap, ◌∙◌, subst, Bool, true, false, ◌&&◌, Option, Some, None, List, [], ◌∷◌, ◌++◌, arith}
+use Rattle.std.proofs.Common.{◌≡◌, ℕ, suc, zero, ◌+◌, ◌<◌, refl, ◌∙◌, true, Option, Some, None, List, [], ◌∷◌, ◌++◌, arith}
 use Rattle.std.proofs.Math.Dec.{ltb}
 use Rattle.std.proofs.lemmas.Bool.{ltb-true}
 use Rattle.lq_grammar.specs.declared.kind.Kind.{Kind}
 use Rattle.lq_grammar.specs.declared.rule.Rule.{Rule}
-use Rattle.lq_grammar.specs.declared.symbol.Action.{Action}
 use Rattle.lq_grammar.specs.declared.symbol.Symbol.{Symbol}
 use Rattle.lq_grammar.specs.declared.symbol.Symbol.TheVariants.{Word, Part, Make, Leave}
 use Rattle.lq_grammar.specs.declared.symbol.Event.{Event}
 use Rattle.lq_grammar.specs.declared.symbol.Event.TheVariants as event
-use Rattle.lq_grammar.specs.Grammar.{alternatives, Way, takes, passes, refuses, way}
+use Rattle.lq_grammar.specs.Grammar.{alternatives}
 use Rattle.lq_grammar.specs.Reading.{next}
-use Rattle.lq_grammar.specs.Levels.{Leads, stays, word, takes_one, passes_on, makes, leaves}
+use Rattle.lq_grammar.specs.Levels.{Way, takes, passes, refuses, way, Leads, stays, word, takes_one, passes_on, makes, leaves}
 use Rattle.lq_grammar.proofs.Facts.{lead, follow, weight}
 use Rattle.lq_grammar.proofs.SameKind.{same_next, same_next-eq}
-use Rattle.lq_grammar.proofs.Checked.{or_next, first_then, among, fine, weigh, lighter, passes_well, takes_well, ends_well}
+use Rattle.lq_grammar.proofs.Checked.{or_next, first_then, among, fine, weigh, lighter, ends_well}
 use Rattle.lq_grammar.proofs.Found.{both, takes_found, passes_found, ends_found, first_then-append, fine-append, weigh-append}
 
 -- what is to be read has readings

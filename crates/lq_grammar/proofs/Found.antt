@@ -1,14 +1,15 @@
 -- What the check of the table says of each alternative that the next token chooses.
-use Rattle.std.specs.Prelude.{if◌then◌else◌, cond}
+use Rattle.std.specs.Prelude.{if◌then◌else◌}
 use Rattle.std.specs.List.{list_any, list_all}
-use Rattle.std.proofs.Common.{◌≡◌, ℕ, ◌+◌, ◌<◌, refl, sym, ap, ◌∙◌, subst, Bool, true, false, ◌&&◌, ◌||◌, Option, Some, None, List, [], ◌∷◌, ◌++◌, arith}
+use Rattle.std.proofs.Common.{◌≡◌, ◌+◌, refl, ap, Bool, true, false, ◌&&◌, ◌||◌, Option, Some, None, List, [], ◌∷◌, ◌++◌, arith}
 use Rattle.lq_grammar.specs.declared.kind.Kind.{Kind}
 use Rattle.lq_grammar.specs.declared.rule.Rule.{Rule}
 use Rattle.lq_grammar.specs.declared.symbol.Symbol.{Symbol}
 use Rattle.lq_grammar.specs.declared.symbol.Symbol.TheVariants.{Word, Part, Make, Leave}
 use Rattle.lq_grammar.specs.Kinds.{same_kind}
-use Rattle.lq_grammar.specs.Grammar.{Alternative, begins, before, otherwise, alternatives, Way, takes, passes, refuses, way}
-use Rattle.lq_grammar.proofs.Facts.{lead, follow, weight, blocks}
+use Rattle.lq_grammar.specs.Grammar.{Alternative, begins, before, otherwise, alternatives}
+use Rattle.lq_grammar.specs.Levels.{takes, passes, way}
+use Rattle.lq_grammar.proofs.Facts.{lead, follow}
 use Rattle.lq_grammar.proofs.SameKind.{same_next, same_next-eq, same_kind-eq}
 use Rattle.lq_grammar.proofs.Checked.{or_next, first_then, among, fine, weigh, passes_well, takes_well, alternative_well, ends_here, follows_well, checked}
 

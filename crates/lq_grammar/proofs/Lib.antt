@@ -8,3 +8,5 @@ pub mod Runs
 pub mod States
 pub mod Unique
 pub mod Limits
+pub mod Ahead
+pub mod Opened

@@ -1,16 +1,14 @@
 -- A reading of tokens whose levels are within the limit opens no more levels.
-use Rattle.std.proofs.Common.{◌≡◌, ℕ, ◌+◌, ◌<◌, ◌≤◌, refl, sym, ap, ◌∙◌, Option, Some, None, List, [], ◌∷◌, ◌++◌, arith, append_assoc, length, take, drop}
-use Rattle.std.proofs.lemmas.List.{append-nil}
+use Rattle.std.proofs.Common.{◌≡◌, ℕ, ◌<◌, ◌≤◌, refl, ap, None, List, [], ◌∷◌, ◌++◌, arith, append_assoc, length, take, drop}
 use Rattle.lq_grammar.specs.declared.kind.Kind.{Kind}
 use Rattle.lq_grammar.specs.declared.rule.Rule.{Rule}
 use Rattle.lq_grammar.specs.declared.symbol.Symbol.{Symbol}
-use Rattle.lq_grammar.specs.declared.symbol.Symbol.TheVariants.{Word, Part, Make, Leave}
+use Rattle.lq_grammar.specs.declared.symbol.Symbol.TheVariants.{Word, Part}
 use Rattle.lq_grammar.specs.declared.symbol.Event.{Event}
 use Rattle.lq_grammar.specs.declared.symbol.Event.TheVariants as event
-use Rattle.lq_grammar.specs.Grammar.{alternatives, Way, takes, passes, refuses, way}
 use Rattle.lq_grammar.specs.Reading.{next, IsText}
 use Rattle.lq_grammar.specs.Levels as levels
-use Rattle.lq_grammar.specs.Levels.{Leads, stays, word, takes_one, passes_on, makes, leaves, depth, way_depth, is_token_way, token_depth, kind_at, IsLevel, IsShallow, Within}
+use Rattle.lq_grammar.specs.Levels.{Way, takes, passes, refuses, way, Leads, stays, word, takes_one, passes_on, makes, leaves, depth, way_depth, is_token_way, token_depth, kind_at, IsLevel, IsShallow, Within}
 use Rattle.lq_grammar.proofs.Runs.{Reached, reached_start, reached_pass, reached_make, reached_leave, reached_take, reached_word, level_at}
 use Rattle.lq_grammar.proofs.Plainly.{from_plain}
 

@@ -1,7 +1,7 @@
 -- The order of the alternatives and the look at the next token leave out no text.
-use Rattle.std.specs.Prelude.{IsTrue, not, if◌then◌else◌}
+use Rattle.std.specs.Prelude.{not, if◌then◌else◌}
 use Rattle.std.specs.List.{list_any, list_all}
-use Rattle.std.proofs.Common.{◌≡◌, ℕ, refl, sym, ap, ◌∙◌, subst, Bool, true, false, ◌&&◌, ◌||◌, Option, Some, None, List, [], ◌∷◌, ◌++◌, inl, inr, ◌⊎◌}
+use Rattle.std.proofs.Common.{◌≡◌, refl, ap, ◌∙◌, subst, Bool, true, false, ◌&&◌, ◌||◌, Option, Some, None, List, [], ◌∷◌, ◌++◌}
 use Rattle.lq_grammar.specs.declared.kind.Kind.{Kind}
 use Rattle.lq_grammar.specs.declared.rule.Rule.{Rule}
 use Rattle.lq_grammar.specs.declared.rule.Rule.TheVariants.{InProgram, InType, InBinding, InExpression, InPattern, InEntry, InPred}
@@ -15,9 +15,9 @@ use Rattle.lq_grammar.specs.declared.rule.PredPart.TheVariants.{Predicate}
 use Rattle.lq_grammar.specs.declared.symbol.Symbol.{Symbol}
 use Rattle.lq_grammar.specs.declared.symbol.Symbol.TheVariants.{Word, Part, Make, Leave}
 use Rattle.lq_grammar.specs.Kinds.{same_kind}
-use Rattle.lq_grammar.specs.Grammar.{Alternative, begins, before, otherwise, alternatives, Way, takes, passes, refuses, way}
+use Rattle.lq_grammar.specs.Grammar.{Alternative, begins, before, otherwise, alternatives}
 use Rattle.lq_grammar.specs.declared.symbol.Event.{Event}
-use Rattle.lq_grammar.specs.Levels.{Leads, stays, word, takes_one, passes_on, makes, leaves}
+use Rattle.lq_grammar.specs.Levels.{Way, takes, passes, way, Leads, stays, word, takes_one, passes_on, makes, leaves}
 use Rattle.lq_grammar.specs.Reading as plain
 use Rattle.lq_grammar.specs.Reading.{next, body_of, OneOf, this, later, skips, own_kinds, begins_one, Reads}
 use Rattle.std.proofs.lemmas.List.Folds.{list_any-append}
@@ -280,33 +280,42 @@ none_fits k {alts = otherwise b ∷ alts} h (later o) = none_fits k h o
 none_fits k {alts = begins j b ∷ alts} h (later o) = none_fits k ((neither (same_kind j k) (has (own_kinds alts) k) h).1) o
 none_fits k {alts = before ks b ∷ alts} h (later o) = none_fits k ((neither (has ks k) (has (own_kinds alts) k) (rw list_any-append at h)).1) o
 
-by_kind : {x : Rule} {ss : List Symbol} {ts : List Kind} {es : List Event} (a : Alternative) (b : List Symbol) → ((k : Kind) → has (kinds_of a) k ≡ true → (others : List Alternative) → way (Some k) (a ∷ others) ≡ passes b) → OneOf a (alternatives x) → Starts (kinds_of a) ts → Leads None (b ++ ss) ts es [] → Leads None (Part x ∷ ss) ts es []
-by_kind {x = x} {ts = ts} a b here o (t, us, e, i) d =
-    let w = way_to t a (passes b) (here t i) (are_apart x) (λ c n h. left_kind t c a h i) o in
-    passes_on b (rw e w) d
+by_kind : (x : Rule) {ts : List Kind} (a : Alternative) (b : List Symbol) → ((k : Kind) → has (kinds_of a) k ≡ true → (others : List Alternative) → way (Some k) (a ∷ others) ≡ passes b) → OneOf a (alternatives x) → Starts (kinds_of a) ts → way (next ts None) (alternatives x) ≡ passes b
+by_kind x {ts = ts} a b here o (t, us, e, i) = rw e (way_to t a (passes b) (here t i) (are_apart x) (λ c n h. left_kind t c a h i) o)
 
-part_from : {x : Rule} {ss : List Symbol} {ts : List Kind} {es : List Event} (a : Alternative) → OneOf a (alternatives x) → not (skips (body_of a) && begins_one x (next ts None)) ≡ true → Leads None (body_of a ++ ss) ts es [] → Leads None (Part x ∷ ss) ts es []
-part_from {x = x} (begins k b) o g (word t d) =
-    takes_one b (way_to k (begins k b) (takes b) (λ others. ap (λ (u : Bool). if u then takes b else way (Some k) others) (same_kind-refl k)) (are_apart x) (λ c n h. left_kind k c (begins k b) h (has_self k)) o) d
-part_from {x = x} {ss = ss} {ts = ts} (before ks b) o g d =
+-- the next token chooses this alternative
+abbrev Chooses : Rule → List Kind → Alternative → Type 0
+Chooses x ts (begins k b) = way (Some k) (alternatives x) ≡ takes b
+Chooses x ts (before ks b) = way (next ts None) (alternatives x) ≡ passes b
+Chooses x ts (otherwise b) = way (next ts None) (alternatives x) ≡ passes b
+
+pub chosen : (x : Rule) (ss : List Symbol) {ts : List Kind} {es : List Event} (a : Alternative) → OneOf a (alternatives x) → not (skips (body_of a) && begins_one x (next ts None)) ≡ true → Leads None (body_of a ++ ss) ts es [] → Chooses x ts a
+chosen x ss (begins k b) o g d =
+    way_to k (begins k b) (takes b) (λ others. ap (λ (u : Bool). if u then takes b else way (Some k) others) (same_kind-refl k)) (are_apart x) (λ c n h. left_kind k c (begins k b) h (has_self k)) o
+chosen x ss {ts = ts} (before ks b) o g d =
     let p = both (commits b) (list_all (has ks) (first_of b)) (its_shape x (before ks b) o) in
-    by_kind (before ks b) b (λ k i others. ap (λ (u : Bool). if u then passes b else way (Some k) others) i) o (wider (first_of b) ks ts p.1 (starts_body ss b p.0 d)) d
-part_from {x = x} {ss = ss} {ts = ts} {es = es} (otherwise b) o g d = go (blocks x) refl
+    by_kind x (before ks b) b (λ k i others. ap (λ (u : Bool). if u then passes b else way (Some k) others) i) o (wider (first_of b) ks ts p.1 (starts_body ss b p.0 d))
+chosen x ss {ts = ts} (otherwise b) o g d = go (blocks x) refl
   where
-    skipped : (n : Option Kind) → next ts None ≡ n → skips b ≡ true → not (skips b && begins_one x n) ≡ true → Leads None (Part x ∷ ss) ts es []
-    skipped None is r f = passes_on b (rw is (way_to_end b (are_apart x) o)) d
+    skipped : (n : Option Kind) → next ts None ≡ n → skips b ≡ true → not (skips b && begins_one x n) ≡ true → way (next ts None) (alternatives x) ≡ passes b
+    skipped None is r f = rw is (way_to_end b (are_apart x) o)
     skipped (Some k) is r f =
         let f2 : not (has (own_kinds (alternatives x)) k) ≡ true = rw r at f in
         let w = way_to k (otherwise b) (passes b) (λ others. refl) (are_apart x) (λ c n h. none_fits k (negated (has (own_kinds (alternatives x)) k) f2) n) o in
-        passes_on b (rw is w) d
+        rw is w
 
-    go : (t : Bool) → blocks x ≡ t → Leads None (Part x ∷ ss) ts es []
-    go true is = by_kind (otherwise b) b (λ k i others. refl) o (starts_body ss b (rw is at (its_shape x (otherwise b) o)) d) d
+    go : (t : Bool) → blocks x ≡ t → way (next ts None) (alternatives x) ≡ passes b
+    go true is = by_kind x (otherwise b) b (λ k i others. refl) o (starts_body ss b (rw is at (its_shape x (otherwise b) o)) d)
     go false is = skipped (next ts None) refl (rw is at (its_shape x (otherwise b) o)) g
+
+part_from : (x : Rule) {ss : List Symbol} {ts : List Kind} {es : List Event} (a : Alternative) → Chooses x ts a → Leads None (body_of a ++ ss) ts es [] → Leads None (Part x ∷ ss) ts es []
+part_from x (begins k b) e (word t d) = takes_one b e d
+part_from x (before ks b) e d = passes_on b e d
+part_from x (otherwise b) e d = passes_on b e d
 
 pub from_plain : {ss : List Symbol} {ks : List Kind} {es : List Event} → Reads ss ks es → Leads None ss ks es []
 from_plain plain.over = stays refl
 from_plain (plain.word k d) = word k (from_plain d)
-from_plain (plain.part a o g d) = part_from a o g (from_plain d)
+from_plain (plain.part {x = x} {ss = ss} a o g d) = let e = from_plain d in part_from x a (chosen x ss a o g e) e
 from_plain (plain.make d) = makes (from_plain d)
 from_plain (plain.leave d) = leaves (from_plain d)

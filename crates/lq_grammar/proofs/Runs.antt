@@ -1,6 +1,6 @@
 -- A run from the start, so far: what is left to be read decides alone which texts go on.
 use Rattle.std.specs.Prelude.{IsTrue}
-use Rattle.std.proofs.Common.{◌≡◌, ℕ, suc, zero, ◌+◌, ◌<◌, ◌≤◌, refl, sym, ap, ◌∙◌, subst, Bool, true, false, Option, Some, None, List, [], ◌∷◌, ◌++◌, arith, append_assoc, inl, inr, length, take, drop}
+use Rattle.std.proofs.Common.{◌≡◌, ℕ, suc, refl, sym, ap, ◌∙◌, true, false, Option, Some, None, List, [], ◌∷◌, ◌++◌, arith, append_assoc}
 use Rattle.std.proofs.lemmas.List.{append-nil}
 use Rattle.lq_grammar.specs.declared.kind.Kind.{Kind}
 use Rattle.lq_grammar.specs.declared.rule.Rule.{Rule}
@@ -9,11 +9,11 @@ use Rattle.lq_grammar.specs.declared.symbol.Symbol.{Symbol}
 use Rattle.lq_grammar.specs.declared.symbol.Symbol.TheVariants.{Word, Part, Make, Leave}
 use Rattle.lq_grammar.specs.declared.symbol.Event.{Event}
 use Rattle.lq_grammar.specs.declared.symbol.Event.TheVariants as event
-use Rattle.lq_grammar.specs.Grammar.{alternatives, Way, takes, passes, refuses, way}
-use Rattle.lq_grammar.specs.Reading.{next, IsText, Begins, IsStop}
-use Rattle.lq_grammar.specs.Levels.{is_token_way, waits, Leads, stays, word, takes_one, passes_on, makes, leaves, IsLevel, token_depth}
+use Rattle.lq_grammar.specs.Grammar.{alternatives}
+use Rattle.lq_grammar.specs.Reading.{next, IsText, Begins}
+use Rattle.lq_grammar.specs.Levels.{takes, passes, refuses, way, is_token_way, waits, Leads, stays, word, takes_one, passes_on, makes, leaves, IsLevel, token_depth}
 use Rattle.lq_grammar.proofs.Checked.{first_then, weigh}
-use Rattle.lq_grammar.proofs.Completes.{Sound, Ending, completes}
+use Rattle.lq_grammar.proofs.Completes.{Sound, completes}
 use Rattle.lq_grammar.proofs.Plainly.{to_plain, from_plain}
 
 pub un_pass : {n : Option Kind} {x : Rule} {ss zs : List Symbol} {es : List Event} (b : List Symbol) (us : List Kind) → way (next us n) (alternatives x) ≡ passes b → Leads n (Part x ∷ ss) us es zs → Leads n (b ++ ss) us es zs

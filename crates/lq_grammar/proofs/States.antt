@@ -1,9 +1,9 @@
 -- What the loop keeps.
 use Rattle.std.specs.Prelude.{IsTrue, if◌then◌else◌}
-use Rattle.std.proofs.Common.{◌≡◌, ℕ, suc, zero, ◌+◌, ◌-◌, ◌*◌, ◌^◌, ◌<◌, ◌≤◌, refl, sym, ap, ◌∙◌, subst, Bool, true, false, ◌&&◌, cond, Option, Some, None, List, [], ◌∷◌, ◌++◌, arith, append_assoc, inl, inr, ◌⊎◌, length, take, drop, get_or, reverse}
+use Rattle.std.proofs.Common.{◌≡◌, ℕ, ◌+◌, ◌-◌, ◌*◌, ◌^◌, ◌<◌, ◌≤◌, refl, sym, ap, ◌∙◌, subst, Bool, true, false, ◌&&◌, cond, Option, Some, None, List, [], ◌∷◌, ◌++◌, arith, inl, inr, ◌⊎◌, length, take, get_or, reverse}
 use Rattle.std.proofs.Math.Dec.{ltb}
 use Rattle.std.proofs.lemmas.Bool.{ltb-true, cases_lt}
-use Rattle.std.proofs.lemmas.List.{append-nil, reverse-append, drop_more, take_more, drop_all, take_all, length-reverse}
+use Rattle.std.proofs.lemmas.List.{reverse-append, drop_more, take_more, drop_all, take_all, length-reverse}
 use Rattle.lq_grammar.specs.declared.kind.Kind.{Kind}
 use Rattle.lq_grammar.specs.declared.rule.Rule.{Rule}
 use Rattle.lq_grammar.specs.declared.symbol.Action.{Action}
@@ -11,9 +11,9 @@ use Rattle.lq_grammar.specs.declared.symbol.Symbol.{Symbol}
 use Rattle.lq_grammar.specs.declared.symbol.Symbol.TheVariants.{Word, Part, Make, Leave}
 use Rattle.lq_grammar.specs.declared.symbol.Event.{Event}
 use Rattle.lq_grammar.specs.declared.symbol.Event.TheVariants as event
-use Rattle.lq_grammar.specs.Grammar.{Alternative, begins, before, otherwise, alternatives, Way, takes, passes, refuses, way, start_of}
-use Rattle.lq_grammar.specs.Reading.{next, IsText, Begins, IsStop}
-use Rattle.lq_grammar.specs.Levels.{is_token_way, waits, Leads, IsLevel, depth, way_depth, token_depth, kind_at, IsShallow, IsSyntax, IsTooDeep}
+use Rattle.lq_grammar.specs.Grammar.{Alternative, begins, before, otherwise, alternatives, start_of}
+use Rattle.lq_grammar.specs.Reading.{IsText, Begins, IsStop}
+use Rattle.lq_grammar.specs.Levels.{Way, takes, passes, refuses, way, is_token_way, waits, Leads, IsLevel, depth, way_depth, token_depth, kind_at, IsShallow, IsSyntax, IsTooDeep}
 use Rattle.lq_name.specs.declared.place.TextKind.{TextKind}
 use Rattle.lq_name.specs.declared.place.TextKind.TheVariants as text
 use Rattle.lq_grammar.proofs.Facts.{weight, blocks, follow}
@@ -45,7 +45,7 @@ depth-append (Leave ∷ b) ss = omega (arith, depth-append b ss)
 le_cases : (a b : ℕ) → a < b + 1 → (a < b) ⊎ (a ≡ b)
 le_cases a b h = elim (cases_lt a b) [ inl x ↦ inl x | inr x ↦ inr (omega arith) ]
 
-cond_small : (b : Bool) → cond b 0 40 ≤ 40
+pub cond_small : (b : Bool) → cond b 0 40 ≤ 40
 cond_small true = omega arith
 cond_small false = omega arith
 
@@ -112,7 +112,7 @@ light true false z w m h e = absurd cc
 light false true z w m h e = let one : z ≡ true = h refl in rw one (omega (arith, ltb-true w (40 + m) e))
 light false false z w m h e = omega (arith, ltb-true w m e, cond_small z)
 
-light_enough : (x : Rule) (b ss : List Symbol) → lighter x b ≡ true → weigh b + cond (commits (b ++ ss)) 0 40 < weight x + cond (blocks x) 0 40
+pub light_enough : (x : Rule) (b ss : List Symbol) → lighter x b ≡ true → weigh b + cond (commits (b ++ ss)) 0 40 < weight x + cond (blocks x) 0 40
 light_enough x b ss h = light (blocks x) (commits b) (commits (b ++ ss)) (weigh b) (weight x) (commits-append b ss) h
 
 pub passes_less : (kinds : List Kind) (ss : List Symbol) (at : ℕ) (x : Rule) (b : List Symbol) → way (kind_at kinds at) (alternatives x) ≡ passes b → Sound (Part x ∷ ss) → left_over kinds (b ++ ss) at < left_over kinds (Part x ∷ ss) at
@@ -302,6 +302,28 @@ module _ (start : Rule) (limit : ℕ) (kinds : List Kind) (ss : List Symbol) (pa
 
     pub shallow_end : State start limit kinds [] past at level → IsShallow start limit kinds (length kinds)
     shallow_end s = rw over at s.shallow
+
+module _ (start : Rule) (limit : ℕ) (kinds : List Kind) (ss : List Symbol) (past : List Event) (at level : ℕ) where
+  -- the next token is this one
+  pub state_next : (k : Kind) → kind_at kinds at ≡ Some k → level ≤ limit → State start limit kinds (Word k ∷ ss) past at level → State start limit kinds ss (past ++ event.Take ∷ []) (at + 1) level
+  state_next k e small s = elim (cases_lt at (length kinds)) [
+    | inl room ↦ let there : Some (get_or kinds at k) ≡ Some k = sym (kind_there start limit kinds ss past at level k room) ∙ e in let same : get_or kinds at k ≡ k = cc in state_word start limit kinds ss past at level k room k same small s
+    | inr over ↦ let none : kind_at kinds at ≡ None = rw (drop_all at kinds over) in absurd cc
+  ]
+
+  -- the token that is read next is another one
+  pub syntax_next : (k : Kind) → ((kind_at kinds at ≡ Some k) × (level ≤ limit) → ⊥) → (at < length kinds → level ≤ limit) → State start limit kinds (Word k ∷ ss) past at level → IsSyntax start limit kinds at
+  syntax_next k other small s = elim (cases_lt at (length kinds)) [
+    | inl room ↦ syntax_word start limit kinds ss past at level k room k (λ is. other (kind_there start limit kinds ss past at level k room ∙ ap Some is, small room)) (small room) s
+    | inr over ↦ syntax_end_word start limit kinds ss past at level (omega (arith, s.within)) k s
+  ]
+
+  -- the next token makes nothing of the part
+  pub syntax_part : (d : Kind) (x : Rule) → way (kind_at kinds at) (alternatives x) ≡ refuses → (at < length kinds → level ≤ limit) → State start limit kinds (Part x ∷ ss) past at level → IsSyntax start limit kinds at
+  syntax_part d x e small s = elim (cases_lt at (length kinds)) [
+    | inl room ↦ syntax_refused start limit kinds ss past at level d room x e (small room) s
+    | inr over ↦ syntax_end_refused start limit kinds ss past at level (omega (arith, s.within)) x e s
+  ]
 
 pub at_syntax : (start : Rule) (limit : ℕ) (kinds : List Kind) (here at : ℕ) → here ≡ at → IsSyntax start limit kinds here → IsSyntax start limit kinds at
 at_syntax start limit kinds here at e h = subst (IsSyntax start limit kinds) e h

@@ -1,10 +1,9 @@
 -- A reading and a level are determined by the tokens.
 use Rattle.std.specs.Prelude.{IsTrue}
-use Rattle.std.proofs.Common.{◌≡◌, ℕ, refl, sym, ap, ◌∙◌, true, false, Option, Some, None, List, [], ◌∷◌, ◌++◌}
+use Rattle.std.proofs.Common.{◌≡◌, ℕ, refl, sym, ap, ◌∙◌, Option, List, [], ◌∷◌}
 use Rattle.lq_grammar.specs.declared.kind.Kind.{Kind}
 use Rattle.lq_grammar.specs.declared.rule.Rule.{Rule}
 use Rattle.lq_grammar.specs.declared.symbol.Symbol.{Symbol}
-use Rattle.lq_grammar.specs.declared.symbol.Symbol.TheVariants.{Word, Part, Make, Leave}
 use Rattle.lq_grammar.specs.declared.symbol.Event.{Event}
 use Rattle.lq_grammar.specs.declared.symbol.Event.TheVariants as event
 use Rattle.lq_grammar.specs.Reading.{IsText}

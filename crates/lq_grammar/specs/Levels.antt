@@ -1,6 +1,7 @@
 -- The level of a token, and what follows from it. The symbols that are still to be read behind some tokens depend on the next token alone:
 -- chains that it doesn't continue have ended.
-use Rattle.std.specs.Prelude.{◌≡◌, ℕ, ◌+◌, ◌<◌, ◌≤◌, Bool, true, false, List, [], ◌∷◌, ◌++◌, length, take, drop, Option, Some, None, IsTrue}
+use Rattle.std.specs.Prelude.{◌≡◌, ℕ, ◌+◌, ◌<◌, ◌≤◌, Bool, true, false, List, [], ◌∷◌, ◌++◌, length, take, drop, Option, Some, None, IsTrue, if◌then◌else◌}
+use Rattle.std.specs.List.{list_any}
 use Rattle.lq_grammar.specs.declared.kind.Kind.{Kind}
 use Rattle.lq_grammar.specs.declared.rule.Rule.{Rule}
 use Rattle.lq_grammar.specs.declared.symbol.Action.{Action}
@@ -10,8 +11,26 @@ use Rattle.lq_grammar.specs.declared.symbol.Event.{Event}
 use Rattle.lq_grammar.specs.declared.symbol.Event.TheVariants as event
 use Rattle.lq_grammar.specs.declared.table.Choice.{Choice}
 use Rattle.lq_grammar.specs.declared.table.Choice.TheVariants as choice
-use Rattle.lq_grammar.specs.Grammar.{alternatives, Way, takes, passes, refuses, way}
-use Rattle.lq_grammar.specs.Reading.{next, Begins, IsStop}
+use Rattle.lq_grammar.specs.Kinds.{same_kind}
+use Rattle.lq_grammar.specs.Grammar.{Alternative, begins, before, otherwise, alternatives}
+use Rattle.lq_grammar.specs.Reading as reading
+use Rattle.lq_grammar.specs.Reading.{next, Reads, Begins, IsStop}
+
+-- What the next token makes of a part: it is taken and these follow, or these stand in place of the part, or neither. Levels and the reader go by
+-- this; which tokens are a text doesn't.
+pub data Way : Type 0 where
+  takes : List Symbol → Way
+  passes : List Symbol → Way
+  refuses : Way
+
+-- the first alternative that fits the next token; None: there is no next token
+abbrev pub way : Option Kind → List Alternative → Way
+way n [] = refuses
+way n (otherwise b ∷ others) = passes b
+way None (begins k b ∷ others) = way None others
+way None (before ks b ∷ others) = way None others
+way (Some k) (begins j b ∷ others) = if same_kind j k then takes b else way (Some k) others
+way (Some k) (before ks b ∷ others) = if list_any (λ j. same_kind j k) ks then passes b else way (Some k) others
 
 abbrev pub way_of : Choice → Way
 way_of (choice.Takes b) = takes b.now
@@ -58,6 +77,15 @@ way_depth refuses ss = depth ss
 abbrev pub token_depth : Kind → List Symbol → ℕ
 token_depth k (Part x ∷ ss) = way_depth (way (Some k) (alternatives x)) ss
 token_depth k ss = depth ss
+
+-- The same without a look at the next token: the levels of the tokens in a reading, in their order. Behind a token the symbols are left that are still
+-- to be read, and as many levels are open as end in them.
+abbrev pub levels_of : {ss : List Symbol} {ks : List Kind} {es : List Event} → Reads ss ks es → List ℕ
+levels_of reading.over = []
+levels_of (reading.word {ss = ss} k d) = depth ss ∷ levels_of d
+levels_of (reading.part a o g d) = levels_of d
+levels_of (reading.make d) = levels_of d
+levels_of (reading.leave d) = levels_of d
 
 -- the level of a token of this kind behind these tokens
 abbrev pub IsLevel : Rule → List Kind → Kind → ℕ → Type 0

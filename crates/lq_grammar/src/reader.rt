@@ -1,5 +1,5 @@
 // The reader: a stack of what is still to be read.
-ghost use Rattle.std.specs.Prelude.{◌≡◌, ◌++◌, ◌≤◌, ◌+◌, ◌*◌, Option, reverse, length, OnOk, IfOk, Err, ℕ};
+ghost use Rattle.std.specs.Prelude.{◌≡◌, ◌↔◌, ◌++◌, ◌<◌, ◌≤◌, ◌+◌, ◌*◌, Option, Some, reverse, length, OnOk, IfOk, IsTrue, Err, ℕ};
 ghost use Rattle.lq_grammar.specs.Grammar.{start_of};
 ghost use Rattle.lq_grammar.specs.Reading.{IsText};
 ghost use Rattle.lq_grammar.specs.Levels.{kind_at, depth, IsShallow, IsSyntax, IsTooDeep};
@@ -59,6 +59,29 @@ fn kind_of_next(kinds: &[Kind], at: usize) -> Option<Kind>
     }
 }
 
+// Whether the next token is of this kind and of a level within the limit.
+fn fits(kinds: &[Kind], at: usize, kind: Kind, level: usize, limit: usize) -> bool
+    ensures { IsTrue result ↔ (kind_at kinds.now at ≡ Some kind) × (level ≤ limit) }
+{
+    if at < kinds.len() && level <= limit {
+        kinds[at].same(kind)
+    } else {
+        false
+    }
+}
+
+// Why no token is taken here: the next one is too deep or a stop, or there is none.
+fn refusal(kinds: &[Kind], at: usize, level: usize, limit: usize) -> ReadError
+    ensures syntax { (place : ℕ) → result ≡ Syntax place → (place ≡ at) × (at < length kinds.now → level ≤ limit) }
+    ensures too_deep { (place : ℕ) → result ≡ TooDeep place → (place ≡ at) × (at < length kinds.now) × (limit < level) }
+{
+    if at < kinds.len() && level > limit {
+        ReadError::TooDeep(at)
+    } else {
+        ReadError::Syntax(at)
+    }
+}
+
 /// The steps of the reading of these tokens as a text, where no level is above the limit.
 pub fn read(
     alloc: Global,
@@ -83,14 +106,8 @@ pub fn read(
             Symbol::Make(action) => events.push(Event::Make(action))?,
             Symbol::Leave => level -= 1,
             Symbol::Word(kind) => {
-                if at == kinds.len() {
-                    return Err(ReadError::Syntax(at));
-                }
-                if level > limit {
-                    return Err(ReadError::TooDeep(at));
-                }
-                if !kinds[at].same(kind) {
-                    return Err(ReadError::Syntax(at));
+                if !fits(kinds, at, kind, level, limit) {
+                    return Err(refusal(kinds, at, level, limit));
                 }
                 events.push(Event::Take)?;
                 at += 1;
@@ -109,15 +126,7 @@ pub fn read(
                     put(&mut stack, body)?;
                     level += levels_in(body);
                 }
-                Choice::Refuses => {
-                    if at == kinds.len() {
-                        return Err(ReadError::Syntax(at));
-                    }
-                    if level > limit {
-                        return Err(ReadError::TooDeep(at));
-                    }
-                    return Err(ReadError::Syntax(at));
-                }
+                Choice::Refuses => return Err(refusal(kinds, at, level, limit)),
             },
         }
     }

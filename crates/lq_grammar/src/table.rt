@@ -1,7 +1,7 @@
 // The grammars as a table: what the next token makes of a part.
 ghost use Rattle.std.specs.Prelude.{◌≡◌};
-ghost use Rattle.lq_grammar.specs.Grammar.{way, alternatives};
-ghost use Rattle.lq_grammar.specs.Levels.{way_of};
+ghost use Rattle.lq_grammar.specs.Grammar.{alternatives};
+ghost use Rattle.lq_grammar.specs.Levels.{way, way_of};
 
 mod binding;
 mod entry;

@@ -196,7 +196,7 @@ fn texts(rt: HostRuntime) -> Result<(), Fail> {
 
 // A text that is a front and this many units: how many units fit, what is answered then (at the end of the text, or "ok"), and where
 // one unit more is too deep.
-const DEEP: [(TextKind, &str, &str, usize, &str, usize); 27] = [
+const DEEP: [(TextKind, &str, &str, usize, &str, usize); 29] = [
     (TextKind::Program, "let x = ", "(", 250, "4", 259),
     (TextKind::Program, "let x = ", "if ", 250, "4", 759),
     (TextKind::Program, "let x = ", "match ", 250, "4", 1509),
@@ -215,7 +215,9 @@ const DEEP: [(TextKind, &str, &str, usize, &str, usize); 27] = [
     (TextKind::Program, "let x = ", "fun a -> ", 125, "4", 1134),
     (TextKind::Program, "let x = ", "fun a b -> ", 83, "4", 928),
     (TextKind::Program, "let x = ", "f (", 125, "4", 386),
-    (TextKind::Program, "let x = ", "C (", 125, "4", 386),
+    (TextKind::Program, "let x = ", "C (", 250, "4", 761),
+    (TextKind::Program, "let x = ", "C a.(", 125, "4", 637),
+    (TextKind::Program, "let x = ", "C a + ", 250, "4", 1513),
     (TextKind::Program, "let x = ", "a.(", 125, "4", 385),
     (TextKind::Program, "let x = ", "a + ", 250, "4", 1011),
     (TextKind::Program, "let x = ", "a * ", 250, "4", 1011),

@@ -1,7 +1,7 @@
 // Qualifiers and measures.
 ghost use Rattle.std.specs.Prelude.{◌≡◌};
-ghost use Rattle.lq_grammar.specs.Grammar.{way, entry_alternatives};
-ghost use Rattle.lq_grammar.specs.Levels.{way_of};
+ghost use Rattle.lq_grammar.specs.Grammar.{entry_alternatives};
+ghost use Rattle.lq_grammar.specs.Levels.{way, way_of};
 
 use crate::kind::Kind;
 use crate::rule::EntryPart::{

@@ -1,7 +1,7 @@
 // Expressions.
 ghost use Rattle.std.specs.Prelude.{◌≡◌};
-ghost use Rattle.lq_grammar.specs.Grammar.{way, expression_alternatives};
-ghost use Rattle.lq_grammar.specs.Levels.{way_of};
+ghost use Rattle.lq_grammar.specs.Grammar.{expression_alternatives};
+ghost use Rattle.lq_grammar.specs.Levels.{way, way_of};
 
 use crate::kind::Kind;
 use crate::rule::BindingPart::FunTail;
@@ -376,7 +376,6 @@ pub(crate) fn choose(part: ExpressionPart, next: Option<Kind>) -> Choice
             ) => Choice::Passes(&[
                 Part(Rule::InExpression(Postfix)),
                 Make(Action::Operand(BuildOf)),
-                Leave,
                 Part(Rule::InExpression(OperandRest)),
             ]),
             _ => Choice::Passes(&[
@@ -670,7 +669,6 @@ pub(crate) fn choose(part: ExpressionPart, next: Option<Kind>) -> Choice
             ) => Choice::Passes(&[
                 Part(Rule::InExpression(Postfix)),
                 Make(Action::Operand(BuildOf)),
-                Leave,
             ]),
             _ => Choice::Passes(&[Make(Action::Operand(ConstantOf))]),
         },

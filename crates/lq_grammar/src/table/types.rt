@@ -1,7 +1,7 @@
 // Types.
 ghost use Rattle.std.specs.Prelude.{◌≡◌};
-ghost use Rattle.lq_grammar.specs.Grammar.{way, type_alternatives};
-ghost use Rattle.lq_grammar.specs.Levels.{way_of};
+ghost use Rattle.lq_grammar.specs.Grammar.{type_alternatives};
+ghost use Rattle.lq_grammar.specs.Levels.{way, way_of};
 
 use crate::kind::Kind;
 use crate::rule::TypePart::{

@@ -1,13 +1,12 @@
-use Rattle.std.proofs.Common.{◌≡◌, ◌∷◌, ◌+◌, ◌-◌, ◌<◌, ◌≤◌, [], ◌++◌, refl, reverse, arith, sym, ◌∙◌, ap, List, length, get_or, Some, subst, true, ◌^◌}
+use Rattle.std.proofs.Common.{◌≡◌, ◌∷◌, ◌+◌, ◌<◌, ◌≤◌, [], ◌++◌, refl, reverse, arith, sym, ap, List, length, Some, subst}
 use Rattle.lq_grammar.specs.declared.symbol.Symbol.{Symbol}
 use Rattle.lq_grammar.specs.declared.symbol.Symbol.TheVariants.{Word, Part, Make, Leave}
 use Rattle.lq_grammar.specs.declared.symbol.Event.TheVariants as event
 use Rattle.lq_grammar.specs.declared.kind.Kind.TheVariants as kind
-use Rattle.lq_grammar.specs.Kinds.{same_kind}
-use Rattle.lq_grammar.specs.Grammar.{way, alternatives, takes, passes, refuses, start_of}
-use Rattle.lq_grammar.specs.Levels.{kind_at, depth}
-use Rattle.lq_grammar.proofs.SameKind.{same_kind-eq, same_kind-refl}
-use Rattle.lq_grammar.proofs.States.{opening, pop_state, same_state, state_start, state_make, state_leave, state_pass, state_take, state_word, syntax_refused, syntax_word, syntax_over, syntax_end_word, syntax_end_refused, deep_word, deep_taken, deep_refused, text_end, shallow_end, left_over, takes_within, takes_less, passes_less, over_smaller, at_syntax, at_too_deep, level_fits, empty}
+use Rattle.lq_grammar.specs.declared.error.ReadError.TheVariants.{Syntax, TooDeep}
+use Rattle.lq_grammar.specs.Grammar.{alternatives, start_of}
+use Rattle.lq_grammar.specs.Levels.{way, takes, passes, refuses, kind_at, depth}
+use Rattle.lq_grammar.proofs.States.{opening, pop_state, same_state, state_start, state_make, state_leave, state_pass, state_take, state_next, syntax_next, syntax_part, syntax_over, deep_word, deep_taken, deep_refused, text_end, shallow_end, left_over, takes_within, takes_less, passes_less, over_smaller, at_syntax, at_too_deep, level_fits, empty}
 use Rattle.lq_grammar.proofs.reader.read.Goals as goal
 
 pub loop-symbol-init : goal.loop-symbol-init
@@ -25,9 +24,9 @@ loop-symbol-preserved-in-Continue-branch-2 c =
 
 pub loop-symbol-preserved-in-Word : goal.loop-symbol-preserved-in-Word
 loop-symbol-preserved-in-Word c =
-    let room : c.loop-symbol.at < length c.args.kinds.now = omega arith in let s = pop_state (opening (reverse c.push.new.self.items)) c.args.limit c.args.kinds.now c.loop-symbol.stack.items c.pop.new.self.items c.in-Some.symbol (Word c.in-Word.kind) c.loop-symbol.events.items c.loop-symbol.at c.loop-symbol.level c.in-Some.ensures.items c.in-Word.is c.loop-symbol.invariant in
-    let k : get_or c.args.kinds.now c.loop-symbol.at kind.Assert ≡ c.in-Word.kind = same_kind-eq (get_or c.args.kinds.now c.loop-symbol.at kind.Assert) c.in-Word.kind (sym c.same.ensures ∙ c.if-not-same.false) in
-    same_state (opening (reverse c.push.new.self.items)) c.args.limit c.args.kinds.now (reverse c.pop.new.self.items) (reverse c.pop.new.self.items) (c.loop-symbol.events.items ++ event.Take ∷ []) c.push-in-Word.new.self.items (c.loop-symbol.at + 1) c.loop-symbol.level c.loop-symbol.level refl c.in_ok-push-in-Word.ensures.items refl (state_word (opening (reverse c.push.new.self.items)) c.args.limit c.args.kinds.now (reverse c.pop.new.self.items) c.loop-symbol.events.items c.loop-symbol.at c.loop-symbol.level kind.Assert room c.in-Word.kind k (omega arith) s)
+    let s = pop_state (opening (reverse c.push.new.self.items)) c.args.limit c.args.kinds.now c.loop-symbol.stack.items c.pop.new.self.items c.in-Some.symbol (Word c.in-Word.kind) c.loop-symbol.events.items c.loop-symbol.at c.loop-symbol.level c.in-Some.ensures.items c.in-Word.is c.loop-symbol.invariant in
+    let next = c.fits.ensures.0 c.if-not-fits.false in
+    same_state (opening (reverse c.push.new.self.items)) c.args.limit c.args.kinds.now (reverse c.pop.new.self.items) (reverse c.pop.new.self.items) (c.loop-symbol.events.items ++ event.Take ∷ []) c.push-in-Word.new.self.items (c.loop-symbol.at + 1) c.loop-symbol.level c.loop-symbol.level refl c.in_ok-push-in-Word.ensures.items refl (state_next (opening (reverse c.push.new.self.items)) c.args.limit c.args.kinds.now (reverse c.pop.new.self.items) c.loop-symbol.events.items c.loop-symbol.at c.loop-symbol.level c.in-Word.kind next.0 next.1 s)
 
 pub overflow_add-level : goal.overflow_add-level
 overflow_add-level c =
@@ -65,36 +64,47 @@ loop-symbol-preserved c =
     let counted = c.levels_in-level-in-Passes.ensures.counted in
     same_state (opening (reverse c.push.new.self.items)) c.args.limit c.args.kinds.now (c.in-Passes.body.now ++ (reverse c.pop.new.self.items)) (reverse c.put-in-Passes.new.stack.items) c.loop-symbol.events.items c.loop-symbol.events.items c.loop-symbol.at (c.loop-symbol.level + depth c.in-Passes.body.now) (c.loop-symbol.level + c.levels_in-level-in-Passes.result) c.in_ok-put-in-Passes.ensures refl (ap (λ n. c.loop-symbol.level + n) counted) (state_pass (opening (reverse c.push.new.self.items)) c.args.limit c.args.kinds.now (reverse c.pop.new.self.items) c.loop-symbol.events.items c.loop-symbol.at c.loop-symbol.level c.in-Part.rule c.in-Passes.body.now w s)
 
-pub returns-then-at-kinds-clause-syntax : goal.returns-then-at-kinds-clause-syntax
-returns-then-at-kinds-clause-syntax c =
-    λ at e. let first : opening (reverse c.push.new.self.items) ≡ start_of c.args.text = rw (c.in_ok-push.ensures.items, c.new-stack.ensures.items, c.start_of-start.ensures) refl in let same : c.loop-symbol.at ≡ at = cc in let s = pop_state (opening (reverse c.push.new.self.items)) c.args.limit c.args.kinds.now c.loop-symbol.stack.items c.pop.new.self.items c.in-Some.symbol (Word c.in-Word.kind) c.loop-symbol.events.items c.loop-symbol.at c.loop-symbol.level c.in-Some.ensures.items c.in-Word.is c.loop-symbol.invariant in rw first at (at_syntax (opening (reverse c.push.new.self.items)) c.args.limit c.args.kinds.now c.loop-symbol.at at same (syntax_end_word (opening (reverse c.push.new.self.items)) c.args.limit c.args.kinds.now (reverse c.pop.new.self.items) c.loop-symbol.events.items c.loop-symbol.at c.loop-symbol.level c.if-at-kinds.true c.in-Word.kind s))
+pub returns-then-not-fits-clause-syntax : goal.returns-then-not-fits-clause-syntax
+returns-then-not-fits-clause-syntax c =
+    λ at e. let first : opening (reverse c.push.new.self.items) ≡ start_of c.args.text = rw (c.in_ok-push.ensures.items, c.new-stack.ensures.items, c.start_of-start.ensures) refl in
+    let is : c.refusal.result ≡ Syntax at = cc in
+    let r = c.refusal.ensures.syntax at is in
+    let s = pop_state (opening (reverse c.push.new.self.items)) c.args.limit c.args.kinds.now c.loop-symbol.stack.items c.pop.new.self.items c.in-Some.symbol (Word c.in-Word.kind) c.loop-symbol.events.items c.loop-symbol.at c.loop-symbol.level c.in-Some.ensures.items c.in-Word.is c.loop-symbol.invariant in
+    let other : (kind_at c.args.kinds.now c.loop-symbol.at ≡ Some c.in-Word.kind) × (c.loop-symbol.level ≤ c.args.limit) → ⊥ = λ next. let fit = c.fits.ensures.1 next in let bad = c.if-not-fits.true in absurd cc in
+    rw first at (at_syntax (opening (reverse c.push.new.self.items)) c.args.limit c.args.kinds.now c.loop-symbol.at at (sym r.0) (syntax_next (opening (reverse c.push.new.self.items)) c.args.limit c.args.kinds.now (reverse c.pop.new.self.items) c.loop-symbol.events.items c.loop-symbol.at c.loop-symbol.level c.in-Word.kind other r.1 s))
+
+pub returns-then-not-fits-clause-too_deep : goal.returns-then-not-fits-clause-too_deep
+returns-then-not-fits-clause-too_deep c =
+    λ at e. let first : opening (reverse c.push.new.self.items) ≡ start_of c.args.text = rw (c.in_ok-push.ensures.items, c.new-stack.ensures.items, c.start_of-start.ensures) refl in
+    let is : c.refusal.result ≡ TooDeep at = cc in
+    let r = c.refusal.ensures.too_deep at is in
+    let s = pop_state (opening (reverse c.push.new.self.items)) c.args.limit c.args.kinds.now c.loop-symbol.stack.items c.pop.new.self.items c.in-Some.symbol (Word c.in-Word.kind) c.loop-symbol.events.items c.loop-symbol.at c.loop-symbol.level c.in-Some.ensures.items c.in-Word.is c.loop-symbol.invariant in
+    rw first at (at_too_deep (opening (reverse c.push.new.self.items)) c.args.limit c.args.kinds.now c.loop-symbol.at at (sym r.0) (deep_word (opening (reverse c.push.new.self.items)) c.args.limit c.args.kinds.now (reverse c.pop.new.self.items) c.loop-symbol.events.items c.loop-symbol.at c.loop-symbol.level kind.Assert r.1 c.in-Word.kind r.2 s))
 
 pub returns-then-level-limit-clause-too_deep : goal.returns-then-level-limit-clause-too_deep
 returns-then-level-limit-clause-too_deep c =
-    λ at e. let first : opening (reverse c.push.new.self.items) ≡ start_of c.args.text = rw (c.in_ok-push.ensures.items, c.new-stack.ensures.items, c.start_of-start.ensures) refl in let same : c.loop-symbol.at ≡ at = cc in let s = pop_state (opening (reverse c.push.new.self.items)) c.args.limit c.args.kinds.now c.loop-symbol.stack.items c.pop.new.self.items c.in-Some.symbol (Word c.in-Word.kind) c.loop-symbol.events.items c.loop-symbol.at c.loop-symbol.level c.in-Some.ensures.items c.in-Word.is c.loop-symbol.invariant in let room : c.loop-symbol.at < length c.args.kinds.now = omega (arith, s.within) in rw first at (at_too_deep (opening (reverse c.push.new.self.items)) c.args.limit c.args.kinds.now c.loop-symbol.at at same (deep_word (opening (reverse c.push.new.self.items)) c.args.limit c.args.kinds.now (reverse c.pop.new.self.items) c.loop-symbol.events.items c.loop-symbol.at c.loop-symbol.level kind.Assert room c.in-Word.kind c.if-level-limit.true s))
-
-pub returns-then-not-same-clause-syntax : goal.returns-then-not-same-clause-syntax
-returns-then-not-same-clause-syntax c =
-    λ at e. let first : opening (reverse c.push.new.self.items) ≡ start_of c.args.text = rw (c.in_ok-push.ensures.items, c.new-stack.ensures.items, c.start_of-start.ensures) refl in let same : c.loop-symbol.at ≡ at = cc in let s = pop_state (opening (reverse c.push.new.self.items)) c.args.limit c.args.kinds.now c.loop-symbol.stack.items c.pop.new.self.items c.in-Some.symbol (Word c.in-Word.kind) c.loop-symbol.events.items c.loop-symbol.at c.loop-symbol.level c.in-Some.ensures.items c.in-Word.is c.loop-symbol.invariant in let room : c.loop-symbol.at < length c.args.kinds.now = omega (arith, s.within) in rw first at (at_syntax (opening (reverse c.push.new.self.items)) c.args.limit c.args.kinds.now c.loop-symbol.at at same (syntax_word (opening (reverse c.push.new.self.items)) c.args.limit c.args.kinds.now (reverse c.pop.new.self.items) c.loop-symbol.events.items c.loop-symbol.at c.loop-symbol.level kind.Assert room c.in-Word.kind (λ k. let yes : same_kind (get_or c.args.kinds.now c.loop-symbol.at kind.Assert) c.in-Word.kind ≡ true = rw k (same_kind-refl c.in-Word.kind) in let is = c.same.ensures in let bad = c.if-not-same.true in cc) (omega arith) s))
-
-pub returns-then-level-limit-2-clause-too_deep : goal.returns-then-level-limit-2-clause-too_deep
-returns-then-level-limit-2-clause-too_deep c =
     λ at e. let first : opening (reverse c.push.new.self.items) ≡ start_of c.args.text = rw (c.in_ok-push.ensures.items, c.new-stack.ensures.items, c.start_of-start.ensures) refl in let same : c.loop-symbol.at ≡ at = cc in let w : way (kind_at c.args.kinds.now c.loop-symbol.at) (alternatives c.in-Part.rule) ≡ takes c.in-Takes.body.now = rw (← c.kind_of_next.ensures) (sym c.in-Takes.ensures) in let s = pop_state (opening (reverse c.push.new.self.items)) c.args.limit c.args.kinds.now c.loop-symbol.stack.items c.pop.new.self.items c.in-Some.symbol (Part c.in-Part.rule) c.loop-symbol.events.items c.loop-symbol.at c.loop-symbol.level c.in-Some.ensures.items c.in-Part.is c.loop-symbol.invariant in let counted = c.levels_in-level.ensures.counted in rw first at (at_too_deep (opening (reverse c.push.new.self.items)) c.args.limit c.args.kinds.now c.loop-symbol.at at same (deep_taken (opening (reverse c.push.new.self.items)) c.args.limit c.args.kinds.now (reverse c.pop.new.self.items) c.loop-symbol.events.items c.loop-symbol.at c.loop-symbol.level kind.Assert (takes_within c.args.kinds.now c.loop-symbol.at c.in-Part.rule c.in-Takes.body.now w) c.in-Part.rule c.in-Takes.body.now w (omega arith) s))
 
-pub returns-then-at-kinds-2-clause-syntax : goal.returns-then-at-kinds-2-clause-syntax
-returns-then-at-kinds-2-clause-syntax c =
-    λ at e. let first : opening (reverse c.push.new.self.items) ≡ start_of c.args.text = rw (c.in_ok-push.ensures.items, c.new-stack.ensures.items, c.start_of-start.ensures) refl in let same : c.loop-symbol.at ≡ at = cc in let w : way (kind_at c.args.kinds.now c.loop-symbol.at) (alternatives c.in-Part.rule) ≡ refuses = rw (← c.kind_of_next.ensures) (sym c.in-Refuses.ensures) in let s = pop_state (opening (reverse c.push.new.self.items)) c.args.limit c.args.kinds.now c.loop-symbol.stack.items c.pop.new.self.items c.in-Some.symbol (Part c.in-Part.rule) c.loop-symbol.events.items c.loop-symbol.at c.loop-symbol.level c.in-Some.ensures.items c.in-Part.is c.loop-symbol.invariant in rw first at (at_syntax (opening (reverse c.push.new.self.items)) c.args.limit c.args.kinds.now c.loop-symbol.at at same (syntax_end_refused (opening (reverse c.push.new.self.items)) c.args.limit c.args.kinds.now (reverse c.pop.new.self.items) c.loop-symbol.events.items c.loop-symbol.at c.loop-symbol.level c.if-at-kinds-2.true c.in-Part.rule w s))
-
-pub returns-then-level-limit-3-clause-too_deep : goal.returns-then-level-limit-3-clause-too_deep
-returns-then-level-limit-3-clause-too_deep c =
-    λ at e. let first : opening (reverse c.push.new.self.items) ≡ start_of c.args.text = rw (c.in_ok-push.ensures.items, c.new-stack.ensures.items, c.start_of-start.ensures) refl in let same : c.loop-symbol.at ≡ at = cc in let w : way (kind_at c.args.kinds.now c.loop-symbol.at) (alternatives c.in-Part.rule) ≡ refuses = rw (← c.kind_of_next.ensures) (sym c.in-Refuses.ensures) in let s = pop_state (opening (reverse c.push.new.self.items)) c.args.limit c.args.kinds.now c.loop-symbol.stack.items c.pop.new.self.items c.in-Some.symbol (Part c.in-Part.rule) c.loop-symbol.events.items c.loop-symbol.at c.loop-symbol.level c.in-Some.ensures.items c.in-Part.is c.loop-symbol.invariant in let room : c.loop-symbol.at < length c.args.kinds.now = omega (arith, s.within) in rw first at (at_too_deep (opening (reverse c.push.new.self.items)) c.args.limit c.args.kinds.now c.loop-symbol.at at same (deep_refused (opening (reverse c.push.new.self.items)) c.args.limit c.args.kinds.now (reverse c.pop.new.self.items) c.loop-symbol.events.items c.loop-symbol.at c.loop-symbol.level kind.Assert room c.in-Part.rule w c.if-level-limit-3.true s))
+pub returns-in-Refuses-clause-too_deep : goal.returns-in-Refuses-clause-too_deep
+returns-in-Refuses-clause-too_deep c =
+    λ at e. let first : opening (reverse c.push.new.self.items) ≡ start_of c.args.text = rw (c.in_ok-push.ensures.items, c.new-stack.ensures.items, c.start_of-start.ensures) refl in
+    let is : c.refusal-in-Refuses.result ≡ TooDeep at = cc in
+    let r = c.refusal-in-Refuses.ensures.too_deep at is in
+    let w : way (kind_at c.args.kinds.now c.loop-symbol.at) (alternatives c.in-Part.rule) ≡ refuses = rw (← c.kind_of_next.ensures) (sym c.in-Refuses.ensures) in
+    let s = pop_state (opening (reverse c.push.new.self.items)) c.args.limit c.args.kinds.now c.loop-symbol.stack.items c.pop.new.self.items c.in-Some.symbol (Part c.in-Part.rule) c.loop-symbol.events.items c.loop-symbol.at c.loop-symbol.level c.in-Some.ensures.items c.in-Part.is c.loop-symbol.invariant in
+    rw first at (at_too_deep (opening (reverse c.push.new.self.items)) c.args.limit c.args.kinds.now c.loop-symbol.at at (sym r.0) (deep_refused (opening (reverse c.push.new.self.items)) c.args.limit c.args.kinds.now (reverse c.pop.new.self.items) c.loop-symbol.events.items c.loop-symbol.at c.loop-symbol.level kind.Assert r.1 c.in-Part.rule w r.2 s))
 
 pub returns-in-Refuses-clause-syntax : goal.returns-in-Refuses-clause-syntax
 returns-in-Refuses-clause-syntax c =
-    λ at e. let first : opening (reverse c.push.new.self.items) ≡ start_of c.args.text = rw (c.in_ok-push.ensures.items, c.new-stack.ensures.items, c.start_of-start.ensures) refl in let same : c.loop-symbol.at ≡ at = cc in let w : way (kind_at c.args.kinds.now c.loop-symbol.at) (alternatives c.in-Part.rule) ≡ refuses = rw (← c.kind_of_next.ensures) (sym c.in-Refuses.ensures) in let s = pop_state (opening (reverse c.push.new.self.items)) c.args.limit c.args.kinds.now c.loop-symbol.stack.items c.pop.new.self.items c.in-Some.symbol (Part c.in-Part.rule) c.loop-symbol.events.items c.loop-symbol.at c.loop-symbol.level c.in-Some.ensures.items c.in-Part.is c.loop-symbol.invariant in let room : c.loop-symbol.at < length c.args.kinds.now = omega (arith, s.within) in rw first at (at_syntax (opening (reverse c.push.new.self.items)) c.args.limit c.args.kinds.now c.loop-symbol.at at same (syntax_refused (opening (reverse c.push.new.self.items)) c.args.limit c.args.kinds.now (reverse c.pop.new.self.items) c.loop-symbol.events.items c.loop-symbol.at c.loop-symbol.level kind.Assert room c.in-Part.rule w (omega arith) s))
+    λ at e. let first : opening (reverse c.push.new.self.items) ≡ start_of c.args.text = rw (c.in_ok-push.ensures.items, c.new-stack.ensures.items, c.start_of-start.ensures) refl in
+    let is : c.refusal-in-Refuses.result ≡ Syntax at = cc in
+    let r = c.refusal-in-Refuses.ensures.syntax at is in
+    let w : way (kind_at c.args.kinds.now c.loop-symbol.at) (alternatives c.in-Part.rule) ≡ refuses = rw (← c.kind_of_next.ensures) (sym c.in-Refuses.ensures) in
+    let s = pop_state (opening (reverse c.push.new.self.items)) c.args.limit c.args.kinds.now c.loop-symbol.stack.items c.pop.new.self.items c.in-Some.symbol (Part c.in-Part.rule) c.loop-symbol.events.items c.loop-symbol.at c.loop-symbol.level c.in-Some.ensures.items c.in-Part.is c.loop-symbol.invariant in
+    rw first at (at_syntax (opening (reverse c.push.new.self.items)) c.args.limit c.args.kinds.now c.loop-symbol.at at (sym r.0) (syntax_part (opening (reverse c.push.new.self.items)) c.args.limit c.args.kinds.now (reverse c.pop.new.self.items) c.loop-symbol.events.items c.loop-symbol.at c.loop-symbol.level kind.Assert c.in-Part.rule w r.1 s))
 
-pub returns-then-at-kinds-3-clause-syntax : goal.returns-then-at-kinds-3-clause-syntax
-returns-then-at-kinds-3-clause-syntax c =
+pub returns-then-at-kinds-clause-syntax : goal.returns-then-at-kinds-clause-syntax
+returns-then-at-kinds-clause-syntax c =
     λ at e. let first : opening (reverse c.push.new.self.items) ≡ start_of c.args.text = rw (c.in_ok-push.ensures.items, c.new-stack.ensures.items, c.start_of-start.ensures) refl in let same : c.loop-symbol.at ≡ at = cc in let s = same_state (opening (reverse c.push.new.self.items)) c.args.limit c.args.kinds.now (reverse c.loop-symbol.stack.items) [] c.loop-symbol.events.items c.loop-symbol.events.items c.loop-symbol.at c.loop-symbol.level c.loop-symbol.level (empty c.loop-symbol.stack.items c.loop-symbol.stack.len c.in_default.ensures.cases.0 c.loop-symbol.stack.ok.0) refl refl c.loop-symbol.invariant in let room : c.loop-symbol.at < length c.args.kinds.now = omega arith in rw first at (at_syntax (opening (reverse c.push.new.self.items)) c.args.limit c.args.kinds.now c.loop-symbol.at at same (syntax_over (opening (reverse c.push.new.self.items)) c.args.limit c.args.kinds.now [] c.loop-symbol.events.items c.loop-symbol.at c.loop-symbol.level kind.Assert room s))
 
 pub returns-clause-ok : goal.returns-clause-ok

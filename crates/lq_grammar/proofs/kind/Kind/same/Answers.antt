@@ -1,8 +1,8 @@
-use Rattle.std.proofs.Common.{◌≡◌, ℕ, nat_eq, refl}
+use Rattle.std.proofs.Common.{◌≡◌, refl}
 use Rattle.lq_grammar.specs.declared.kind.Kind.{Kind}
 use Rattle.lq_grammar.specs.declared.kind.Kind.TheVariants as kind
 use Rattle.lq_grammar.specs.contracts.kind.Kind.{the_type}
-use Rattle.lq_grammar.specs.Kinds.{code, same_kind}
+use Rattle.lq_grammar.specs.Kinds.{code}
 use Rattle.lq_grammar.proofs.kind.Kind.same.Goals as goal
 use denote.Enum.Declared.{tag_of}
 
