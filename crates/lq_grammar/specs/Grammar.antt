@@ -311,7 +311,7 @@ expression_alternatives ElsePart =
 expression_alternatives UpperHead =
     begins kind.Dot (Word kind.LowerName ∷ Make (Operand QualifiedOf) ∷ Part (InExpression HeadMore) ∷ [])
     ∷ begins kind.OpenIndex (Make (Operand ConstantOf) ∷ Part (InExpression Seq) ∷ Word kind.Close ∷ Leave ∷ Make (Operand ElementOf) ∷ Part (InExpression IndexTail) ∷ Leave ∷ Part (InExpression AfterIndexed) ∷ [])
-    ∷ before begin_operand (Part (InExpression Postfix) ∷ Make (Operand BuildOf) ∷ Leave ∷ Part (InExpression OperandRest) ∷ [])
+    ∷ before begin_operand (Part (InExpression Postfix) ∷ Make (Operand BuildOf) ∷ Part (InExpression OperandRest) ∷ [])
     ∷ otherwise (Make (Operand ConstantOf) ∷ Part (InExpression OperandRest) ∷ [])
     ∷ []
 expression_alternatives HeadMore =
@@ -422,7 +422,7 @@ expression_alternatives Application =
 expression_alternatives UpperMore =
     begins kind.Dot (Word kind.LowerName ∷ Make (Operand QualifiedOf) ∷ Part (InExpression PostfixMore) ∷ Part (InExpression ArgumentsMore) ∷ [])
     ∷ begins kind.OpenIndex (Make (Operand ConstantOf) ∷ Part (InExpression Seq) ∷ Word kind.Close ∷ Leave ∷ Make (Operand ElementOf) ∷ Make (Operand FetchOf) ∷ Part (InExpression PostfixMore) ∷ Leave ∷ Part (InExpression ArgumentsMore) ∷ [])
-    ∷ before begin_operand (Part (InExpression Postfix) ∷ Make (Operand BuildOf) ∷ Leave ∷ [])
+    ∷ before begin_operand (Part (InExpression Postfix) ∷ Make (Operand BuildOf) ∷ [])
     ∷ otherwise (Make (Operand ConstantOf) ∷ [])
     ∷ []
 expression_alternatives ArgumentsMore =

@@ -376,7 +376,6 @@ pub(crate) fn choose(part: ExpressionPart, next: Option<Kind>) -> Choice
             ) => Choice::Passes(&[
                 Part(Rule::InExpression(Postfix)),
                 Make(Action::Operand(BuildOf)),
-                Leave,
                 Part(Rule::InExpression(OperandRest)),
             ]),
             _ => Choice::Passes(&[
@@ -670,7 +669,6 @@ pub(crate) fn choose(part: ExpressionPart, next: Option<Kind>) -> Choice
             ) => Choice::Passes(&[
                 Part(Rule::InExpression(Postfix)),
                 Make(Action::Operand(BuildOf)),
-                Leave,
             ]),
             _ => Choice::Passes(&[Make(Action::Operand(ConstantOf))]),
         },
