@@ -38,7 +38,7 @@ fn name_of(kind: TokenKind, word: &[u8], names: &mut NameTable) -> Result<Name, 
     ensures err { OnErr result (names.new ≡ names.old) }
     ensures table { IsNameTable names.new }
 {
-    let _len = names.len();
+    let _len = names.len(); // what it promises: the table is one
     match kind {
         TokenKind::Lower => number_of(word, names),
         TokenKind::Upper => number_of(word, names),
@@ -77,7 +77,7 @@ pub(crate) fn lexemes_of(
 {
     let mut lexemes = Vec::new(alloc);
     let mut at = 0;
-    let _len = names.len();
+    let _len = names.len(); // what it promises: the table is one
     while let Some(token) = tokens.get(at) {
         let name = name_of(token.kind, bytes_of(text, token), names)?;
         lexemes.push(Lexeme {

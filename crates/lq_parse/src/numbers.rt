@@ -4,14 +4,15 @@ ghost use Rattle.lq_parse.specs.declared.values.MakeError.TheVariants.{Misfit};
 
 use crate::values::MakeError;
 
-const LIMIT: u128 = 1 << 127;
+// Every literal is below it, but for the one behind a minus that is it.
+pub(crate) const LITERAL_LIMIT: u128 = 1 << 127;
 
 // A number below 2^127.
 pub(crate) fn below_limit(value: u128) -> Result<i128, MakeError>
     ensures ok { IfOk result (λ n. (value < 2 ^ 127) × (n ≡ pos value)) }
     ensures misfit { result ≡ Err Misfit → 2 ^ 127 ≤ value }
 {
-    if value < LIMIT {
+    if value < LITERAL_LIMIT {
         Ok(value as i128)
     } else {
         Err(MakeError::Misfit)
@@ -23,9 +24,9 @@ pub(crate) fn up_to_limit(value: u128) -> Result<i128, MakeError>
     ensures ok { IfOk result (λ n. (value ≤ 2 ^ 127) × (n ≡ neg_ℤ (pos value))) }
     ensures misfit { result ≡ Err Misfit → 2 ^ 127 < value }
 {
-    if value < LIMIT {
+    if value < LITERAL_LIMIT {
         Ok(-(value as i128))
-    } else if value == LIMIT {
+    } else if value == LITERAL_LIMIT {
         Ok(i128::MIN)
     } else {
         Err(MakeError::Misfit)

@@ -47,7 +47,7 @@ fn built(
     ensures unchanged_by_depth { (place : Place) → result ≡ Err (TooDeep place) → names.new ≡ names.old }
 {
     readings_make_texts();
-    let _len = names.len();
+    let _len = names.len(); // what it promises: the table is one
     let events = steps_of(alloc, kind, text, tokens)?;
     let lexemes = lexemes_of(alloc, kind, text, tokens, names)?;
     match run(alloc, &events, &lexemes) {
@@ -57,7 +57,8 @@ fn built(
     }
 }
 
-/// The program that the tokens of this text are. The names in it are added to the table, unless the tokens are refused.
+/// The program that the tokens of this text are. The names in it are added to the table, unless the tokens are refused; where memory runs
+/// out some of them may be.
 pub fn parse_program(
     alloc: Global,
     tokens: &Tokens,
@@ -87,7 +88,8 @@ pub fn parse_program(
     }
 }
 
-/// The qualifiers that the tokens of this text are. The names in them are added to the table, unless the tokens are refused.
+/// The qualifiers that the tokens of this text are. The names in them are added to the table, unless the tokens are refused; where memory
+/// runs out some of them may be.
 pub fn parse_quals(
     alloc: Global,
     tokens: &Tokens,
@@ -115,7 +117,8 @@ pub fn parse_quals(
     }
 }
 
-/// The measures that the tokens of this text are. The names in them are added to the table, unless the tokens are refused.
+/// The measures that the tokens of this text are. The names in them are added to the table, unless the tokens are refused; where memory
+/// runs out some of them may be.
 pub fn parse_measures(
     alloc: Global,
     tokens: &Tokens,

@@ -12,7 +12,8 @@ use lq_lex::Tokens;
 use lq_name::{Place, TextKind};
 use std::alloc::Global;
 
-const LIMIT: usize = 250;
+// No token of a text has a level above it.
+const LEVEL_LIMIT: usize = 250;
 
 // The place of this token, or the end of the text.
 fn place_of(tokens: &Tokens, at: usize) -> Place
@@ -37,7 +38,7 @@ pub(crate) fn steps_of(
     ensures bounded { IfOk result (λ es. length es.items ≤ 80 * length (tokens_of tokens.now) + 43) }
 {
     let kinds = kinds_of(alloc, text, tokens)?;
-    match read(alloc, kind, &kinds, LIMIT) {
+    match read(alloc, kind, &kinds, LEVEL_LIMIT) {
         Ok(events) => Ok(events),
         Err(ReadError::Syntax(at)) => Err(ParseError::Syntax(place_of(tokens, at))),
         Err(ReadError::TooDeep(at)) => Err(ParseError::TooDeep(place_of(tokens, at))),

@@ -4,6 +4,7 @@ ghost use Rattle.lq_grammar.specs.declared.kind.Kind.TheVariants as kind;
 ghost use Rattle.lq_lex.specs.Reading.{tokens_of};
 ghost use Rattle.lq_parse.specs.Terminals.{bytes_of, kind_among, operator_words, binding_words, branch_words, heading_words, keyword_kind, symbols, terminal, kind_of, kinds_of};
 
+use crate::numbers::LITERAL_LIMIT;
 use lq_grammar::Kind;
 use lq_lex::{Token, TokenKind, Tokens};
 use std::alloc::{AllocError, Global};
@@ -120,8 +121,6 @@ fn symbol_kind(word: &[u8]) -> Kind
     }
 }
 
-const LIMIT: u128 = 1 << 127;
-
 fn terminal(kind: TokenKind, word: &[u8]) -> Kind
     ensures { result ≡ terminal kind word.now }
 {
@@ -130,7 +129,7 @@ fn terminal(kind: TokenKind, word: &[u8]) -> Kind
         TokenKind::Upper => Kind::UpperName,
         TokenKind::TypeVar => Kind::TypeVariable,
         TokenKind::Number(value) => {
-            if value < LIMIT {
+            if value < LITERAL_LIMIT {
                 Kind::Number
             } else {
                 Kind::LimitNumber

@@ -4,6 +4,15 @@ use lq_name::TextKind;
 use std::alloc::{AllocError, Global};
 use std::test::Fail;
 
+// The code, the line and the column of a refusal.
+pub(crate) fn refusal(alloc: Global, error: ParseError) -> Result<String, AllocError> {
+    match error {
+        ParseError::Syntax(p) => Ok(format!(in alloc; "4 {}:{}", p.line, p.column)?),
+        ParseError::TooDeep(p) => Ok(format!(in alloc; "5 {}:{}", p.line, p.column)?),
+        ParseError::Memory => String::from_str(alloc, "memory"),
+    }
+}
+
 // Ok: "ok"; else the code, the line and the column.
 fn answer(alloc: Global, kind: TextKind, text: &str) -> Result<String, AllocError> {
     if text.len() > 1 << 24 {
@@ -14,9 +23,7 @@ fn answer(alloc: Global, kind: TextKind, text: &str) -> Result<String, AllocErro
     };
     match check_text(alloc, kind, text.as_bytes(), &tokens) {
         Ok(()) => String::from_str(alloc, "ok"),
-        Err(ParseError::Syntax(p)) => Ok(format!(in alloc; "4 {}:{}", p.line, p.column)?),
-        Err(ParseError::TooDeep(p)) => Ok(format!(in alloc; "5 {}:{}", p.line, p.column)?),
-        Err(ParseError::Memory) => String::from_str(alloc, "memory"),
+        Err(error) => refusal(alloc, error),
     }
 }
 
@@ -196,10 +203,26 @@ fn texts(rt: HostRuntime) -> Result<(), Fail> {
 
 // A text that is a front and this many units: how many units fit, what is answered then (at the end of the text, or "ok"), and where
 // one unit more is too deep.
-const DEEP: [(TextKind, &str, &str, usize, &str, usize); 29] = [
+const DEEP: [(TextKind, &str, &str, usize, &str, usize); 41] = [
     (TextKind::Program, "let x = ", "(", 250, "4", 259),
     (TextKind::Program, "let x = ", "if ", 250, "4", 759),
+    (
+        TextKind::Program,
+        "let x = ",
+        "if a then b else ",
+        250,
+        "4",
+        4259,
+    ),
     (TextKind::Program, "let x = ", "match ", 250, "4", 1509),
+    (
+        TextKind::Program,
+        "let x = ",
+        "match a with b -> ",
+        250,
+        "4",
+        4509,
+    ),
     (TextKind::Program, "let x = ", "[", 250, "4", 259),
     (TextKind::Program, "let x = ", "begin ", 250, "4", 1509),
     (TextKind::Program, "let x = ", "-", 250, "4", 259),
@@ -212,6 +235,14 @@ const DEEP: [(TextKind, &str, &str, usize, &str, usize); 29] = [
         "4",
         3259,
     ),
+    (
+        TextKind::Program,
+        "let x = ",
+        "let rec f a = ",
+        125,
+        "4",
+        1759,
+    ),
     (TextKind::Program, "let x = ", "fun a -> ", 125, "4", 1134),
     (TextKind::Program, "let x = ", "fun a b -> ", 83, "4", 928),
     (TextKind::Program, "let x = ", "f (", 125, "4", 386),
@@ -219,11 +250,14 @@ const DEEP: [(TextKind, &str, &str, usize, &str, usize); 29] = [
     (TextKind::Program, "let x = ", "C a.(", 125, "4", 637),
     (TextKind::Program, "let x = ", "C a + ", 250, "4", 1513),
     (TextKind::Program, "let x = ", "a.(", 125, "4", 385),
+    (TextKind::Program, "let x = f", " a", 250, "ok", 511),
+    (TextKind::Program, "let x = a", ".(i)", 249, "ok", 1006),
     (TextKind::Program, "let x = ", "a + ", 250, "4", 1011),
     (TextKind::Program, "let x = ", "a * ", 250, "4", 1011),
     (TextKind::Program, "let x = ", "a :: ", 250, "4", 1261),
     (TextKind::Program, "let x = ", "a || ", 250, "4", 1261),
     (TextKind::Program, "let x = ", "a && ", 250, "4", 1261),
+    (TextKind::Program, "let x = ", "not (", 125, "4", 634),
     (TextKind::Program, "let x = ", "assert (", 125, "4", 1009),
     (TextKind::Program, "let x = ", "a.(i) <- ", 249, "4", 2251),
     (TextKind::Program, "let f", " a", 251, "4", 509),
@@ -237,12 +271,21 @@ const DEEP: [(TextKind, &str, &str, usize, &str, usize); 29] = [
     ),
     (
         TextKind::Program,
+        "type t = A of (",
+        "int -> ",
+        249,
+        "4",
+        1763,
+    ),
+    (
+        TextKind::Program,
         "type t = A of ",
         "(int -> ",
         125,
         "4",
         1015,
     ),
+    (TextKind::Quals, "qualif P(v: int): ", "(", 250, "4", 269),
     (
         TextKind::Quals,
         "qualif P(v: int): ",
@@ -262,10 +305,42 @@ const DEEP: [(TextKind, &str, &str, usize, &str, usize); 29] = [
     (
         TextKind::Quals,
         "qualif P(v: int): ",
+        "Array.length ",
+        251,
+        "4",
+        3282,
+    ),
+    (
+        TextKind::Quals,
+        "qualif P(v: int): ",
         "1 + ",
         250,
         "4",
         1021,
+    ),
+    (
+        TextKind::Quals,
+        "qualif P(v: int): ",
+        "2 * ",
+        250,
+        "4",
+        1021,
+    ),
+    (
+        TextKind::Quals,
+        "qualif P(v: int): ",
+        "v && ",
+        250,
+        "4",
+        1271,
+    ),
+    (
+        TextKind::Quals,
+        "qualif P(v: int): ",
+        "v || ",
+        250,
+        "4",
+        1271,
     ),
     (
         TextKind::Measures,
@@ -302,6 +377,30 @@ fn levels(rt: HostRuntime) -> Result<(), Fail> {
             format!(in rt.alloc(); "5 1:{column}")?.as_str(),
             "{unit}"
         );
+    }
+    Ok(())
+}
+
+// Texts of 100,000 units at one level: a front, the unit and a back.
+const LONG: [(&str, &str, &str); 6] = [
+    ("", "let x = 1 ", ""),
+    ("let x = a", "; a", ""),
+    ("let x = [a", "; a", "]"),
+    ("let x = a", ", a", ""),
+    ("let x = match a with _ -> a", " | _ -> a", ""),
+    ("type t = A", " | A", ""),
+];
+
+#[test]
+fn long_rows(rt: HostRuntime) -> Result<(), Fail> {
+    for (front, unit, back) in LONG {
+        let mut text = String::from_str(rt.alloc(), front)?;
+        for _ in 0..100_000 {
+            text.push_str(unit)?;
+        }
+        text.push_str(back)?;
+        let found = answer(rt.alloc(), TextKind::Program, &text)?;
+        assert_eq!(rt; found.as_str(), "ok", "{unit}");
     }
     Ok(())
 }

@@ -1,6 +1,7 @@
 // The trees of texts.
 use super::*;
 use crate::printer::{Work, print};
+use crate::tests::refusal;
 use lq_lex::lex;
 use lq_name::TextKind;
 use lq_tree::NameTable;
@@ -161,8 +162,11 @@ const EXPRESSIONS: [(&str, &str); 84] = [
     ("f (x y)", "(call@9 f@9 (call@12 x@12 y@14))"),
 ];
 
-const PROGRAMS: [(&str, &str); 12] = [
+const PROGRAMS: [(&str, &str); 15] = [
     ("", ""),
+    ("let x =\nlet", "4 2:4"),
+    ("let x = a <- e", "4 1:11"),
+    ("let y = let x = 1", "4 1:18"),
     (
         "let x = 1 ;; let y = x",
         "(let@1 x@5 1@9)(let@14 y@18 x@22)",
@@ -206,7 +210,52 @@ const PROGRAMS: [(&str, &str); 12] = [
     ),
 ];
 
-const QUALIFIERS: [(&str, &str); 8] = [
+const QUALIFIERS: [(&str, &str); 20] = [
+    (
+        "qualif Nat (v : int): 0 <= v\nqualif Low (v : int): A <= v\n",
+        "(qualif@1 Nat v int @17 (<=@23 0@23 v@28))(qualif@2:1 Low v int @2:17 (<=@2:23 ?A@2:23 v@2:28))",
+    ),
+    (
+        "qualif Zero (v : int): 0 <= v",
+        "(qualif@1 Zero v int @18 (<=@24 0@24 v@29))",
+    ),
+    (
+        "qualif Len (v : int): v <= Array.length A",
+        "(qualif@1 Len v int @17 (<=@23 v@23 (Array.length@28 ?A@41)))",
+    ),
+    (
+        "qualif Pos (v : int): 0 < v",
+        "(qualif@1 Pos v int @17 (<@23 0@23 v@27))",
+    ),
+    (
+        "qualif Some (v : array): 0 < Array.length v",
+        "(qualif@1 Some v array @18 (<@26 0@26 (Array.length@30 v@43)))",
+    ),
+    (
+        "qualif N (v : int): v < 0",
+        "(qualif@1 N v int @15 (<@21 v@21 0@25))",
+    ),
+    (
+        "qualif P (v : int): 0 <= v",
+        "(qualif@1 P v int @15 (<=@21 0@21 v@26))",
+    ),
+    (
+        "qualif Q (v : int): v && 0 <= v",
+        "(qualif@1 Q v int @15 (&&@21 v@21 (<=@26 0@26 v@31)))",
+    ),
+    (
+        "qualif Q (v : int): A + B + C <= v",
+        "(qualif@1 Q v int @15 (<=@21 (+@21 (+@21 ?A@21 ?B@25) ?C@29) v@34))",
+    ),
+    (
+        "qualif Sum (v : list): length v = length A + length B",
+        "(qualif@1 Sum v list @17 (=@24 (length@24 v@31) (+@35 (length@35 ?A@42) (length@46 ?B@53))))",
+    ),
+    (
+        "qualif Nat (v : list): 0 <= length v",
+        "(qualif@1 Nat v list @17 (<=@24 0@24 (length@29 v@36)))",
+    ),
+    ("qualif P (v : int): v = 1 = 2", "4 1:27"),
     (
         "qualif Nat (v : int): 0 <= v",
         "(qualif@1 Nat v int @17 (<=@23 0@23 v@28))",
@@ -241,7 +290,16 @@ const QUALIFIERS: [(&str, &str); 8] = [
     ),
 ];
 
-const MEASURES: [(&str, &str); 2] = [
+const MEASURES: [(&str, &str); 5] = [
+    (
+        "measure length : list =\n| [] -> 0\n| x :: xs -> 1 + length xs\n",
+        "(measure@9 length list @18 (case ([]@2:3@2:3) 0@2:9) (case (::@3:3@3:5 x@3:3 xs@3:8) (+@3:14 1@3:14 (length@3:18 xs@3:25))))",
+    ),
+    (
+        "measure length : list =\n| [] -> 0\n| x :: xs -> 1 + length 1\n",
+        "(measure@9 length list @18 (case ([]@2:3@2:3) 0@2:9) (case (::@3:3@3:5 x@3:3 xs@3:8) (+@3:14 1@3:14 (length@3:18 1@3:25))))",
+    ),
+    ("measure h : tree =", "4 1:19"),
     (
         "measure len : list = [] -> 0 | x :: y -> 1 + len y",
         "(measure@9 len list @15 (case ([]@22@22) 0@28) (case (::@32@34 x@32 y@37) (+@42 1@42 (len@46 y@50))))",
@@ -261,8 +319,9 @@ fn program(alloc: Global, text: &str) -> Result<String, AllocError> {
         return String::from_str(alloc, "no tokens");
     };
     let mut names = NameTable::new(alloc)?;
-    let Ok(read) = parse_program(alloc, &tokens, text.as_bytes(), &mut names) else {
-        return String::from_str(alloc, "no tree");
+    let read = match parse_program(alloc, &tokens, text.as_bytes(), &mut names) {
+        Ok(read) => read,
+        Err(error) => return refusal(alloc, error),
     };
     let mut work = Vec::new(alloc);
     for part in read.items().iter().rev() {
@@ -280,8 +339,9 @@ fn qualifiers(alloc: Global, text: &str) -> Result<String, AllocError> {
         return String::from_str(alloc, "no tokens");
     };
     let mut names = NameTable::new(alloc)?;
-    let Ok(read) = parse_quals(alloc, &tokens, text.as_bytes(), &mut names) else {
-        return String::from_str(alloc, "no tree");
+    let read = match parse_quals(alloc, &tokens, text.as_bytes(), &mut names) {
+        Ok(read) => read,
+        Err(error) => return refusal(alloc, error),
     };
     let mut work = Vec::new(alloc);
     for part in read.qualifiers().iter().rev() {
@@ -299,8 +359,9 @@ fn measures(alloc: Global, text: &str) -> Result<String, AllocError> {
         return String::from_str(alloc, "no tokens");
     };
     let mut names = NameTable::new(alloc)?;
-    let Ok(read) = parse_measures(alloc, &tokens, text.as_bytes(), &mut names) else {
-        return String::from_str(alloc, "no tree");
+    let read = match parse_measures(alloc, &tokens, text.as_bytes(), &mut names) {
+        Ok(read) => read,
+        Err(error) => return refusal(alloc, error),
     };
     let mut work = Vec::new(alloc);
     for part in read.measures().iter().rev() {
@@ -341,5 +402,20 @@ fn trees_of_measures(rt: HostRuntime) -> Result<(), Fail> {
     for (text, wanted) in MEASURES {
         assert_eq!(rt; measures(rt.alloc(), text)?.as_str(), wanted, "{text}");
     }
+    Ok(())
+}
+
+#[test]
+fn closed_parentheses(rt: HostRuntime) -> Result<(), Fail> {
+    let mut open = String::from_str(rt.alloc(), "let x = ")?;
+    let mut back = String::from_str(rt.alloc(), "1")?;
+    for _ in 0..250 {
+        open.push_str("(")?;
+        back.push_str(")")?;
+    }
+    let fits = format!(in rt.alloc(); "{open}{back}")?;
+    assert_eq!(rt; program(rt.alloc(), &fits)?.as_str(), "(let@1 x@5 1@259)");
+    let deeper = format!(in rt.alloc(); "{open}({back})")?;
+    assert_eq!(rt; program(rt.alloc(), &deeper)?.as_str(), "5 1:259");
     Ok(())
 }
