@@ -26,6 +26,8 @@ use Rattle.lq_simplex.proofs.Tables.{reads_on}
 -- ---- the free ones can be chosen freely, and the others follow
 pub configured : (s : System) → IsSystem s → IsConfiguration s
 configured s i = record {
+  normal = i.are_forms.normal;
+  once = i.are_forms.once;
   over_free = λ k at e h. entry_free s.forms s.lines k at e i.are_lines h;
   combined = λ v k h. form_is_line s.terms s.forms s.lines v k i.are_forms i.are_lines h;
   chosen = λ y.

@@ -1,23 +1,12 @@
 -- The parts of a row: their signs and their divisors.
-use Rattle.std.specs.Prelude.{◌≡◌, ◌≢◌, ◌*ℤ◌, All, neg_ℤ, ℕ, ℤ, pos, Bool, true, false, [], ◌∷◌, unsigned_abs}
+use Rattle.std.specs.Prelude.{◌≡◌, ◌≢◌, ◌*ℤ◌, All, neg_ℤ, ℕ, ℤ, pos, Bool, true, false, [], ◌∷◌}
 use Rattle.std.specs.Int.{◌∣◌}
-use Rattle.std.specs.Int.Signed.{◌<ℤ◌}
 use Rattle.lq_linear.specs.Row.{AscendsFrom}
-use Rattle.lq_simplex.specs.Systems.{Parts, TermsBelow}
+use Rattle.lq_simplex.specs.Systems.{Parts, TermsBelow, DividesAll}
 
--- the number divides each coefficient
-abbrev pub DividesAll : ℕ → Parts → Type 0
-DividesAll d [] = Unit {0}
-DividesAll d (part ∷ parts) = (d ∣ unsigned_abs part.1) × DividesAll d parts
-
--- the first coefficient is above 0, or, where it is turned, below
-abbrev pub IsAbove : Bool → ℤ → Type 0
-IsAbove true n = n <ℤ pos 0
-IsAbove false n = pos 0 <ℤ n
-
-abbrev pub FirstAbove : Bool → Parts → Type 0
-FirstAbove turned [] = ⊥
-FirstAbove turned (part ∷ parts) = IsAbove turned part.1
+-- each number that divides all coefficients divides this one
+abbrev pub IsGreatest : ℕ → Parts → Type 0
+IsGreatest d parts = (e : ℕ) → DividesAll e parts → e ∣ d
 
 -- each coefficient as it is, or negated
 abbrev pub turned_by : Bool → ℤ → ℤ
