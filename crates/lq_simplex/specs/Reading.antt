@@ -31,3 +31,18 @@ pub record IsRowBelow (n : ℕ) (parts : Parts) : Type 0 where
   pub ascending : AscendsFrom 0 parts
   pub nonzero : All (λ part. part.1 ≢ pos 0) parts
   pub below : TermsBelow n parts
+
+-- at each place the same term, and so many times the one coefficient is so many times the other
+abbrev pub Scales : ℤ → ℤ → Parts → Parts → Type 0
+Scales left right [] [] = Unit {0}
+Scales left right [] (q ∷ qs) = ⊥
+Scales left right (p ∷ ps) [] = ⊥
+Scales left right (p ∷ ps) (q ∷ qs) = (p.0 ≡ q.0) × (left *ℤ p.1 ≡ right *ℤ q.1) × Scales left right ps qs
+
+-- whole multiples of the two agree, neither of them by 0
+pub record AreMultiples (parts others : Parts) : Type 0 where
+  pub left : ℤ
+  pub right : ℤ
+  pub left_apart : left ≢ pos 0
+  pub right_apart : right ≢ pos 0
+  pub same : Scales left right parts others

@@ -7,8 +7,9 @@ use Rattle.lq_num.specs.Value.{value_of}
 use Rattle.lq_linear.specs.Row.{sum_at}
 use Rattle.lq_simplex.specs.Systems.{Parts, FirstAbove}
 use Rattle.lq_simplex.specs.Standing.{signed}
-use Rattle.lq_simplex.specs.Reading.{IsTurned, IsDivided, IsGreatest}
+use Rattle.lq_simplex.specs.Reading.{IsTurned, IsDivided, IsGreatest, AreMultiples}
 use Rattle.lq_simplex.proofs.Readings.{turned_below, divided_below, turned_first, form_normal, row_reads}
+use Rattle.lq_simplex.proofs.Multiples.{form_multiple}
 use Rattle.lq_simplex.proofs.reading.read.Goals as goal
 
 pub variable-requires-clause-below : goal.variable-requires-clause-below
@@ -39,6 +40,7 @@ returns-clause-reads c =
     let is : to_z w128 (of_z w128 c.constant.result) ≡ c.args.row.now.constant = to_z-of_z w128 c.constant.result constant ∙ c.constant.ensures in
     record {
       inside = c.in_ok-variable.ensures.found.0;
+      form = subst (AreMultiples parts) (sym (c.in_ok-variable.ensures.found.1 ∙ c.new-form.ensures)) (form_multiple c.is_turned-turned.result d parts made form c.shared-divisor.ensures.some t q);
       divides = subst (λ z. pos 0 <ℤ z) (sym same) (let s = c.shared-divisor.ensures.some in omega (arith, ints));
       level = λ v.
           row_reads c.is_turned-turned.result v parts made form c.args.row.now.constant d (value_of c.in_ok-value.value) t q
