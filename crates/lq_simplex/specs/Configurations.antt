@@ -20,8 +20,8 @@ pub record IsChosen (s : System) (choice : Valuation) : Type 0 where
   pub point : Valuation
   pub meets : (j : ℕ) → IsFree s.lines j → form_values s.forms point j ≡ choice j
 
--- no two variables have one form, each form is normal, and rows that are multiples of one another bound one variable; each variable is at every point the combination of free ones that its line
--- says, the free ones can be chosen freely, and the values are those at a point
+-- each form is normal, no two variables have one form, and rows that are multiples of one another bound one variable; each variable is
+-- at every point the combination of free ones that its line says, the free ones can be chosen freely, and the values are those at a point
 pub record IsConfiguration (s : System) : Type 0 where
   pub normal : (k : ℕ) → k < length s.forms → IsNormal (form_at s.forms k)
   pub once : (j k : ℕ) → j < length s.forms → k < length s.forms → form_at s.forms j ≡ form_at s.forms k → j ≡ k

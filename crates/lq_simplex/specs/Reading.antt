@@ -1,4 +1,4 @@
--- The parts of a row: their signs and their divisors.
+-- The parts of a row: their signs, their divisors and their multiples.
 use Rattle.std.specs.Prelude.{◌≡◌, ◌≢◌, ◌*ℤ◌, All, neg_ℤ, ℕ, ℤ, pos, Bool, true, false, [], ◌∷◌}
 use Rattle.std.specs.Int.{◌∣◌}
 use Rattle.lq_linear.specs.Row.{AscendsFrom}

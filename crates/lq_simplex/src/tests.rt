@@ -384,9 +384,10 @@ fn limits(rt: HostRuntime) {
     // x - y <= 1, x - y >= 2, as rows that are multiples: two bounds of one form cross, which needs none
     let shared = [(1, -1, 0, -1, false), (-2, 2, 0, 4, false)];
     assert!(rt; asked(&rt, 0, &shared) == Found::Conflict);
-    // x + y <= 1, 2 x + 2 y >= 3, and the equation 3 x + 3 y = 3 beside x + y >= 2
+    // x + y <= 1, 2 x + 2 y >= 3
     let scaled = [(1, 1, 0, -1, false), (-2, -2, 0, 3, false)];
     assert!(rt; asked(&rt, 0, &scaled) == Found::Conflict);
+    // 3 x + 3 y = 3, x + y >= 2
     let turned = [(3, 3, 0, -3, true), (-1, -1, 0, 2, false)];
     assert!(rt; asked(&rt, 0, &turned) == Found::Conflict);
     // a bound of a term needs none
