@@ -1,12 +1,14 @@
 -- Forms: their parts, their values, and what a further form leaves as it was.
-use Rattle.std.proofs.Common.{◌≡◌, ℕ, ℤ, zero, suc, pos, ◌+◌, ◌<◌, ◌≤◌, ◌⊎◌, inl, inr, arith, refl, sym, ap, ap₂, subst, ◌∙◌, List, [], ◌∷◌, ◌++◌, length, take, get_or}
+use Rattle.std.proofs.Common.{◌≡◌, ◌≢◌, ℕ, ℤ, zero, suc, pos, ◌+◌, ◌<◌, ◌≤◌, ◌⊎◌, inl, inr, arith, refl, sym, ap, ap₂, subst, ◌∙◌, List, [], ◌∷◌, ◌++◌, length, take, get_or}
 use Rattle.std.proofs.lemmas.List.{take_more, get_or_past, get_or_push, get_or_append_left, length_push}
 use Rattle.std.proofs.lemmas.Bool.{cases_lt}
 use Rattle.std.proofs.lemmas.Bool.Decides.{Decides-int_eq}
 use Rattle.std.specs.Ordering.{int_eq}
-use Rattle.std.proofs.Common.{Bool, true, false, ◌&&◌, nat_eq, eqb-true, IsTrue}
+use Rattle.std.proofs.Common.{Bool, true, false, ◌&&◌, nat_eq, eqb-true, eq-eqb, IsTrue}
 use mathlib.Core.Bool.{true≢false}
 use lib.Pointwise.{pointwise}
+use Rattle.std.proofs.Math.Nat.{eq-one_of_dvd-one}
+use Rattle.std.proofs.lemmas.Int.{ints}
 use Rattle.lq_math.specs.Rational.{whole, ◌+ℚ◌, ◌*ℚ◌}
 use Rattle.lq_math.specs.Solver.{var, con, ◌⊕◌, ◌⊗◌, solve}
 use Rattle.lq_num.specs.declared.frac.Frac.{Frac}
@@ -15,7 +17,7 @@ use Rattle.lq_linear.specs.Row.{Valuation, sum_at}
 use Rattle.lq_linear.specs.Steps.{valuation_of, value_or_zero}
 use Rattle.lq_simplex.specs.declared.line.Entry.{Entry}
 use Rattle.lq_simplex.specs.Lines.{combine, unit, factor_of, IsLine, IsOwnLine}
-use Rattle.lq_simplex.specs.Systems.{Parts, System, form_at, line_at, TermsBelow, Fits, Meets, IsFree, form_values, AreForms, AreLines, IsSystem, GoesOn}
+use Rattle.lq_simplex.specs.Systems.{Parts, System, form_at, line_at, TermsBelow, IsNormal, Fits, Meets, IsFree, form_values, AreForms, AreLines, IsSystem, GoesOn}
 use Rattle.lq_simplex.specs.Configurations.{AllStay}
 use Rattle.lq_simplex.proofs.Combinations.{one_apart, unit_here, unit_elsewhere, eq_or}
 use Rattle.lq_simplex.proofs.Values.{get_push_old, get_push_here, last_or_before}
@@ -73,13 +75,31 @@ data Place (k n : ℕ) : Type 0 where
 place : (k n : ℕ) → Place k n
 place k n = elim (cases_lt k n) [ inl l ↦ old l | inr m ↦ elim (cases_lt n k) [ inl l ↦ past l | inr p ↦ last (omega arith) ] ]
 
-further_forms : (terms : ℕ) (forms : List Parts) (form : Parts) → AreForms terms forms → TermsBelow terms form → AreForms terms (forms ++ form ∷ [])
-further_forms terms forms form a b = record {
+further_forms : (terms : ℕ) (forms : List Parts) (form : Parts) → AreForms terms forms → TermsBelow terms form → IsNormal form
+    → ((k : ℕ) → k < length forms → form_at forms k ≢ form) → AreForms terms (forms ++ form ∷ [])
+further_forms terms forms form a b n absent = record {
   terms_in = let e = length_push forms form in let h = a.terms_in in omega arith;
   named = λ t h. at_old forms form [] t (let l = a.terms_in in omega arith) ∙ a.named t h;
   below = λ k. by k (place k (length forms));
+  normal = λ k h. normal_by k (place k (length forms)) h;
+  once = λ j k g h. once_by j k (place j (length forms)) (place k (length forms)) g h;
 }
   where
+    normal_by : (k : ℕ) → Place k (length forms) → k < length (forms ++ form ∷ []) → IsNormal (form_at (forms ++ form ∷ []) k)
+    normal_by k (old l) h = subst IsNormal (sym (at_old forms form [] k l)) (a.normal k l)
+    normal_by k (last e) h = subst IsNormal (sym (at_last forms form [] k e)) n
+    normal_by k (past l) h = absurd (let p = length_push forms form in omega arith)
+
+    once_by : (j k : ℕ) → Place j (length forms) → Place k (length forms) → j < length (forms ++ form ∷ []) → k < length (forms ++ form ∷ [])
+        → form_at (forms ++ form ∷ []) j ≡ form_at (forms ++ form ∷ []) k → j ≡ k
+    once_by j k (old l) (old m) g h e = a.once j k l m (sym (at_old forms form [] j l) ∙ e ∙ at_old forms form [] k m)
+    once_by j k (old l) (last q) g h e = absurd (absent j l (sym (at_old forms form [] j l) ∙ e ∙ at_last forms form [] k q))
+    once_by j k (last p) (old m) g h e = absurd (absent k m (sym (at_old forms form [] k m) ∙ sym e ∙ at_last forms form [] j p))
+    once_by j k (last p) (last q) g h e = sym p ∙ q
+    once_by j k (past l) m g h e = absurd (let p = length_push forms form in omega arith)
+    once_by j k (old l) (past m) g h e = absurd (let p = length_push forms form in omega arith)
+    once_by j k (last q) (past m) g h e = absurd (let p = length_push forms form in omega arith)
+
     by : (k : ℕ) → Place k (length forms) → TermsBelow terms (form_at (forms ++ form ∷ []) k)
     by k (old h) = subst (TermsBelow terms) (sym (at_old forms form [] k h)) (a.below k)
     by k (last e) = subst (TermsBelow terms) (sym (at_last forms form [] k e)) b
@@ -171,13 +191,14 @@ further_values terms forms form values f a b n fit e k h = by (place k (length f
         ∙ sym (ap (sum_at (valuation_of (values ++ f ∷ []))) (at_last forms form [] k q))
     by (past l) = absurd (let p = length_push forms form in omega arith)
 
-pub further_system : (s : System) (form : Parts) (line : List Entry) (f : Frac) → IsSystem s → TermsBelow s.terms form → IsLine line
+pub further_system : (s : System) (form : Parts) (line : List Entry) (f : Frac) → IsSystem s → TermsBelow s.terms form → IsNormal form
+    → ((k : ℕ) → k < length s.forms → form_at s.forms k ≢ form) → IsLine line
     → ((y : Valuation) → combine y line ≡ sum_at (λ t. combine y (line_at s.lines t)) form) → value_of f ≡ sum_at (valuation_of s.values) form
     → IsSystem (record { terms = s.terms; forms = s.forms ++ form ∷ []; lines = s.lines ++ line ∷ []; values = s.values ++ f ∷ [] })
-further_system s form line f i b il sum e =
+further_system s form line f i b n absent il sum e =
     let lines : AreLines (s.forms ++ form ∷ []) (s.lines ++ line ∷ []) = further_lines s.terms s.forms s.lines form line i.are_forms i.are_lines b il sum in
     record {
-      are_forms = further_forms s.terms s.forms form i.are_forms b;
+      are_forms = further_forms s.terms s.forms form i.are_forms b n absent;
       are_lines = lines;
       valued = length_push s.values f ∙ ap (λ n. n + 1) i.valued ∙ sym (length_push s.forms form);
       values = lines.meets (valuation_of (s.values ++ f ∷ []))
@@ -225,7 +246,31 @@ same_parts (x ∷ xs) (y ∷ ys) h =
     (ap₂ (λ a b. (a, b)) (eqb-true x.0 y.0 (and_first (nat_eq x.0 y.0) (int_eq x.1 y.1) f)) (same_whole x.1 y.1 (and_second (nat_eq x.0 y.0) (int_eq x.1 y.1) f)))
     (same_parts xs ys (and_second (nat_eq x.0 y.0 && int_eq x.1 y.1) (pointwise (λ (x y : ℕ × ℤ). nat_eq x.0 y.0 && int_eq x.1 y.1) xs ys) h))
 
+both : (s t : Bool) → s ≡ true → t ≡ true → (s && t) ≡ true
+both true t g h = h
+both false t g h = absurd (true≢false (sym g))
+
+whole_same : (x y : ℤ) → x ≡ y → int_eq x y ≡ true
+whole_same x y e = let k : IsTrue (int_eq x y) = (Decides-int_eq x y).1 e in k
+
+parts_same : (xs : Parts) → pointwise (λ (x y : ℕ × ℤ). nat_eq x.0 y.0 && int_eq x.1 y.1) xs xs ≡ true
+parts_same [] = refl
+parts_same (x ∷ xs) =
+    both (nat_eq x.0 x.0 && int_eq x.1 x.1) (pointwise (λ (x y : ℕ × ℤ). nat_eq x.0 y.0 && int_eq x.1 y.1) xs xs)
+    (both (nat_eq x.0 x.0) (int_eq x.1 x.1) (eq-eqb x.0 x.0 refl) (whole_same x.1 x.1 refl)) (parts_same xs)
+
+pub other_parts : (xs ys : Parts) → pointwise (λ (x y : ℕ × ℤ). nat_eq x.0 y.0 && int_eq x.1 y.1) xs ys ≡ false → xs ≢ ys
+other_parts xs ys h e =
+    true≢false (sym (subst (λ zs. pointwise (λ (x y : ℕ × ℤ). nat_eq x.0 y.0 && int_eq x.1 y.1) xs zs ≡ true) e (parts_same xs)) ∙ h)
+
 -- ---- the terms alone
+term_normal : (t : ℕ) → IsNormal ((t, pos 1) ∷ [])
+term_normal t = record { above = omega (arith, ints); lowest = λ d h. eq-one_of_dvd-one h.0 }
+
+abbrev first_term : Parts → ℕ
+first_term [] = 0
+first_term (p ∷ parts) = p.0
+
 pub record Start (n : ℕ) (forms : List Parts) (lines : List (List Entry)) (values : List Frac) : Type 0 where
   pub forms_count : length forms ≡ n
   pub lines_count : length lines ≡ n
@@ -270,6 +315,10 @@ start_system n forms lines values s = record {
     terms_in = let e = s.forms_count in omega arith;
     named = λ t h. s.form t h;
     below = λ k. below k (cases_lt k n);
+    normal = λ k h. subst IsNormal (sym (s.form k (let e = s.forms_count in omega arith))) (term_normal k);
+    once = λ j k g h e.
+        let q : (j, pos 1) ∷ [] ≡ (k, pos 1) ∷ [] = sym (s.form j (let c = s.forms_count in omega arith)) ∙ e ∙ s.form k (let c = s.forms_count in omega arith) in
+        ap first_term q;
   };
   are_lines = record {
     same = s.lines_count ∙ sym s.forms_count;

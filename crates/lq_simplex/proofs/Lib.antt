@@ -1,5 +1,6 @@
 pub mod Combinations
 pub mod Merging
+pub mod Multiples
 pub mod Systems
 pub mod Values
 pub mod Forms

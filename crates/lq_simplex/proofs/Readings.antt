@@ -1,12 +1,12 @@
 -- How a row is read as a bound of a form.
-use Rattle.std.proofs.Common.{◌≡◌, ◌≢◌, ℕ, zero, suc, pos, ◌<◌, ◌^◌, arith, refl, sym, ap, ap₂, subst, ◌∙◌, Bool, true, false, [], ◌∷◌, ◌++◌, All, length, get_or, unsigned_abs, FitsSigned}
-use Rattle.std.proofs.Math.IntN.{ℤ, ◌*ℤ◌, neg_ℤ}
+use Rattle.std.proofs.Common.{◌≡◌, ◌≢◌, ℕ, zero, suc, pos, ◌<◌, ◌*◌, ◌^◌, arith, refl, sym, ap, ap₂, subst, ◌∙◌, Bool, true, false, [], ◌∷◌, ◌++◌, All, length, get_or, unsigned_abs, FitsSigned}
+use Rattle.std.proofs.Math.IntN.{ℤ, negsuc, ◌*ℤ◌, neg_ℤ}
 use Rattle.std.specs.Int.{w128, ◌∣◌}
 use Rattle.std.specs.Int.Signed.{◌<ℤ◌}
-use Rattle.std.proofs.lemmas.Int.{ints}
+use Rattle.std.proofs.lemmas.Int.{ints, unsigned_abs-mul}
 use Rattle.std.proofs.lemmas.List.Elements.{All-head}
 use Rattle.std.proofs.lemmas.Nat.Gcd.{dvd_trans, le_of_dvd}
-use Rattle.std.proofs.Math.Nat.{pos_of_dvd_of_pos, eq-one_of_dvd-one}
+use Rattle.std.proofs.Math.Nat.{pos_of_dvd_of_pos, eq-one_of_dvd-one, mul-dvd-mul_right, dvd_of_mul-dvd-mul_right}
 use Rattle.lq_math.specs.Rational.{ℚ, whole, ◌+ℚ◌, ◌-ℚ◌, ◌*ℚ◌, neg_ℚ}
 use Rattle.lq_math.specs.Whole.{whole-product, whole-negation, whole_below}
 use Rattle.lq_math.specs.OrderLaws.{<ℚ_apart}
@@ -14,9 +14,9 @@ use Rattle.lq_math.specs.RationalQuotient.{◌/ℚ◌, /ℚ_is}
 use Rattle.lq_math.specs.Forms.{HasNoForm, HasNoForm-from}
 use Rattle.lq_math.specs.Solver.{var, con, ◌⊕◌, ◌⊖◌, ◌⊗◌, solve}
 use Rattle.lq_linear.specs.Row.{Valuation, sum_at}
-use Rattle.lq_simplex.specs.Systems.{Parts, TermsBelow}
+use Rattle.lq_simplex.specs.Systems.{Parts, TermsBelow, DividesAll, IsAbove, FirstAbove, IsNormal}
 use Rattle.lq_simplex.specs.Standing.{signed}
-use Rattle.lq_simplex.specs.Reading.{DividesAll, IsAbove, FirstAbove, turned_by, IsTurned, IsDivided}
+use Rattle.lq_simplex.specs.Reading.{IsGreatest, turned_by, IsTurned, IsDivided}
 
 -- ---- parts that grow at their end
 pub divides_more : (d e : ℕ) (parts : Parts) → DividesAll d parts → e ∣ d → DividesAll e parts
@@ -31,6 +31,17 @@ pub divides_at : (d : ℕ) (parts : Parts) (i : ℕ) (x : ℕ × ℤ) → Divide
 divides_at d [] i x a h = absurd (omega arith)
 divides_at d (p ∷ parts) zero x a h = a.0
 divides_at d (p ∷ parts) (suc i) x a h = divides_at d parts i x a.1 (omega arith)
+
+divides_before : (e : ℕ) (parts : Parts) (p : ℕ × ℤ) → DividesAll e (parts ++ p ∷ []) → DividesAll e parts × (e ∣ unsigned_abs p.1)
+divides_before e [] p a = (tt, a.0)
+divides_before e (q ∷ parts) p a = let r = divides_before e parts p a.1 in ((a.0, r.0), r.1)
+
+pub greatest_push : (d g : ℕ) (parts : Parts) (p : ℕ × ℤ) → IsGreatest d parts → ((e : ℕ) → e ∣ d → e ∣ unsigned_abs p.1 → e ∣ g) → IsGreatest g (parts ++ p ∷ [])
+greatest_push d g parts p a h e all = let b = divides_before e parts p all in h e (a e b.0) b.1
+
+pub divides_first : (e : ℕ) (parts : Parts) (x : ℕ × ℤ) → FirstAbove false parts → DividesAll e parts → e ∣ unsigned_abs (get_or parts 0 x).1
+divides_first e [] x h a = absurd h
+divides_first e (p ∷ parts) x h a = a.0
 
 pub turned_push : (t : Bool) (parts made : Parts) (p q : ℕ × ℤ) → IsTurned t parts made → q.0 ≡ p.0 → q.1 ≡ turned_by t p.1 → IsTurned t (parts ++ p ∷ []) (made ++ q ∷ [])
 turned_push t [] [] p q a e f = (e, f, tt)
@@ -112,6 +123,38 @@ first_above (p ∷ parts) x t h n a = a
 pub first_apart : (parts : Parts) (x : ℕ × ℤ) → 0 < length parts → All (λ part. part.1 ≢ pos 0) parts → (get_or parts 0 x).1 ≢ pos 0
 first_apart [] x h n = absurd (omega arith)
 first_apart (p ∷ parts) x h n = All-head (λ part. part.1 ≢ pos 0) p parts n
+
+-- ---- the parts over their greatest common divisor
+divides_times : (d e : ℕ) (made form : Parts) → IsDivided (pos d) made form → DividesAll e form → DividesAll (e * d) made
+divides_times d e [] [] a h = tt
+divides_times d e [] (f ∷ form) a h = absurd a
+divides_times d e (m ∷ made) [] a h = absurd a
+divides_times d e (m ∷ made) (f ∷ form) a h = (
+  subst (λ n. e * d ∣ n) (sym (ap unsigned_abs a.1 ∙ unsigned_abs-mul f.1 (pos d))) (mul-dvd-mul_right e h.0 d),
+  divides_times d e made form a.2 h.1,
+)
+
+not_above : (k : ℕ) → pos 0 <ℤ neg_ℤ (pos k) → ⊥
+not_above zero h = omega (arith, ints)
+not_above (suc k) h = omega (arith, ints)
+
+factor_above : (n : ℤ) (d : ℕ) → pos 0 <ℤ (n *ℤ pos d) → pos 0 <ℤ n
+factor_above (pos zero) d h = absurd (let k : ⊥ = omega (arith, ints) in k)
+factor_above (pos (suc n)) d h = omega (arith, ints)
+factor_above (negsuc n) d h = absurd (not_above (suc n * d) h)
+
+divided_first : (d : ℕ) (made form : Parts) → IsDivided (pos d) made form → FirstAbove false made → FirstAbove false form
+divided_first d [] form a h = absurd h
+divided_first d (m ∷ made) [] a h = absurd a
+divided_first d (m ∷ made) (f ∷ form) a h = factor_above f.1 d (subst (λ n. pos 0 <ℤ n) a.1 h)
+
+pub form_normal : (d : ℕ) (made form : Parts) → 0 < d → FirstAbove false made → IsGreatest d made → IsDivided (pos d) made form → IsNormal form
+form_normal d made form some above greatest a = record {
+  above = divided_first d made form a above;
+  lowest = λ e h.
+      let whole : e * d ∣ 1 * d = subst (λ n. e * d ∣ n) (let q : d ≡ 1 * d = omega arith in q) (greatest (e * d) (divides_times d e made form a h)) in
+      eq-one_of_dvd-one (dvd_of_mul-dvd-mul_right e some whole);
+}
 
 -- ---- the row as a bound
 pub reading_is : (t : Bool) (s d f b c : ℚ) → d *ℚ f ≡ signed t s → signed t (d *ℚ b) ≡ neg_ℚ c → s +ℚ c ≡ signed t d *ℚ (f -ℚ b)

@@ -12,7 +12,7 @@ use Rattle.lq_simplex.specs.declared.line.Entry.{Entry}
 use Rattle.lq_simplex.specs.declared.row.Standing.{Standing}
 use Rattle.lq_simplex.specs.declared.limits.Broken.{Broken}
 use Rattle.lq_simplex.specs.Lines.{combine}
-use Rattle.lq_simplex.specs.Systems.{Parts, System, line_at, Meets, IsFree, AreLines, IsSystem, IsShifted, GoesOn}
+use Rattle.lq_simplex.specs.Systems.{Parts, System, form_at, line_at, Meets, IsFree, AreLines, IsSystem, IsShifted, GoesOn}
 use Rattle.lq_simplex.specs.Standing.{AllRead}
 use Rattle.lq_simplex.specs.Bounds.{Tightest, limit_at, bound_value, IsLimit, Breaks}
 use Rattle.lq_simplex.specs.Conflicts.{AllGiven}
@@ -22,10 +22,16 @@ use Rattle.lq_simplex.proofs.Systems.{IsPivot, entry_free, pivot_free_before}
 use Rattle.lq_simplex.proofs.Forms.{form_is_line}
 use Rattle.lq_simplex.proofs.Explaining.{limit_read}
 use Rattle.lq_simplex.proofs.Tables.{reads_on}
+use Rattle.lq_simplex.proofs.Multiples.{multiples_once}
 
 -- ---- the free ones can be chosen freely, and the others follow
 pub configured : (s : System) → IsSystem s → IsConfiguration s
 configured s i = record {
+  normal = i.are_forms.normal;
+  once = i.are_forms.once;
+  shared = λ row other b c p q m.
+      i.are_forms.once b.variable c.variable p.inside q.inside
+      (multiples_once row.parts other.parts (form_at s.forms b.variable) (form_at s.forms c.variable) (i.are_forms.normal b.variable p.inside) (i.are_forms.normal c.variable q.inside) p.form q.form m);
   over_free = λ k at e h. entry_free s.forms s.lines k at e i.are_lines h;
   combined = λ v k h. form_is_line s.terms s.forms s.lines v k i.are_forms i.are_lines h;
   chosen = λ y.

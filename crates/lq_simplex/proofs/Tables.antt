@@ -26,6 +26,7 @@ use Rattle.lq_simplex.specs.declared.limits.Limit.{Limit}
 use Rattle.lq_simplex.specs.declared.limits.Broken.{Broken}
 use Rattle.lq_simplex.specs.Lines.{combine, factor_of, VariablesBelow}
 use Rattle.lq_simplex.specs.Systems.{Parts, System, form_at, line_at, Fits, IsSystem, GoesOn}
+use Rattle.lq_simplex.specs.Reading.{AreMultiples}
 use Rattle.lq_simplex.specs.Standing.{standing_of, multipliers_of, signed, scale_of, ReadsAs, ReadsBy, Reads, AllRead, HasNoTag, TagsApart, BareHolds, AllBare, BoundBelow, BoundsBelow}
 use Rattle.lq_simplex.specs.Bounds.{other, Within, IsOn, Tightest, limit_at, bound_value, Covers, Keeps, AreTightest, Breaks, blocking_of, AllBlocked}
 use Rattle.lq_simplex.specs.Conflicts.{AllGiven, AllKeep, IsKept}
@@ -79,6 +80,7 @@ pub reads_on : (old new : List Parts) (row : Row) (o : Option Bound) → GoesOn 
 reads_on old new row None g r = r
 reads_on old new row (Some b) g r = record {
   inside = (g b.variable r.inside).0;
+  form = subst (AreMultiples row.parts) (sym (g b.variable r.inside).1) r.form;
   divides = r.divides;
   level = λ v. r.level v ∙ ap (λ f. scale_of b *ℚ (sum_at v f -ℚ value_of b.value)) (sym (g b.variable r.inside).1);
 }

@@ -10,7 +10,8 @@ use Rattle.lq_simplex.specs.declared.row.Standing.{Standing}
 use Rattle.lq_simplex.specs.declared.limits.Side.{Side}
 use Rattle.lq_simplex.specs.declared.limits.Limit.{Limit}
 use Rattle.lq_simplex.specs.Lines.{combine}
-use Rattle.lq_simplex.specs.Systems.{Parts, System, line_at, form_values, IsFree}
+use Rattle.lq_simplex.specs.Systems.{Parts, System, form_at, line_at, form_values, IsFree, IsNormal}
+use Rattle.lq_simplex.specs.Reading.{AreMultiples}
 use Rattle.lq_simplex.specs.Standing.{ReadsAs}
 use Rattle.lq_simplex.specs.Bounds.{Tightest, limit_at, bound_value}
 
@@ -19,9 +20,12 @@ pub record IsChosen (s : System) (choice : Valuation) : Type 0 where
   pub point : Valuation
   pub meets : (j : ℕ) → IsFree s.lines j → form_values s.forms point j ≡ choice j
 
--- each variable is at every point the combination of free ones that its line says, the free ones can be chosen freely, and the values
--- are those at a point
+-- each form is normal, no two variables have one form, and rows that are multiples of one another bound one variable; each variable is
+-- at every point the combination of free ones that its line says, the free ones can be chosen freely, and the values are those at a point
 pub record IsConfiguration (s : System) : Type 0 where
+  pub normal : (k : ℕ) → k < length s.forms → IsNormal (form_at s.forms k)
+  pub once : (j k : ℕ) → j < length s.forms → k < length s.forms → form_at s.forms j ≡ form_at s.forms k → j ≡ k
+  pub shared : (row other : Row) (b c : Bound) → ReadsAs s.forms row b → ReadsAs s.forms other c → AreMultiples row.parts other.parts → b.variable ≡ c.variable
   pub over_free : (k at : ℕ) (e : Entry) → slice_get (line_at s.lines k) at ≡ Some e → IsFree s.lines e.variable
   pub combined : (point : Valuation) (k : ℕ) → k < length s.forms → form_values s.forms point k ≡ combine (form_values s.forms point) (line_at s.lines k)
   pub chosen : (choice : Valuation) → IsChosen s choice

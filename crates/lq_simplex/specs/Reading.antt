@@ -1,23 +1,12 @@
--- The parts of a row: their signs and their divisors.
-use Rattle.std.specs.Prelude.{◌≡◌, ◌≢◌, ◌*ℤ◌, All, neg_ℤ, ℕ, ℤ, pos, Bool, true, false, [], ◌∷◌, unsigned_abs}
+-- The parts of a row: their signs, their divisors and their multiples.
+use Rattle.std.specs.Prelude.{◌≡◌, ◌≢◌, ◌*ℤ◌, All, neg_ℤ, ℕ, ℤ, pos, Bool, true, false, [], ◌∷◌}
 use Rattle.std.specs.Int.{◌∣◌}
-use Rattle.std.specs.Int.Signed.{◌<ℤ◌}
 use Rattle.lq_linear.specs.Row.{AscendsFrom}
-use Rattle.lq_simplex.specs.Systems.{Parts, TermsBelow}
+use Rattle.lq_simplex.specs.Systems.{Parts, TermsBelow, DividesAll}
 
--- the number divides each coefficient
-abbrev pub DividesAll : ℕ → Parts → Type 0
-DividesAll d [] = Unit {0}
-DividesAll d (part ∷ parts) = (d ∣ unsigned_abs part.1) × DividesAll d parts
-
--- the first coefficient is above 0, or, where it is turned, below
-abbrev pub IsAbove : Bool → ℤ → Type 0
-IsAbove true n = n <ℤ pos 0
-IsAbove false n = pos 0 <ℤ n
-
-abbrev pub FirstAbove : Bool → Parts → Type 0
-FirstAbove turned [] = ⊥
-FirstAbove turned (part ∷ parts) = IsAbove turned part.1
+-- each number that divides all coefficients divides this one
+abbrev pub IsGreatest : ℕ → Parts → Type 0
+IsGreatest d parts = (e : ℕ) → DividesAll e parts → e ∣ d
 
 -- each coefficient as it is, or negated
 abbrev pub turned_by : Bool → ℤ → ℤ
@@ -42,3 +31,18 @@ pub record IsRowBelow (n : ℕ) (parts : Parts) : Type 0 where
   pub ascending : AscendsFrom 0 parts
   pub nonzero : All (λ part. part.1 ≢ pos 0) parts
   pub below : TermsBelow n parts
+
+-- at each place the same term, and so many times the one coefficient is so many times the other
+abbrev pub Scales : ℤ → ℤ → Parts → Parts → Type 0
+Scales left right [] [] = Unit {0}
+Scales left right [] (q ∷ qs) = ⊥
+Scales left right (p ∷ ps) [] = ⊥
+Scales left right (p ∷ ps) (q ∷ qs) = (p.0 ≡ q.0) × (left *ℤ p.1 ≡ right *ℤ q.1) × Scales left right ps qs
+
+-- whole multiples of the two agree, neither of them by 0
+pub record AreMultiples (parts others : Parts) : Type 0 where
+  pub left : ℤ
+  pub right : ℤ
+  pub left_apart : left ≢ pos 0
+  pub right_apart : right ≢ pos 0
+  pub same : Scales left right parts others

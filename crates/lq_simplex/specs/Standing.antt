@@ -10,6 +10,7 @@ use Rattle.lq_linear.specs.Contradiction.{Tagged}
 use Rattle.lq_simplex.specs.declared.row.Bound.{Bound}
 use Rattle.lq_simplex.specs.declared.row.Standing.{Standing}
 use Rattle.lq_simplex.specs.Systems.{Parts, form_at}
+use Rattle.lq_simplex.specs.Reading.{AreMultiples}
 
 abbrev pub standing_of : List Standing → Tagged
 standing_of [] = []
@@ -30,9 +31,10 @@ signed false x = x
 abbrev pub scale_of : Bound → ℚ
 scale_of b = signed b.turned (whole b.divisor)
 
--- the row is read "so many times the variable minus the bound"
+-- the row is a multiple of the variable's form, and is read "so many times the variable minus the bound"
 pub record ReadsAs (forms : List Parts) (row : Row) (b : Bound) : Type 0 where
   pub inside : b.variable < length forms
+  pub form : AreMultiples row.parts (form_at forms b.variable)
   pub divides : pos 0 <ℤ b.divisor
   pub level : (v : Valuation) → level v row ≡ scale_of b *ℚ (sum_at v (form_at forms b.variable) -ℚ value_of b.value)
 

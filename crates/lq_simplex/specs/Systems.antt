@@ -1,5 +1,7 @@
 -- Variables, each a form over the terms, and each a combination of the free ones.
-use Rattle.std.specs.Prelude.{◌≡◌, ℕ, ℤ, pos, ◌<◌, ◌≤◌, ◌⊎◌, List, [], ◌∷◌, Option, Some, None, length, slice_index_or}
+use Rattle.std.specs.Prelude.{◌≡◌, ℕ, ℤ, pos, ◌<◌, ◌≤◌, ◌⊎◌, Bool, true, false, List, [], ◌∷◌, Option, Some, None, length, slice_index_or, unsigned_abs}
+use Rattle.std.specs.Int.{◌∣◌}
+use Rattle.std.specs.Int.Signed.{◌<ℤ◌}
 use Rattle.lq_math.specs.Rational.{ℚ, whole, ◌+ℚ◌, ◌*ℚ◌}
 use Rattle.lq_num.specs.declared.frac.Frac.{Frac}
 use Rattle.lq_linear.specs.Row.{Valuation, sum_at}
@@ -27,6 +29,25 @@ abbrev pub TermsBelow : ℕ → Parts → Type 0
 TermsBelow n [] = Unit {0}
 TermsBelow n (part ∷ parts) = (part.0 < n) × TermsBelow n parts
 
+-- the number divides each coefficient
+abbrev pub DividesAll : ℕ → Parts → Type 0
+DividesAll d [] = Unit {0}
+DividesAll d (part ∷ parts) = (d ∣ unsigned_abs part.1) × DividesAll d parts
+
+-- the first coefficient is above 0, or, where it is turned, below
+abbrev pub IsAbove : Bool → ℤ → Type 0
+IsAbove true n = n <ℤ pos 0
+IsAbove false n = pos 0 <ℤ n
+
+abbrev pub FirstAbove : Bool → Parts → Type 0
+FirstAbove turned [] = ⊥
+FirstAbove turned (part ∷ parts) = IsAbove turned part.1
+
+-- the first coefficient is above 0, and no number but 1 divides all
+pub record IsNormal (form : Parts) : Type 0 where
+  pub above : FirstAbove false form
+  pub lowest : (d : ℕ) → DividesAll d form → d ≡ 1
+
 -- each variable has the value of its form
 abbrev pub Fits : List Parts → Valuation → Type 0
 Fits forms x = (k : ℕ) → k < length forms → x k ≡ sum_at x (form_at forms k)
@@ -44,11 +65,13 @@ pub record IsFree (lines : List (List Entry)) (j : ℕ) : Type 0 where
 abbrev pub form_values : List Parts → Valuation → Valuation
 form_values forms v k = sum_at v (form_at forms k)
 
--- the forms of a system: the terms first, and forms over the terms
+-- the forms of a system: the terms first, and forms over the terms, in their normal form and each once
 pub record AreForms (terms : ℕ) (forms : List Parts) : Type 0 where
   pub terms_in : terms ≤ length forms
   pub named : (t : ℕ) → t < terms → form_at forms t ≡ (t, pos 1) ∷ []
   pub below : (k : ℕ) → TermsBelow terms (form_at forms k)
+  pub normal : (k : ℕ) → k < length forms → IsNormal (form_at forms k)
+  pub once : (j k : ℕ) → j < length forms → k < length forms → form_at forms j ≡ form_at forms k → j ≡ k
 
 -- the combinations: each is of free variables alone, and they say the same as the forms
 pub record AreLines (forms : List Parts) (lines : List (List Entry)) : Type 0 where

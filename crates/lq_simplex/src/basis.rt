@@ -1,11 +1,11 @@
-ghost use Rattle.std.specs.Prelude.{◌≡◌, ◌≢◌, true, ℕ, pos, ◌<◌, ◌≤◌, ◌+◌, List, length, slice_get, Some, IfOk, IfErr, IfSome, OnOk, OnErr, ◌++◌, ◌∷◌, []};
+ghost use Rattle.std.specs.Prelude.{◌≡◌, ◌≢◌, true, ℕ, pos, ◌<◌, ◌≤◌, ◌+◌, List, length, slice_get, Some, IfOk, IfErr, IfSome, IfNone, OnOk, OnErr, ◌++◌, ◌∷◌, []};
 ghost use Rattle.lq_math.specs.Rational.{whole, ◌+ℚ◌, ◌-ℚ◌, ◌*ℚ◌};
 ghost use Rattle.lq_linear.specs.Row.{Valuation, sum_at};
 ghost use Rattle.lq_linear.specs.Steps.{valuation_of};
 ghost use Rattle.lq_num.specs.Past.{IsPast};
 ghost use Rattle.lq_num.specs.Value.{value_of};
 ghost use Rattle.lq_simplex.specs.Lines.{combine, factor_of, IsLine, IsOwnLine, IsStop};
-ghost use Rattle.lq_simplex.specs.Systems.{form_at, line_at, change_at, after, TermsBelow, IsChange, IsAdded, IsShifted, IsSystem, GoesOn};
+ghost use Rattle.lq_simplex.specs.Systems.{form_at, line_at, change_at, after, TermsBelow, IsNormal, IsChange, IsAdded, IsShifted, IsSystem, GoesOn};
 ghost use Rattle.lq_simplex.specs.Configurations.{StandsIn, AllStay, Brings};
 
 use crate::line::{Entry, Line, factor, sum};
@@ -196,7 +196,8 @@ fn form_value(values: &[Frac], parts: &[(u64, i128)]) -> Result<Frac, NumberPast
 
 /// The number of a form among these.
 fn find(forms: &[Form], parts: &[(u64, i128)]) -> Option<usize>
-    ensures { IfSome result (λ k. (k < length forms.now) × (form_at forms.now k ≡ parts.now)) }
+    ensures some { IfSome result (λ k. (k < length forms.now) × (form_at forms.now k ≡ parts.now)) }
+    ensures none { IfNone result ((k : ℕ) → k < length forms.now → form_at forms.now k ≢ parts.now) }
 {
     for (at, form) in forms.iter().enumerate() {
         if form.parts() == parts {
@@ -324,7 +325,8 @@ impl Basis {
 
     /// The number of a form, which is added where it isn't there yet.
     pub(crate) fn variable(&mut self, alloc: Global, form: Form) -> Result<usize, Stop>
-        requires { TermsBelow self.old.terms form }
+        requires below { TermsBelow self.old.terms form }
+        requires normal { IsNormal form }
         ensures found { IfOk result (λ k. (k < length self.new.forms) × (form_at self.new.forms k ≡ form)) }
         ensures terms { self.new.terms ≡ self.old.terms }
         ensures forms { GoesOn self.old.forms self.new.forms }
@@ -343,6 +345,8 @@ impl Basis {
 
     fn add(&mut self, form: Form, line: Line, value: Frac) -> Result<(), AllocError>
         requires below { TermsBelow self.old.terms form }
+        requires normal { IsNormal form }
+        requires absent { (k : ℕ) → k < length self.old.forms → form_at self.old.forms k ≢ form }
         requires line { IsLine line }
         requires sum { (x : Valuation) → combine x line ≡ sum_at (λ t. combine x (line_at self.old.lines t)) form }
         requires value { value_of value ≡ sum_at (valuation_of self.old.values) form }

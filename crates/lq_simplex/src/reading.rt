@@ -4,10 +4,10 @@ ghost use Rattle.lq_math.specs.Rational.{whole, ◌*ℚ◌, neg_ℚ};
 ghost use Rattle.lq_num.specs.Past.{IsPast};
 ghost use Rattle.lq_num.specs.Value.{value_of};
 ghost use Rattle.lq_simplex.specs.Lines.{IsStop};
-ghost use Rattle.lq_simplex.specs.Systems.{TermsBelow, GoesOn};
+ghost use Rattle.lq_simplex.specs.Systems.{TermsBelow, DividesAll, FirstAbove, GoesOn};
 ghost use Rattle.lq_simplex.specs.Standing.{signed, ReadsBy};
 ghost use Rattle.lq_simplex.specs.Configurations.{AllStay};
-ghost use Rattle.lq_simplex.specs.Reading.{DividesAll, FirstAbove, turned_by, IsTurned, IsDivided};
+ghost use Rattle.lq_simplex.specs.Reading.{IsGreatest, turned_by, IsTurned, IsDivided};
 
 use crate::basis::{Basis, Form};
 use crate::row::Bound;
@@ -32,7 +32,8 @@ fn gcd(a: u128, b: u128) -> u128
 
 /// The greatest common divisor of the coefficients.
 fn divisor(parts: &[(u64, i128)]) -> u128
-    ensures { DividesAll result parts.now }
+    ensures divides { DividesAll result parts.now }
+    ensures greatest { IsGreatest result parts.now }
 {
     let mut shared = 0;
     for (_, coefficient) in parts {
@@ -76,6 +77,7 @@ fn turn(alloc: Global, parts: &[(u64, i128)], turned: bool) -> Result<Vec<(u64, 
 fn shared(parts: &[(u64, i128)]) -> u128
     requires { FirstAbove false parts.now }
     ensures divides { DividesAll result parts.now }
+    ensures greatest { IsGreatest result parts.now }
     ensures some { 0 < result }
     ensures small { result < 2 ^ 127 }
 {

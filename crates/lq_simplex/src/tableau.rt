@@ -243,7 +243,8 @@ impl Tableau {
     }
 
     /// What always holds of a tableau, as a law: at every point each variable is the combination of free ones that its line says, and
-    /// the free ones can be chosen freely. A free one has the value 0 or a bound that a row gives which was handed.
+    /// the free ones can be chosen freely. Rows that are multiples of one another bound one variable. A free one has the value 0 or a
+    /// bound that a row gives which was handed.
     pub fn configuration(&self)
         ensures configured { IsConfiguration self.now.system }
         ensures rests { (ever : List Row) → Handed self.now ever → Rests ever self.now.system }

@@ -1,12 +1,14 @@
-ghost use Rattle.std.specs.Prelude.{◌≡◌, ◌≢◌, ◌≤◌, ◌<◌, ◌+◌, ℕ, [], ◌∷◌, length, IsNone};
+ghost use Rattle.std.specs.Prelude.{◌≡◌, ◌≢◌, ◌≤◌, ◌<◌, ◌+◌, ℕ, [], ◌∷◌, length, IsNone, IfSome};
 ghost use Rattle.lq_linear.specs.Answers.{Nothing, Held, Conflicted, Stopped};
-ghost use Rattle.lq_linear.specs.Contradiction.{tagged};
+ghost use Rattle.lq_linear.specs.Contradiction.{tagged, Solves};
+ghost use Rattle.lq_linear.specs.Row.{Valuation};
+ghost use Rattle.lq_linear.specs.declared.engine.Verdict.TheVariants.{Holds, Conflict};
 ghost use Rattle.lq_simplex.specs.Systems.{TermsBelow};
 ghost use Rattle.lq_simplex.specs.Reading.{IsRowBelow};
 ghost use Rattle.lq_simplex.specs.Table.{table_limits, table_rows, table_last};
 
 use super::*;
-use lq_linear::{LinearEngine, LinearRow, LinearStop, Verdict};
+use lq_linear::{LinearEngine, LinearRow, LinearStop, Verdict, conflict_or_point};
 use lq_num::{Frac, NumOp};
 use std::process::Abort;
 
@@ -379,6 +381,15 @@ fn limits(rt: HostRuntime) {
     assert!(rt; asked(&rt, 0, &two) == Found::Pivots);
     assert!(rt; asked(&rt, 1, &two) == Found::Pivots);
     assert!(rt; asked(&rt, 2, &two) == Found::Holds);
+    // x - y <= 1, x - y >= 2, as rows that are multiples: two bounds of one form cross, which needs none
+    let shared = [(1, -1, 0, -1, false), (-2, 2, 0, 4, false)];
+    assert!(rt; asked(&rt, 0, &shared) == Found::Conflict);
+    // x + y <= 1, 2 x + 2 y >= 3
+    let scaled = [(1, 1, 0, -1, false), (-2, -2, 0, 3, false)];
+    assert!(rt; asked(&rt, 0, &scaled) == Found::Conflict);
+    // 3 x + 3 y = 3, x + y >= 2
+    let turned = [(3, 3, 0, -3, true), (-1, -1, 0, 2, false)];
+    assert!(rt; asked(&rt, 0, &turned) == Found::Conflict);
     // a bound of a term needs none
     let none = [(1, 0, 0, 3, false), (0, -1, 0, 4, false)];
     assert!(rt; asked(&rt, 0, &none) == Found::Holds);
@@ -452,12 +463,17 @@ fn after_a_stop_of_a_check(rt: HostRuntime) {
     assert!(rt; tableau.value(2) == Frac::whole(5));
 }
 
-/// The verdict of an engine, asked through its bound.
+/// The verdict of an engine, asked through its bound: what it says of the rows that stand, whatever the engine.
 fn verdict<E: LinearEngine>(engine: &mut E) -> Option<Verdict>
     requires { E.last engine.old ≢ Stopped }
+    ensures solved { IfSome result (λ verdict. verdict ≡ Holds → Solves (E.point engine.new) (E.standing engine.old)) }
+    ensures refuted { IfSome result (λ verdict. verdict ≡ Conflict → (v : Valuation) → ¬ (Solves v (E.standing engine.old))) }
 {
     match engine.check() {
-        Ok(verdict) => Some(verdict),
+        Ok(verdict) => {
+            conflict_or_point();
+            Some(verdict)
+        }
         Err(_) => None,
     }
 }

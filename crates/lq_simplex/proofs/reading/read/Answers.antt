@@ -5,18 +5,28 @@ use Rattle.std.proofs.lemmas.Int.{to_z-of_z, ints}
 use Rattle.lq_math.specs.Rational.{whole, ◌-ℚ◌, ◌*ℚ◌, neg_ℚ}
 use Rattle.lq_num.specs.Value.{value_of}
 use Rattle.lq_linear.specs.Row.{sum_at}
-use Rattle.lq_simplex.specs.Systems.{Parts}
+use Rattle.lq_simplex.specs.Systems.{Parts, FirstAbove}
 use Rattle.lq_simplex.specs.Standing.{signed}
-use Rattle.lq_simplex.specs.Reading.{IsTurned, IsDivided}
-use Rattle.lq_simplex.proofs.Readings.{turned_below, divided_below, row_reads}
+use Rattle.lq_simplex.specs.Reading.{IsTurned, IsDivided, IsGreatest, AreMultiples}
+use Rattle.lq_simplex.proofs.Readings.{turned_below, divided_below, turned_first, form_normal, row_reads}
+use Rattle.lq_simplex.proofs.Multiples.{form_multiple}
 use Rattle.lq_simplex.proofs.reading.read.Goals as goal
 
-pub variable-requires : goal.variable-requires
-variable-requires c =
+pub variable-requires-clause-below : goal.variable-requires-clause-below
+variable-requires-clause-below c =
     let parts = c.args.row.now.parts in let made = c.in_ok-made.made.items in let form = c.in_ok-divided.field-0.items in let n = c.args.basis.now.terms in
     let t : IsTurned c.is_turned-turned.result parts made = rw (sym c.parts-parts.ensures.value) c.in_ok-made.ensures.turned in
     let d : IsDivided (pos c.shared-divisor.result) made form = rw (sym c.as_slice-2.ensures.value) c.in_ok-divided.ensures in
     rw c.new-form.ensures (divided_below (pos c.shared-divisor.result) n made form d (turned_below c.is_turned-turned.result n parts made t c.requires))
+
+pub variable-requires-clause-normal : goal.variable-requires-clause-normal
+variable-requires-clause-normal c =
+    let parts = c.args.row.now.parts in let made = c.in_ok-made.made.items in let form = c.in_ok-divided.field-0.items in let d = c.shared-divisor.result in
+    let t : IsTurned c.is_turned-turned.result parts made = rw (sym c.parts-parts.ensures.value) c.in_ok-made.ensures.turned in
+    let q : IsDivided (pos d) made form = rw (sym c.as_slice-2.ensures.value) c.in_ok-divided.ensures in
+    let first : FirstAbove c.is_turned-turned.result parts = rw (sym c.parts-parts.ensures.value) c.is_turned-turned.ensures in
+    let greatest : IsGreatest d made = rw (sym c.as_slice.ensures.value) c.shared-divisor.ensures.greatest in
+    rw c.new-form.ensures (form_normal d made form c.shared-divisor.ensures.some (turned_first c.is_turned-turned.result parts made t first) greatest q)
 
 pub returns-clause-reads : goal.returns-clause-reads
 returns-clause-reads c =
@@ -30,6 +40,7 @@ returns-clause-reads c =
     let is : to_z w128 (of_z w128 c.constant.result) ≡ c.args.row.now.constant = to_z-of_z w128 c.constant.result constant ∙ c.constant.ensures in
     record {
       inside = c.in_ok-variable.ensures.found.0;
+      form = subst (AreMultiples parts) (sym (c.in_ok-variable.ensures.found.1 ∙ c.new-form.ensures)) (form_multiple c.is_turned-turned.result d parts made form c.shared-divisor.ensures.some t q);
       divides = subst (λ z. pos 0 <ℤ z) (sym same) (let s = c.shared-divisor.ensures.some in omega (arith, ints));
       level = λ v.
           row_reads c.is_turned-turned.result v parts made form c.args.row.now.constant d (value_of c.in_ok-value.value) t q

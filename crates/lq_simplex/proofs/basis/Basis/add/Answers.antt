@@ -1,9 +1,9 @@
-use Rattle.std.proofs.Common.{◌≡◌, sym, subst, ◌++◌, ◌∷◌, []}
+use Rattle.std.proofs.Common.{◌≡◌, ◌≢◌, ◌<◌, ℕ, sym, subst, length, ◌++◌, ◌∷◌, []}
 use Rattle.lq_num.specs.Value.{value_of}
 use Rattle.lq_linear.specs.Row.{Valuation, sum_at}
 use Rattle.lq_linear.specs.Steps.{valuation_of}
 use Rattle.lq_simplex.specs.Lines.{combine}
-use Rattle.lq_simplex.specs.Systems.{System, line_at, TermsBelow}
+use Rattle.lq_simplex.specs.Systems.{System, form_at, line_at, TermsBelow}
 use Rattle.lq_simplex.specs.Configurations.{AllStay}
 use Rattle.lq_simplex.proofs.Forms.{further_system, further_stays}
 use Rattle.lq_simplex.proofs.basis.Basis.add.Goals as goal
@@ -14,7 +14,8 @@ invariant_of-self-2 c =
     let is : s ≡ c.args.self.now = c.self.view_is in
     rw (c.in_ok-extend.ensures.forms, c.in_ok-extend.ensures.lines, c.in_ok-extend.ensures.values)
     (further_system s c.args.form c.args.line c.args.value c.self.invariant
-    (subst (λ (t : System). TermsBelow t.terms c.args.form) (sym is) c.requires.below) c.requires.line
+    (subst (λ (t : System). TermsBelow t.terms c.args.form) (sym is) c.requires.below) c.requires.normal
+    (subst (λ (t : System). (k : ℕ) → k < length t.forms → form_at t.forms k ≢ c.args.form) (sym is) c.requires.absent) c.requires.line
     (subst (λ (t : System). (x : Valuation) → combine x c.args.line ≡ sum_at (λ k. combine x (line_at t.lines k)) c.args.form) (sym is) c.requires.sum)
     (subst (λ (t : System). value_of c.args.value ≡ sum_at (valuation_of t.values) c.args.form) (sym is) c.requires.value))
 

@@ -5,12 +5,12 @@ use Rattle.lq_simplex.proofs.basis.Basis.variable.Goals as goal
 
 pub line_of-requires-clause-below : goal.line_of-requires-clause-below
 line_of-requires-clause-below c =
-    let b : TermsBelow c.self.inside.terms c.args.form = subst (λ (t : System). TermsBelow t.terms c.args.form) (sym c.self.view_is) c.requires in
+    let b : TermsBelow c.self.inside.terms c.args.form = subst (λ (t : System). TermsBelow t.terms c.args.form) (sym c.self.view_is) c.requires.below in
     rw (c.deref-2.ensures.value, c.parts-2.ensures)
     (terms_below c.self.inside.terms (length c.self.inside.lines.items) c.args.form b (let e = c.self.invariant.are_lines.same in let h = c.self.invariant.are_forms.terms_in in omega arith))
 
 pub form_value-requires : goal.form_value-requires
 form_value-requires c =
-    let b : TermsBelow c.self.inside.terms c.args.form = subst (λ (t : System). TermsBelow t.terms c.args.form) (sym c.self.view_is) c.requires in
+    let b : TermsBelow c.self.inside.terms c.args.form = subst (λ (t : System). TermsBelow t.terms c.args.form) (sym c.self.view_is) c.requires.below in
     rw (c.deref-3.ensures.value, c.parts-3.ensures)
     (terms_below c.self.inside.terms (length c.self.inside.values.items) c.args.form b (let e = c.self.invariant.valued in let h = c.self.invariant.are_forms.terms_in in omega arith))
