@@ -176,7 +176,7 @@ const MEASURES: [(&str, &str); 6] = [
 ];
 
 #[test]
-fn texts(rt: HostRuntime) -> Result<(), Fail> {
+fn programs(rt: HostRuntime) -> Result<(), Fail> {
     for (text, wanted) in PROGRAMS {
         assert_eq!(rt;
             answer(rt.alloc(), TextKind::Program, text)?.as_str(),
@@ -184,6 +184,11 @@ fn texts(rt: HostRuntime) -> Result<(), Fail> {
             "{text}"
         );
     }
+    Ok(())
+}
+
+#[test]
+fn qualifiers(rt: HostRuntime) -> Result<(), Fail> {
     for (text, wanted) in QUALIFIERS {
         assert_eq!(rt;
             answer(rt.alloc(), TextKind::Quals, text)?.as_str(),
@@ -191,6 +196,11 @@ fn texts(rt: HostRuntime) -> Result<(), Fail> {
             "{text}"
         );
     }
+    Ok(())
+}
+
+#[test]
+fn measures(rt: HostRuntime) -> Result<(), Fail> {
     for (text, wanted) in MEASURES {
         assert_eq!(rt;
             answer(rt.alloc(), TextKind::Measures, text)?.as_str(),
@@ -352,29 +362,62 @@ const DEEP: [(TextKind, &str, &str, usize, &str, usize); 41] = [
     ),
 ];
 
+// The answer to a front and so many units.
+fn repeated(
+    alloc: Global,
+    kind: TextKind,
+    front: &str,
+    unit: &str,
+    count: usize,
+) -> Result<String, AllocError> {
+    let mut text = String::from_str(alloc, front)?;
+    for _ in 0..count {
+        text.push_str(unit)?;
+    }
+    answer(alloc, kind, &text)
+}
+
+// What is answered at the end of a front and so many units: "ok", or a stop there.
+fn at_end(
+    alloc: Global,
+    front: &str,
+    unit: &str,
+    count: usize,
+    wanted: &str,
+) -> Result<String, AllocError> {
+    if wanted == "ok" {
+        return String::from_str(alloc, wanted);
+    }
+    let end = unit
+        .len()
+        .saturating_mul(count)
+        .saturating_add(front.len())
+        .saturating_add(1);
+    format!(in alloc; "{wanted} 1:{end}")
+}
+
+fn too_deep_at(alloc: Global, column: usize) -> Result<String, AllocError> {
+    format!(in alloc; "5 1:{column}")
+}
+
 #[test]
 fn levels(rt: HostRuntime) -> Result<(), Fail> {
-    for (kind, front, unit, fits, wanted, column) in DEEP {
-        let mut text = String::from_str(rt.alloc(), front)?;
-        for _ in 0..fits {
-            text.push_str(unit)?;
-        }
-        let found = answer(rt.alloc(), kind, &text)?;
-        if wanted == "ok" {
-            assert_eq!(rt; found.as_str(), "ok", "{unit}");
-        } else {
-            let end = text.len().saturating_add(1);
-            assert_eq!(rt;
-                found.as_str(),
-                format!(in rt.alloc(); "4 1:{end}")?.as_str(),
-                "{unit}"
-            );
-        }
-        text.push_str(unit)?;
-        let found = answer(rt.alloc(), kind, &text)?;
+    for (kind, front, unit, fits, wanted, _) in DEEP {
         assert_eq!(rt;
-            found.as_str(),
-            format!(in rt.alloc(); "5 1:{column}")?.as_str(),
+            repeated(rt.alloc(), kind, front, unit, fits)?.as_str(),
+            at_end(rt.alloc(), front, unit, fits, wanted)?.as_str(),
+            "{unit}"
+        );
+    }
+    Ok(())
+}
+
+#[test]
+fn levels_above(rt: HostRuntime) -> Result<(), Fail> {
+    for (kind, front, unit, fits, _, column) in DEEP {
+        assert_eq!(rt;
+            repeated(rt.alloc(), kind, front, unit, fits.saturating_add(1))?.as_str(),
+            too_deep_at(rt.alloc(), column)?.as_str(),
             "{unit}"
         );
     }
@@ -391,16 +434,24 @@ const LONG: [(&str, &str, &str); 6] = [
     ("type t = A", " | A", ""),
 ];
 
+// The answer to a front, 100,000 units and a back.
+fn long(alloc: Global, front: &str, unit: &str, back: &str) -> Result<String, AllocError> {
+    let mut text = String::from_str(alloc, front)?;
+    for _ in 0..100_000 {
+        text.push_str(unit)?;
+    }
+    text.push_str(back)?;
+    answer(alloc, TextKind::Program, &text)
+}
+
 #[test]
 fn long_rows(rt: HostRuntime) -> Result<(), Fail> {
     for (front, unit, back) in LONG {
-        let mut text = String::from_str(rt.alloc(), front)?;
-        for _ in 0..100_000 {
-            text.push_str(unit)?;
-        }
-        text.push_str(back)?;
-        let found = answer(rt.alloc(), TextKind::Program, &text)?;
-        assert_eq!(rt; found.as_str(), "ok", "{unit}");
+        assert_eq!(rt;
+            long(rt.alloc(), front, unit, back)?.as_str(),
+            "ok",
+            "{unit}"
+        );
     }
     Ok(())
 }

@@ -9,7 +9,7 @@ use std::alloc::{AllocError, Global};
 use std::test::Fail;
 
 // What stands behind `let x = `, and its tree.
-const EXPRESSIONS: [(&str, &str); 84] = [
+const EXPRESSIONS: [(&str, &str); 40] = [
     ("1", "1@9"),
     ("-5", "-5@9"),
     ("- 5", "-5@9"),
@@ -101,6 +101,10 @@ const EXPRESSIONS: [(&str, &str); 84] = [
         "match a with (_) -> 1 | () -> 2",
         "(match@9 a@15 _@23 1@29 ()@33 2@39)",
     ),
+];
+
+// The same of indexes, rows, operators and calls.
+const OPERATORS: [(&str, &str); 44] = [
     ("a.(i)", "(fetch@9 a@9 i@12)"),
     ("a.(i) <- e", "(store@9 a@9 i@12 e@18)"),
     ("a.(i).(j) <- e", "(store@9 (fetch@9 a@9 i@12) j@16 e@22)"),
@@ -370,13 +374,36 @@ fn measures(alloc: Global, text: &str) -> Result<String, AllocError> {
     print(alloc, &names, work)
 }
 
+// The tree of a definition of `x` by this text, printed.
+fn defined(alloc: Global, text: &str) -> Result<String, AllocError> {
+    let whole = format!(in alloc; "let x = {text}")?;
+    program(alloc, &whole)
+}
+
+fn definition(alloc: Global, tree: &str) -> Result<String, AllocError> {
+    format!(in alloc; "(let@1 x@5 {tree})")
+}
+
 #[test]
 fn trees_of_expressions(rt: HostRuntime) -> Result<(), Fail> {
-    for (text, wanted) in EXPRESSIONS {
-        let whole = format!(in rt.alloc(); "let x = {text}")?;
-        let item = format!(in rt.alloc(); "(let@1 x@5 {wanted})")?;
-        let found = program(rt.alloc(), &whole)?;
-        assert_eq!(rt; found.as_str(), item.as_str(), "{text}");
+    for (text, tree) in EXPRESSIONS {
+        assert_eq!(rt;
+            defined(rt.alloc(), text)?.as_str(),
+            definition(rt.alloc(), tree)?.as_str(),
+            "{text}"
+        );
+    }
+    Ok(())
+}
+
+#[test]
+fn trees_of_operators(rt: HostRuntime) -> Result<(), Fail> {
+    for (text, tree) in OPERATORS {
+        assert_eq!(rt;
+            defined(rt.alloc(), text)?.as_str(),
+            definition(rt.alloc(), tree)?.as_str(),
+            "{text}"
+        );
     }
     Ok(())
 }
@@ -405,17 +432,22 @@ fn trees_of_measures(rt: HostRuntime) -> Result<(), Fail> {
     Ok(())
 }
 
+// The tree of a definition by 1 in so many parentheses, printed.
+fn enclosed(alloc: Global, count: usize) -> Result<String, AllocError> {
+    let mut text = String::new(alloc);
+    for _ in 0..count {
+        text.push_str("(")?;
+    }
+    text.push_str("1")?;
+    for _ in 0..count {
+        text.push_str(")")?;
+    }
+    defined(alloc, &text)
+}
+
 #[test]
 fn closed_parentheses(rt: HostRuntime) -> Result<(), Fail> {
-    let mut open = String::from_str(rt.alloc(), "let x = ")?;
-    let mut back = String::from_str(rt.alloc(), "1")?;
-    for _ in 0..250 {
-        open.push_str("(")?;
-        back.push_str(")")?;
-    }
-    let fits = format!(in rt.alloc(); "{open}{back}")?;
-    assert_eq!(rt; program(rt.alloc(), &fits)?.as_str(), "(let@1 x@5 1@259)");
-    let deeper = format!(in rt.alloc(); "{open}({back})")?;
-    assert_eq!(rt; program(rt.alloc(), &deeper)?.as_str(), "5 1:259");
+    assert_eq!(rt; enclosed(rt.alloc(), 250)?.as_str(), "(let@1 x@5 1@259)");
+    assert_eq!(rt; enclosed(rt.alloc(), 251)?.as_str(), "5 1:259");
     Ok(())
 }
