@@ -6,7 +6,7 @@ pub enum TextKind {
     Quals,
 }
 
-/// A place in a text. Lines and columns count from 1, columns in bytes.
+/// A place in a text. The first line and the first column have number 1; a column is a byte.
 #[derive(Clone, Copy, Debug, PartialEq, Eq, PartialOrd, Ord, Hash)]
 pub struct Place {
     pub text: TextKind,
