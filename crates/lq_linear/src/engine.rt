@@ -8,6 +8,7 @@ ghost use Rattle.lq_linear.specs.declared.engine.LinearStop.{LinearStop};
 
 use crate::row::LinearRow;
 use lq_num::{Frac, NumberPast};
+use thiserror::Error;
 
 /// What an engine found about the rows that stand.
 #[derive(Clone, Copy, Debug, PartialEq, Eq)]
@@ -19,12 +20,15 @@ pub enum Verdict {
 }
 
 /// Why an engine gave no verdict.
-#[derive(Drop)]
+#[derive(Clone, Copy, Debug, PartialEq, Eq, Error)]
 pub enum LinearStop {
     /// An operation on two fractions has no form of 128 bits.
+    #[error("{0}")]
     Number(NumberPast),
     /// The limit on pivots was spent.
+    #[error("the limit of {0} pivots was spent")]
     Pivots(u64),
+    #[error("out of memory")]
     Memory,
 }
 

@@ -24,6 +24,7 @@ impl Model for LinearRow {
 }
 
 impl LinearRow {
+    /// The row of these parts.
     pub fn new(parts: Vec<(u64, i128)>, constant: i128, equal: bool) -> LinearRow
         requires { IsRow (record { parts = parts.items; constant = constant; equal = equal }) }
         ensures { result ≡ record { parts = parts.items; constant = constant; equal = equal } }
@@ -43,6 +44,7 @@ impl LinearRow {
         self.parts.as_slice()
     }
 
+    /// What is added to the sum of the pairs.
     pub fn constant(&self) -> i128
         ensures { result ≡ self.now.constant }
     {

@@ -76,7 +76,8 @@ fn difference(
     let _terms = table.len();
     match gather(alloc, left, right, 0, true, table) {
         Ok(row) => Ok(level_at(&row, numbers)?),
-        Err(GatherError::Past) | Err(GatherError::Memory) => Err(PointError::Memory),
+        Err(GatherError::Memory) => Err(PointError::Memory),
+        Err(GatherError::Past) => unreachable!(),
     }
 }
 

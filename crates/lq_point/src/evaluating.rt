@@ -66,6 +66,7 @@ pub(crate) fn evaluate(
     rows_say_what_comparisons_say();
     match tighten(alloc, pred, positive, table) {
         Ok(nnf) => Ok(evaluate_rows(&nnf, numbers)?),
-        Err(GatherError::Past) | Err(GatherError::Memory) => Err(PointError::Memory),
+        Err(GatherError::Memory) => Err(PointError::Memory),
+        Err(GatherError::Past) => unreachable!(),
     }
 }

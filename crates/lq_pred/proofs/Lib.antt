@@ -10,3 +10,4 @@ pub mod WholePoints
 pub mod FormSums
 pub mod RowLevels
 pub mod Each
+pub mod CaseLaws

@@ -20,3 +20,4 @@ pub mod RowMeaning
 pub mod Numbering
 pub mod Growing
 pub mod Again
+pub mod Cases

@@ -1,6 +1,7 @@
 ghost use Rattle.std.specs.Prelude.{true, false, ◌≡◌, ◌↔◌, ℕ, Bool, List, All, length, IsTrue, ◌<◌};
 ghost use Rattle.lq_linear.specs.Row.{Row, Valuation, level, RowHolds};
 ghost use Rattle.lq_pred.specs.declared.symbol.Symbol.{Symbol};
+ghost use Rattle.lq_pred.specs.Cases.{MeetsCaseAt, MeetsCaseOfRows};
 ghost use Rattle.lq_pred.specs.Comparison.{Comparison, IsRowOf};
 ghost use Rattle.lq_pred.specs.Formula.{Formula};
 ghost use Rattle.lq_pred.specs.Implication.{Implication, IsPoint, IsValid, EachTrueIn};
@@ -36,4 +37,11 @@ pub fn rows_say_what_comparisons_say()
     ensures valuation { (terms : List Sum) (p : Point) → AgreesOn terms (numbers_at terms p) p }
     ensures point { (terms : List Sum) (v : Valuation) (holds : Symbol → Bool) (class_of : Sum → ℕ) → IsTrue (all_differ terms)
         → AgreesOn terms v (point_by terms v holds class_of) }
+{}
+
+/// A case of a reading is one choice of literals that makes it true: a reading is met exactly where all
+/// literals of one of its cases hold, of comparisons at a point, of rows by a valuation.
+pub fn readings_are_met_by_cases()
+    ensures reading { (p : Point) (reading : Reading Comparison) → Meets p reading ↔ MeetsCaseAt p reading }
+    ensures rows { (v : Valuation) (p : Point) (reading : Reading Row) → MeetsRows v p reading ↔ MeetsCaseOfRows v p reading }
 {}

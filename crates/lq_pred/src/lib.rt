@@ -1,4 +1,5 @@
-//! Predicates, their tightened readings, and points.
+//! Terms, predicates, their tightened readings, and the rows that these gather. What a point is and when an
+//! implication is valid is defined here; the points of the code stand in a crate above.
 #![tactic(auto)]
 
 mod error;
@@ -16,7 +17,9 @@ mod tightening;
 
 pub use error::GatherError;
 pub use gathering::gather;
-pub use laws::{rows_say_what_comparisons_say, whole_numbers_are_a_point};
+pub use laws::{
+    readings_are_met_by_cases, rows_say_what_comparisons_say, whole_numbers_are_a_point,
+};
 pub use lq_linear::{LinearEngine, LinearRow, LinearStop, Mark, Verdict};
 pub use lq_name::CompareOp;
 pub use nnf::{Nnf, Nnfs};

@@ -8,19 +8,28 @@ use crate::term::Term;
 use lq_name::CompareOp;
 use lq_num::NumberPast;
 use std::alloc::{AllocError, Global};
+use thiserror::Error;
 
 /// A predicate.
 #[derive(Debug, Drop)]
 pub enum Pred {
+    /// It always holds.
     True,
+    /// It never holds.
     False,
+    /// A truth value is true.
     Flag(Symbol),
+    /// Two whole numbers compare so.
     Compare(CompareOp, Term, Term),
     /// Two objects are one.
     Same(Term, Term),
+    /// It doesn't hold.
     Not(Box<Pred>),
+    /// Both hold.
     And(Box<Pred>, Box<Pred>),
+    /// At least one of them holds.
     Or(Box<Pred>, Box<Pred>),
+    /// Both hold, or neither does.
     Iff(Box<Pred>, Box<Pred>),
 }
 
@@ -88,6 +97,7 @@ impl Preds {
     ghost use Rattle.std.specs.Prelude.{map};
     ghost use Rattle.lq_pred.specs.PredView.{formula_of, pred_items};
 
+    /// No predicates.
     pub fn new(alloc: Global) -> Result<Preds, AllocError>
         ensures { IfOk result (λ preds. pred_items preds ≡ []) }
     {
@@ -96,24 +106,28 @@ impl Preds {
         })
     }
 
+    /// How many predicates there are.
     pub fn len(&self) -> usize
         ensures { result ≡ length (pred_items self.now) }
     {
         self.items.len()
     }
 
+    /// The predicate at an index, and None past the last one.
     pub fn get(&self, at: usize) -> Option<&Pred>
         ensures { option_copied result ≡ slice_get (pred_items self.now) at }
     {
         self.items.get(at)
     }
 
+    /// The predicates in their order.
     pub fn as_slice(&self) -> &[Pred]
         ensures { result.now ≡ pred_items self.now }
     {
         self.items.as_slice()
     }
 
+    /// Adds a predicate at the end. Where memory is refused, the predicates stay as they were.
     pub fn push(&mut self, pred: Pred) -> Result<(), AllocError>
         ensures ok { OnOk result (pred_items self.new ≡ pred_items self.old ++ pred ∷ []) }
         ensures err { OnErr result (pred_items self.new ≡ pred_items self.old) }
@@ -137,7 +151,9 @@ impl Preds {
 /// An implication without unknowns.
 #[derive(Debug, Drop)]
 pub struct Closed {
+    /// What is given, in order.
     pub hypotheses: Preds,
+    /// What is to follow from the hypotheses.
     pub goal: Pred,
 }
 
@@ -162,13 +178,17 @@ impl Closed {
 }
 
 /// Why no verdict on an implication came.
-#[derive(Drop)]
+#[derive(Debug, Drop, Error)]
 pub enum Stop {
     /// An operation on two fractions has no form of 128 bits.
+    #[error("{0}")]
     Number(NumberPast),
     /// A comparison can't be gathered.
+    #[error("a comparison has a number past 128 bits")]
     Gather(Pred),
     /// The limit on pivots was spent.
+    #[error("the limit of {0} pivots was spent")]
     Pivots(u64),
+    #[error("out of memory")]
     Memory,
 }

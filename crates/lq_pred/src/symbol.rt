@@ -11,21 +11,27 @@ pub enum Symbol {
     Position(u32),
 }
 
-/// What kind of value a term or a symbol stands for: a whole number, a truth value, or an array or
-/// value of a datatype.
+/// What kind of value a term or a symbol stands for.
 #[derive(Clone, Copy, Debug, PartialEq, Eq, Hash)]
 pub enum Sort {
+    /// A whole number.
     Int,
+    /// A truth value.
     Bool,
+    /// An array or a value of a datatype.
     Object,
 }
 
 /// What a qualifier or an unknown may speak of.
 #[derive(Clone, Copy, Debug, PartialEq, Eq, Hash)]
 pub enum Shape {
+    /// A whole number.
     Int,
+    /// A truth value.
     Bool,
+    /// The one value of the unit type.
     Unit,
+    /// An array.
     Array,
     /// A datatype.
     Named(Name),

@@ -19,6 +19,7 @@ impl TermTable {
     ghost use Rattle.lq_pred.specs.TermView.{sum_of};
     ghost use Rattle.lq_pred.specs.TableView.{terms_of};
 
+    /// A table without terms.
     pub fn new(alloc: Global) -> Result<TermTable, AllocError>
         ensures { IfOk result (λ table. terms_of table ≡ []) }
     {

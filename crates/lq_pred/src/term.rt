@@ -5,18 +5,28 @@ use lq_name::Name;
 use std::alloc::{AllocError, Global};
 use std::hash::{Hash, Hasher};
 
-/// A term.
+/// A term. The argument of a length or of a measure is an object, every other term a whole number.
 #[derive(Debug, Drop)]
 pub enum Term {
+    /// A whole number alone.
     Whole(i128),
+    /// The value of a name.
     Var(Symbol),
+    /// The negation.
     Neg(Box<Term>),
+    /// The sum.
     Add(Box<Term>, Box<Term>),
+    /// The left one less the right one.
     Sub(Box<Term>, Box<Term>),
+    /// The product.
     Mul(Box<Term>, Box<Term>),
+    /// The quotient, rounded toward 0; 0 where the divisor is 0.
     Div(Box<Term>, Box<Term>),
+    /// The remainder, 0 or of the dividend's sign; 0 where the divisor is 0.
     Mod(Box<Term>, Box<Term>),
+    /// The length of an array.
     Length(Box<Term>),
+    /// The measure of this name, of a value of a datatype.
     Measure(Name, Box<Term>),
 }
 
@@ -208,6 +218,7 @@ impl Terms {
     ghost use Rattle.std.specs.Option.{option_copied};
     ghost use Rattle.lq_pred.specs.TermView.{term_items};
 
+    /// No terms.
     pub fn new(alloc: Global) -> Result<Terms, AllocError>
         ensures { IfOk result (λ terms. term_items terms ≡ []) }
     {
@@ -216,18 +227,21 @@ impl Terms {
         })
     }
 
+    /// How many terms there are.
     pub fn len(&self) -> usize
         ensures { result ≡ length (term_items self.now) }
     {
         self.items.len()
     }
 
+    /// The term at an index, and None past the last one.
     pub fn get(&self, at: usize) -> Option<&Term>
         ensures { option_copied result ≡ slice_get (term_items self.now) at }
     {
         self.items.get(at)
     }
 
+    /// Adds a term at the end. Where memory is refused, the terms stay as they were.
     pub fn push(&mut self, term: Term) -> Result<(), AllocError>
         ensures ok { OnOk result (term_items self.new ≡ term_items self.old ++ term ∷ []) }
         ensures err { OnErr result (term_items self.new ≡ term_items self.old) }

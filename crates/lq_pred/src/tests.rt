@@ -1,5 +1,6 @@
 use crate::{
-    CompareOp, GatherError, Nnf, Pred, Preds, Symbol, Term, TermTable, Terms, gather, tighten,
+    Closed, CompareOp, GatherError, Nnf, Pred, Preds, Symbol, Term, TermTable, Terms, gather,
+    tighten,
 };
 use lq_linear::LinearRow;
 use lq_name::{Binder, Name};
@@ -394,5 +395,55 @@ fn tables_and_lists(rt: HostRuntime) -> Result<(), Fail> {
     let mut preds = Preds::new(m)?;
     preds.push(flag()?)?;
     assert!(rt; preds.get(0).is_some() && preds.get(1).is_none() && preds.len() == 1);
+    Ok(())
+}
+
+#[test]
+fn copied_predicates_are_numbered(rt: HostRuntime) -> Result<(), Fail> {
+    let m = rt.alloc();
+    let half = compare(CompareOp::Lt, div(m, var(0), n(2)), var(1))?;
+    reads(&rt, m, half.copy(m), "1 t1 + -1 t2 + 1 <= 0")?;
+    let mut table = TermTable::new(m)?;
+    half.number_terms(m, &mut table)?;
+    assert_eq!(rt; table.len(), 3);
+    assert_eq!(rt; table.find(&var(0)?), Some(0));
+    assert_eq!(rt; table.find(&div(m, var(0), n(2))?), Some(1));
+    assert_eq!(rt; table.find(&var(1)?), Some(2));
+    assert_eq!(rt; table.find(&n(2)?), None);
+    Ok(())
+}
+
+#[test]
+fn terms_of_an_implication(rt: HostRuntime) -> Result<(), Fail> {
+    let m = rt.alloc();
+    let mut preds = Preds::new(m)?;
+    preds.push(compare(CompareOp::Lt, var(1), n(0))?)?;
+    preds.push(flag()?)?;
+    let hypotheses = preds.copy(m)?;
+    assert_eq!(rt; hypotheses.len(), 2);
+    let goal = compare(CompareOp::Le, mul(m, var(0), var(1)), var(2))?;
+    let terms = Closed { hypotheses, goal }.terms(m)?;
+    assert_eq!(rt; terms.len(), 4);
+    assert_eq!(rt; terms.find(&var(1)?), Some(0));
+    assert_eq!(rt; terms.find(&var(0)?), Some(1));
+    assert_eq!(rt; terms.find(&mul(m, var(0), var(1))?), Some(2));
+    assert_eq!(rt; terms.find(&var(2)?), Some(3));
+    Ok(())
+}
+
+#[test]
+fn parts_of_a_reading(rt: HostRuntime) -> Result<(), Fail> {
+    let m = rt.alloc();
+    let mut table = TermTable::new(m)?;
+    let pred = and(m, same(var(0), var(1)), not(m, flag()))?;
+    match tighten(m, &pred, true, &mut table)? {
+        Nnf::All(parts) => {
+            assert_eq!(rt; parts.len(), 2);
+            assert!(rt; matches!(parts.get(0), Some(Nnf::Same(_, _, true))));
+            assert!(rt; matches!(parts.get(1), Some(Nnf::Flag(_, false))));
+            assert!(rt; parts.get(2).is_none());
+        }
+        _ => assert!(rt; false),
+    }
     Ok(())
 }
