@@ -10,7 +10,7 @@ use Rattle.lq_pred.specs.Points.{Point}
 use Rattle.lq_pred.specs.Comparison.{CanGather}
 use Rattle.lq_pred.specs.Reading.{reading_of, AllFitIn}
 use Rattle.lq_pred.specs.Literals.{negative, literals_of}
-use Rattle.lq_pred.specs.Implication.{Implication, IsValid}
+use Rattle.lq_pred.specs.Implication.{Implication, IsValid, terms_in}
 use Rattle.lq_demand.specs.Answer.{CanBeGathered, sizes_of, IsFirstFailing, IsFirstUngathered}
 use Rattle.lq_action.specs.Value as value
 use Rattle.lq_action.specs.Value.{Value}
@@ -27,6 +27,7 @@ use Rattle.lq_lex.specs.declared.error.LexError.TheVariants.{BadByte, OpenCommen
 use Rattle.lq_lex.specs.declared.token.Token.{Token}
 use Rattle.lq_name.specs.declared.place.Place.{Place}
 use Rattle.lq_name.specs.declared.place.TextKind.TheVariants as kind
+use Rattle.lq_parse.specs.declared.error.ParseError.TheVariants.{Syntax, TooDeep}
 use Rattle.lq_parse.specs.Terminals.{kind_of, kinds_of}
 use Rattle.lq_parse.specs.Texts.{place_of, IsSyntax, IsTooDeep}
 use Rattle.lq_parse.specs.Trees.{IsRead, with_names}
@@ -44,7 +45,8 @@ use Rattle.lq_app.specs.declared.verdict.Refusal.{Refusal}
 use Rattle.lq_app.specs.declared.verdict.Judgement.TheVariants.{Accepted, Rejected, Undecided}
 use Rattle.lq_app.specs.declared.verdict.Refusal.TheVariants.{Code, Memory}
 use Rattle.lq_app.specs.Program.{Program, names_in, IsFaulty, IsStopped, IsTooDeepAt}
-use Rattle.lq_app.specs.Judgement.{Bound, names_of, demands, IsAccepted, IsRejected, IsUngathered, IsPastNumber, HasUnknown, Cause, bad_byte, open_comment, literal_past, stopped, too_deep, unbuilt_form, unknown_name, code_of, line_of, refused_line, unknown_line, IsRefused, IsJudgement, HasSmallDemands, DifferInPoints, IsOneJudgement, head_lines}
+use Rattle.lq_app.specs.Judgement.{IsReadAs, Bound, demands, IsAccepted, ShowsPoint, IsRejected, IsUngathered, IsPastNumber, HasUnknown, Cause, bad_byte, open_comment, literal_past, stopped, too_deep, unbuilt_form, unknown_name, refusal_of, IsRefused, IsJudgement, HasSmallDemands, DifferInPoints, IsOneJudgement, head_lines}
+use Rattle.lq_app.specs.Refusals.{token_refusal, tree_refusal, form_refusal, name_refusal}
 use Rattle.lq_app.specs.Texts.{formula_text}
 use Rattle.lq_app.proofs.Asserted.{goal_at, goal_literals, goal_fits}
 
@@ -94,12 +96,18 @@ program_items_once : Laws → (text : List ℕ) (a b : Program text) (l m : List
 program_items_once laws text a b l m e f = ap items_found (found_once laws text a b (form.is l) (form.is m) e f)
 
 -- a text is bound in one way
+read_once : Laws → (text : List ℕ) (names others : List (List ℕ)) (items also : List (Item NameAt)) → IsReadAs text names items → IsReadAs text others also → (names ≡ others) × (items ≡ also)
+read_once laws text names others items also a b = (
+  sym a.named ∙ names_once laws text a.program b.program ∙ b.named,
+  program_items_once laws text a.program b.program items also a.recognised b.recognised,
+)
+
 items_once : Laws → (text : List ℕ) (a b : Bound text) → a.items ≡ b.items
-items_once laws text a b = program_items_once laws text a.program b.program a.items b.items a.recognised b.recognised
+items_once laws text a b = (read_once laws text a.names b.names a.items b.items a.bound.read b.bound.read).1
 
 scoped_once : Laws → (text : List ℕ) (a b : Bound text) → a.scoped ≡ b.scoped
 scoped_once laws text a b =
-    laws.scope b.items a.scoped b.scoped (subst (λ (l : List (Item NameAt)). Resolves l a.scoped) (items_once laws text a b) a.resolves) b.resolves
+    laws.scope b.items a.scoped b.scoped (subst (λ (l : List (Item NameAt)). Resolves l a.scoped) (items_once laws text a b) a.bound.resolves) b.bound.resolves
 
 -- what holds of all holds of one, and of one of the first
 all_at : {A : Type 0} (P : A → Type 0) (xs : List A) (k : ℕ) (x : A) → All P xs → slice_get xs k ≡ Some x → P x
@@ -128,6 +136,13 @@ not_after list k m p q f g lt = failing_is_invalid list k p f (before_at IsValid
 
 one_failing : (list : List Implication) (k m : ℕ) (p q : Point) → IsFirstFailing list k p → IsFirstFailing list m q → k ≡ m
 one_failing list k m p q f g = same_number k m (not_after list k m p q f g) (not_after list m k q p g f)
+
+-- the failing implication of one number
+failing_once : (list others : List Implication) (k m : ℕ) (p q : Point) (f : IsFirstFailing list k p) (g : IsFirstFailing others m q) → list ≡ others → k ≡ m → f.failing ≡ g.failing
+failing_once list others k m p q f g same number =
+    let there : slice_get others m ≡ Some f.failing = subst (λ (n : ℕ). slice_get others n ≡ Some f.failing) number (subst (λ (l : List Implication). slice_get l k ≡ Some f.failing) same f.at) in
+    let here : Some f.failing ≡ Some g.failing = sym there ∙ g.at in
+    cc
 
 -- a demand that isn't gathered has a literal that can't be
 cannot_be : (scoped : List (Item Binder)) (k : ℕ) (p : Formula) (f : IsFirstUngathered (implications_of scoped) k p) → CanBeGathered f.ungathered → ⊥
@@ -159,15 +174,26 @@ rejected_once laws text r q a b =
     let first = subst (λ (l : List (Item Binder)). IsFirstFailing (implications_of l) a.number a.point) scoped a.first in
     let number = one_failing (demands b.of) a.number b.number a.point b.point first b.first in
     let assertion = one_assertion a.of.scoped b.of.scoped a.number b.number a.assertion b.assertion scoped number a.asserted b.asserted in
+    let read = read_once laws text a.of.names b.of.names a.of.items b.of.items a.of.bound.read b.of.bound.read in
+    let failing = failing_once (demands a.of) (demands b.of) a.number b.number a.point b.point a.first b.first (ap implications_of scoped) number in
     let head : head_lines (codes "rejected\n") b.number b.assertion.place ≡ head_lines (codes "rejected\n") a.number a.assertion.place =
     ap (λ (n : ℕ). head_lines (codes "rejected\n") n b.assertion.place) (sym number) ∙ ap (λ (s : Assertion Binder). head_lines (codes "rejected\n") a.number s.place) (sym assertion) in
     record {
       number = a.number;
       place = a.assertion.place;
+      names = b.of.names;
+      items = b.of.items;
+      terms = terms_in b.first.failing;
+      point = a.point;
       lines = a.lines;
-      others = b.lines;
+      shows = subst (λ (l : List (List ℕ)). ShowsPoint l b.of.items a.point (terms_in b.first.failing) a.lines) read.0
+          (subst (λ (l : List (Item NameAt)). ShowsPoint a.of.names l a.point (terms_in b.first.failing) a.lines) read.1
+          (subst (λ (i : Implication). ShowsPoint a.of.names a.of.items a.point (terms_in i) a.lines) failing a.shows));
       written = a.written;
-      also = b.written ∙ ap (λ (l : List ℕ). l ++ b.lines) head;
+      other_point = b.point;
+      other_lines = b.lines;
+      other_shows = b.shows;
+      other_written = b.written ∙ ap (λ (l : List ℕ). l ++ b.lines) head;
     }
 
 -- the formula of a first implication that can't be gathered
@@ -185,19 +211,18 @@ ungathered_text names items number assertion formula =
 -- two judgements on a comparison that can't be gathered are one
 ungathered_once : Laws → (text r q : List ℕ) → IsUngathered text r → IsUngathered text q → r ≡ q
 ungathered_once laws text r q a b =
-    let names = names_once laws text a.of.program b.of.program in
-    let items = items_once laws text a.of b.of in
+    let read = read_once laws text a.of.names b.of.names a.of.items b.of.items a.of.bound.read b.of.bound.read in
     let scoped = scoped_once laws text a.of b.of in
     let first = subst (λ (l : List (Item Binder)). IsFirstUngathered (implications_of l) a.number a.formula) scoped a.first in
     let number = one_ungathered b.of.scoped a.number b.number a.formula b.formula first b.first in
     let assertion = one_assertion a.of.scoped b.of.scoped a.number b.number a.assertion b.assertion scoped number a.asserted b.asserted in
     let formula = one_formula (demands b.of) a.number b.number a.formula b.formula number first b.first in
     a.written
-    ∙ ap (λ (l : List (List ℕ)). ungathered_text l a.of.items a.number a.assertion a.formula) names
-    ∙ ap (λ (l : List (Item NameAt)). ungathered_text (names_of b.of) l a.number a.assertion a.formula) items
-    ∙ ap (λ (n : ℕ). ungathered_text (names_of b.of) b.of.items n a.assertion a.formula) number
-    ∙ ap (λ (s : Assertion Binder). ungathered_text (names_of b.of) b.of.items b.number s a.formula) assertion
-    ∙ ap (ungathered_text (names_of b.of) b.of.items b.number b.assertion) formula
+    ∙ ap (λ (l : List (List ℕ)). ungathered_text l a.of.items a.number a.assertion a.formula) read.0
+    ∙ ap (λ (l : List (Item NameAt)). ungathered_text b.of.names l a.number a.assertion a.formula) read.1
+    ∙ ap (λ (n : ℕ). ungathered_text b.of.names b.of.items n a.assertion a.formula) number
+    ∙ ap (λ (s : Assertion Binder). ungathered_text b.of.names b.of.items b.number s a.formula) assertion
+    ∙ ap (ungathered_text b.of.names b.of.items b.number b.assertion) formula
     ∙ sym b.written
 
 -- what a text is: it has a fault, it stops, it nests too deeply, or it is a program
@@ -235,82 +260,80 @@ depths_once laws text p q a b =
     deep.2 ∙ ap (place_of b.tokens (place_at kind.Program text (length text))) (laws.depths (kinds_of text b.tokens) deep.0 b.deep.0 deep.1 b.deep.1) ∙ sym b.deep.2
 
 bound_or_cause : Laws → (text : List ℕ) → Bound text → Cause text → ⊥
-bound_or_cause laws text p (bad_byte place c) = program_or_fault laws text (BadByte place) p.program.tokens p.program.are_tokens c
-bound_or_cause laws text p (open_comment place c) = program_or_fault laws text (OpenComment place) p.program.tokens p.program.are_tokens c
-bound_or_cause laws text p (literal_past place c) = program_or_fault laws text (LiteralPast place) p.program.tokens p.program.are_tokens c
-bound_or_cause laws text p (stopped place c) = program_or_stop laws text place p.program c
-bound_or_cause laws text p (too_deep place c) = program_or_deep laws text place p.program c
-bound_or_cause laws text p (unbuilt_form place c) = absurd (let same = found_once laws text p.program c.program (form.is p.items) (form.unbuilt place) p.recognised c.first in cc)
+bound_or_cause laws text p (bad_byte place c) = program_or_fault laws text (BadByte place) p.bound.read.program.tokens p.bound.read.program.are_tokens c
+bound_or_cause laws text p (open_comment place c) = program_or_fault laws text (OpenComment place) p.bound.read.program.tokens p.bound.read.program.are_tokens c
+bound_or_cause laws text p (literal_past place c) = program_or_fault laws text (LiteralPast place) p.bound.read.program.tokens p.bound.read.program.are_tokens c
+bound_or_cause laws text p (stopped place c) = program_or_stop laws text place p.bound.read.program c
+bound_or_cause laws text p (too_deep place c) = program_or_deep laws text place p.bound.read.program c
+bound_or_cause laws text p (unbuilt_form place c) = absurd (let same = found_once laws text p.bound.read.program c.program (form.is p.items) (form.unbuilt place) p.bound.read.recognised c.first in cc)
 bound_or_cause laws text p (unknown_name x c) =
-    let same = program_items_once laws text c.program p.program c.items p.items c.recognised p.recognised in
-    laws.either p.items p.scoped x (subst (λ (l : List (Item NameAt)). IsFirstUnknown l x) same c.first) p.resolves
+    let same = (read_once laws text c.names p.names c.items p.items c.read p.bound.read).1 in
+    laws.either p.items p.scoped x (subst (λ (l : List (Item NameAt)). IsFirstUnknown l x) same c.first) p.bound.resolves
 
 -- a text is refused, or is bound
 bound_or_refused : Laws → (text r : List ℕ) (c : ℕ) → Bound text → IsRefused text c r → ⊥
 bound_or_refused laws text r c p refused = bound_or_cause laws text p refused.0
 
-unknown_once : Laws → (text : List ℕ) (x y : NameAt) (a : HasUnknown text x) (b : HasUnknown text y) → unknown_line (names_in a.program) x ≡ unknown_line (names_in b.program) y
+unknown_once : Laws → (text : List ℕ) (x y : NameAt) (a : HasUnknown text x) (b : HasUnknown text y) → name_refusal a.names x ≡ name_refusal b.names y
 unknown_once laws text x y a b =
-    let same = program_items_once laws text a.program b.program a.items b.items a.recognised b.recognised in
-    let one = laws.unknown b.items x y (subst (λ (l : List (Item NameAt)). IsFirstUnknown l x) same a.first) b.first in
-    ap (λ (l : List (List ℕ)). unknown_line l x) (names_once laws text a.program b.program) ∙ ap (unknown_line (names_in b.program)) one
+    let read = read_once laws text a.names b.names a.items b.items a.read b.read in
+    let one = laws.unknown b.items x y (subst (λ (l : List (Item NameAt)). IsFirstUnknown l x) read.1 a.first) b.first in
+    ap (λ (l : List (List ℕ)). name_refusal l x) read.0 ∙ ap (name_refusal b.names) one
 
-one_cause : Laws → (text : List ℕ) (c d : Cause text) → (code_of c ≡ code_of d) × (line_of c ≡ line_of d)
-one_cause laws text (bad_byte p a) (bad_byte q b) = (refl, let same : p ≡ q = (let one = (laws.lexing text).faults (BadByte p) (BadByte q) a b in cc) in ap (refused_line 1 (codes "BadByte")) same)
+one_cause : Laws → (text : List ℕ) (c d : Cause text) → refusal_of c ≡ refusal_of d
+one_cause laws text (bad_byte p a) (bad_byte q b) = ap token_refusal ((laws.lexing text).faults (BadByte p) (BadByte q) a b)
 one_cause laws text (bad_byte p a) (open_comment q b) = absurd (let same = (laws.lexing text).faults (BadByte p) (OpenComment q) a b in cc)
 one_cause laws text (bad_byte p a) (literal_past q b) = absurd (let same = (laws.lexing text).faults (BadByte p) (LiteralPast q) a b in cc)
 one_cause laws text (bad_byte p a) (stopped q b) = absurd (program_or_fault laws text (BadByte p) b.tokens b.are_tokens a)
 one_cause laws text (bad_byte p a) (too_deep q b) = absurd (program_or_fault laws text (BadByte p) b.tokens b.are_tokens a)
 one_cause laws text (bad_byte p a) (unbuilt_form q b) = absurd (program_or_fault laws text (BadByte p) b.program.tokens b.program.are_tokens a)
-one_cause laws text (bad_byte p a) (unknown_name q b) = absurd (program_or_fault laws text (BadByte p) b.program.tokens b.program.are_tokens a)
+one_cause laws text (bad_byte p a) (unknown_name q b) = absurd (program_or_fault laws text (BadByte p) b.read.program.tokens b.read.program.are_tokens a)
 one_cause laws text (open_comment p a) (bad_byte q b) = absurd (let same = (laws.lexing text).faults (OpenComment p) (BadByte q) a b in cc)
-one_cause laws text (open_comment p a) (open_comment q b) = (refl, let same : p ≡ q = (let one = (laws.lexing text).faults (OpenComment p) (OpenComment q) a b in cc) in ap (refused_line 2 (codes "OpenComment")) same)
+one_cause laws text (open_comment p a) (open_comment q b) = ap token_refusal ((laws.lexing text).faults (OpenComment p) (OpenComment q) a b)
 one_cause laws text (open_comment p a) (literal_past q b) = absurd (let same = (laws.lexing text).faults (OpenComment p) (LiteralPast q) a b in cc)
 one_cause laws text (open_comment p a) (stopped q b) = absurd (program_or_fault laws text (OpenComment p) b.tokens b.are_tokens a)
 one_cause laws text (open_comment p a) (too_deep q b) = absurd (program_or_fault laws text (OpenComment p) b.tokens b.are_tokens a)
 one_cause laws text (open_comment p a) (unbuilt_form q b) = absurd (program_or_fault laws text (OpenComment p) b.program.tokens b.program.are_tokens a)
-one_cause laws text (open_comment p a) (unknown_name q b) = absurd (program_or_fault laws text (OpenComment p) b.program.tokens b.program.are_tokens a)
+one_cause laws text (open_comment p a) (unknown_name q b) = absurd (program_or_fault laws text (OpenComment p) b.read.program.tokens b.read.program.are_tokens a)
 one_cause laws text (literal_past p a) (bad_byte q b) = absurd (let same = (laws.lexing text).faults (LiteralPast p) (BadByte q) a b in cc)
 one_cause laws text (literal_past p a) (open_comment q b) = absurd (let same = (laws.lexing text).faults (LiteralPast p) (OpenComment q) a b in cc)
-one_cause laws text (literal_past p a) (literal_past q b) = (refl, let same : p ≡ q = (let one = (laws.lexing text).faults (LiteralPast p) (LiteralPast q) a b in cc) in ap (refused_line 3 (codes "LiteralPast")) same)
+one_cause laws text (literal_past p a) (literal_past q b) = ap token_refusal ((laws.lexing text).faults (LiteralPast p) (LiteralPast q) a b)
 one_cause laws text (literal_past p a) (stopped q b) = absurd (program_or_fault laws text (LiteralPast p) b.tokens b.are_tokens a)
 one_cause laws text (literal_past p a) (too_deep q b) = absurd (program_or_fault laws text (LiteralPast p) b.tokens b.are_tokens a)
 one_cause laws text (literal_past p a) (unbuilt_form q b) = absurd (program_or_fault laws text (LiteralPast p) b.program.tokens b.program.are_tokens a)
-one_cause laws text (literal_past p a) (unknown_name q b) = absurd (program_or_fault laws text (LiteralPast p) b.program.tokens b.program.are_tokens a)
+one_cause laws text (literal_past p a) (unknown_name q b) = absurd (program_or_fault laws text (LiteralPast p) b.read.program.tokens b.read.program.are_tokens a)
 one_cause laws text (stopped p a) (bad_byte q b) = absurd (program_or_fault laws text (BadByte q) a.tokens a.are_tokens b)
 one_cause laws text (stopped p a) (open_comment q b) = absurd (program_or_fault laws text (OpenComment q) a.tokens a.are_tokens b)
 one_cause laws text (stopped p a) (literal_past q b) = absurd (program_or_fault laws text (LiteralPast q) a.tokens a.are_tokens b)
-one_cause laws text (stopped p a) (stopped q b) = (refl, ap (refused_line 4 (codes "Syntax")) (stops_once laws text p q a b))
+one_cause laws text (stopped p a) (stopped q b) = ap (λ (n : Place). tree_refusal (Syntax n)) (stops_once laws text p q a b)
 one_cause laws text (stopped p a) (too_deep q b) = absurd (stop_or_deep laws text p q a b)
 one_cause laws text (stopped p a) (unbuilt_form q b) = absurd (program_or_stop laws text p b.program a)
-one_cause laws text (stopped p a) (unknown_name q b) = absurd (program_or_stop laws text p b.program a)
+one_cause laws text (stopped p a) (unknown_name q b) = absurd (program_or_stop laws text p b.read.program a)
 one_cause laws text (too_deep p a) (bad_byte q b) = absurd (program_or_fault laws text (BadByte q) a.tokens a.are_tokens b)
 one_cause laws text (too_deep p a) (open_comment q b) = absurd (program_or_fault laws text (OpenComment q) a.tokens a.are_tokens b)
 one_cause laws text (too_deep p a) (literal_past q b) = absurd (program_or_fault laws text (LiteralPast q) a.tokens a.are_tokens b)
 one_cause laws text (too_deep p a) (stopped q b) = absurd (stop_or_deep laws text q p b a)
-one_cause laws text (too_deep p a) (too_deep q b) = (refl, ap (refused_line 5 (codes "TooDeep")) (depths_once laws text p q a b))
+one_cause laws text (too_deep p a) (too_deep q b) = ap (λ (n : Place). tree_refusal (TooDeep n)) (depths_once laws text p q a b)
 one_cause laws text (too_deep p a) (unbuilt_form q b) = absurd (program_or_deep laws text p b.program a)
-one_cause laws text (too_deep p a) (unknown_name q b) = absurd (program_or_deep laws text p b.program a)
+one_cause laws text (too_deep p a) (unknown_name q b) = absurd (program_or_deep laws text p b.read.program a)
 one_cause laws text (unbuilt_form p a) (bad_byte q b) = absurd (program_or_fault laws text (BadByte q) a.program.tokens a.program.are_tokens b)
 one_cause laws text (unbuilt_form p a) (open_comment q b) = absurd (program_or_fault laws text (OpenComment q) a.program.tokens a.program.are_tokens b)
 one_cause laws text (unbuilt_form p a) (literal_past q b) = absurd (program_or_fault laws text (LiteralPast q) a.program.tokens a.program.are_tokens b)
 one_cause laws text (unbuilt_form p a) (stopped q b) = absurd (program_or_stop laws text q a.program b)
 one_cause laws text (unbuilt_form p a) (too_deep q b) = absurd (program_or_deep laws text q a.program b)
-one_cause laws text (unbuilt_form p a) (unbuilt_form q b) = (refl, let same : p ≡ q = ap (place_found p) (found_once laws text a.program b.program (form.unbuilt p) (form.unbuilt q) a.first b.first) in ap (refused_line 17 (codes "Unbuilt")) same)
-one_cause laws text (unbuilt_form p a) (unknown_name q b) = absurd (let same = found_once laws text a.program b.program (form.unbuilt p) (form.is b.items) a.first b.recognised in cc)
-one_cause laws text (unknown_name p a) (bad_byte q b) = absurd (program_or_fault laws text (BadByte q) a.program.tokens a.program.are_tokens b)
-one_cause laws text (unknown_name p a) (open_comment q b) = absurd (program_or_fault laws text (OpenComment q) a.program.tokens a.program.are_tokens b)
-one_cause laws text (unknown_name p a) (literal_past q b) = absurd (program_or_fault laws text (LiteralPast q) a.program.tokens a.program.are_tokens b)
-one_cause laws text (unknown_name p a) (stopped q b) = absurd (program_or_stop laws text q a.program b)
-one_cause laws text (unknown_name p a) (too_deep q b) = absurd (program_or_deep laws text q a.program b)
-one_cause laws text (unknown_name p a) (unbuilt_form q b) = absurd (let same = found_once laws text a.program b.program (form.is a.items) (form.unbuilt q) a.recognised b.first in cc)
-one_cause laws text (unknown_name p a) (unknown_name q b) = (refl, unknown_once laws text p q a b)
+one_cause laws text (unbuilt_form p a) (unbuilt_form q b) = ap form_refusal (ap (place_found p) (found_once laws text a.program b.program (form.unbuilt p) (form.unbuilt q) a.first b.first))
+one_cause laws text (unbuilt_form p a) (unknown_name q b) = absurd (let same = found_once laws text a.program b.read.program (form.unbuilt p) (form.is b.items) a.first b.read.recognised in cc)
+one_cause laws text (unknown_name p a) (bad_byte q b) = absurd (program_or_fault laws text (BadByte q) a.read.program.tokens a.read.program.are_tokens b)
+one_cause laws text (unknown_name p a) (open_comment q b) = absurd (program_or_fault laws text (OpenComment q) a.read.program.tokens a.read.program.are_tokens b)
+one_cause laws text (unknown_name p a) (literal_past q b) = absurd (program_or_fault laws text (LiteralPast q) a.read.program.tokens a.read.program.are_tokens b)
+one_cause laws text (unknown_name p a) (stopped q b) = absurd (program_or_stop laws text q a.read.program b)
+one_cause laws text (unknown_name p a) (too_deep q b) = absurd (program_or_deep laws text q a.read.program b)
+one_cause laws text (unknown_name p a) (unbuilt_form q b) = absurd (let same = found_once laws text a.read.program b.program (form.is a.items) (form.unbuilt q) a.read.recognised b.first in cc)
+one_cause laws text (unknown_name p a) (unknown_name q b) = unknown_once laws text p q a b
 
 -- two refusals are one
-one_refusal : Laws → (text : List ℕ) (c d : ℕ) (r q : List ℕ) → IsRefused text c r → IsRefused text d q → (c ≡ d) × (r ≡ q)
-one_refusal laws text c d r q a b =
-    let same = one_cause laws text a.0 b.0 in
-    (a.1 ∙ same.0 ∙ sym b.1, a.2 ∙ same.1 ∙ sym b.2)
+one_refusal : Laws → (text : List ℕ) (c d : ℕ) (r q : List ℕ) → IsRefused text c r → IsRefused text d q → Code c r ≡ Code d q
+one_refusal laws text c d r q a b = a.1 ∙ one_cause laws text a.0 b.0 ∙ sym b.1
 
 accepted_or_rejected : Laws → (text r : List ℕ) → IsAccepted text → IsRejected text r → ⊥
 accepted_or_rejected laws text r a b =
@@ -334,7 +357,7 @@ judged_once laws text (Ok (Undecided c)) (Ok (Accepted t)) (inl a) b = absurd (g
 judged_once laws text (Ok (Undecided c)) (Ok (Rejected f e)) (inl a) b = absurd (gathered_here laws text c b.0.of b.0.first.gathered a)
 judged_once laws text (Ok (Accepted t)) (Ok (Undecided c)) a (inl b) = absurd (gathered_here laws text c a.0.of a.0.gathered b)
 judged_once laws text (Ok (Rejected f e)) (Ok (Undecided c)) a (inl b) = absurd (gathered_here laws text c a.0.of a.0.first.gathered b)
-judged_once laws text (Err (Code c r)) (Err (Code d q)) a b = let same = one_refusal laws text c d r q a b in let code = same.0 in let report = same.1 in inl cc
+judged_once laws text (Err (Code c r)) (Err (Code d q)) a b = inl (ap (λ (e : Refusal). Err e) (one_refusal laws text c d r q a b))
 judged_once laws text (Ok (Accepted t)) (Err (Code c r)) a b = absurd (bound_or_refused laws text r c a.0.of b)
 judged_once laws text (Ok (Rejected f e)) (Err (Code c r)) a b = absurd (bound_or_refused laws text r c a.0.of b)
 judged_once laws text (Ok (Undecided u)) (Err (Code c r)) (inl a) b = absurd (bound_or_refused laws text r c a.of b)

@@ -1,5 +1,4 @@
 -- The refusals of texts.
-use Rattle.std.specs.Prelude.{codes}
 use Rattle.std.proofs.Common.{◌≡◌, ◌⊎◌, inl, inr, ℕ, suc, List, [], ◌∷◌, length, Err, refl, ap, subst, ◌∙◌}
 use Rattle.lq_lex.specs.Places.{place_at}
 use Rattle.lq_lex.specs.Reading.{IsTokens}
@@ -19,25 +18,28 @@ use Rattle.lq_tree.specs.Items.{ItemTree}
 use Rattle.lq_app.specs.declared.verdict.Refusal.{Refusal}
 use Rattle.lq_app.specs.declared.verdict.Refusal.TheVariants as refusal
 use Rattle.lq_app.specs.Program.{IsProgramOf, IsFaulty}
-use Rattle.lq_app.specs.Judgement.{Cause, bad_byte, open_comment, literal_past, stopped, too_deep, unbuilt_form, code_of, line_of, refused_line, IsJudgement}
+use Rattle.lq_app.specs.Judgement.{Cause, bad_byte, open_comment, literal_past, stopped, too_deep, unbuilt_form, unknown_name, refusal_of, IsJudgement}
 use Rattle.lq_app.specs.Report.{IsVerdict}
 use Rattle.lq_app.specs.declared.status.Status.TheVariants.{Refused as RefusedStatus}
-use Rattle.lq_app.specs.Refusals.{IsRefusalOfTokens, IsRefusalOfTree}
+use Rattle.lq_app.specs.Refusals.{token_refusal, tree_refusal, form_refusal}
 
 -- a refusal with a cause is due
-pub caused : (text : List ℕ) (c : Cause text) (r : Refusal) → r ≡ refusal.Code (code_of c) (line_of c) → IsJudgement text (Err r)
-caused text c (refusal.Code code report) is =
-    let number : code ≡ code_of c = cc in
-    let line : report ≡ line_of c = cc in
-    (c, number, line)
-caused text c refusal.Memory is = absurd cc
+pub caused : (text : List ℕ) (c : Cause text) (r : Refusal) → r ≡ refusal_of c → IsJudgement text (Err r)
+caused text c (refusal.Code code report) is = (c, is)
+caused text (bad_byte p e) refusal.Memory is = absurd cc
+caused text (open_comment p e) refusal.Memory is = absurd cc
+caused text (literal_past p e) refusal.Memory is = absurd cc
+caused text (stopped p e) refusal.Memory is = absurd cc
+caused text (too_deep p e) refusal.Memory is = absurd cc
+caused text (unbuilt_form p e) refusal.Memory is = absurd cc
+caused text (unknown_name x e) refusal.Memory is = absurd cc
 
-pub no_tokens_due : (text : List ℕ) (e : LexError) (r : Refusal) → (e ≡ lexing.Memory) ⊎ IsFaulty text e → (r ≡ refusal.Memory) ⊎ IsRefusalOfTokens e r → (r ≡ refusal.Memory) ⊎ IsJudgement text (Err r)
+pub no_tokens_due : (text : List ℕ) (e : LexError) (r : Refusal) → (e ≡ lexing.Memory) ⊎ IsFaulty text e → (r ≡ refusal.Memory) ⊎ (r ≡ token_refusal e) → (r ≡ refusal.Memory) ⊎ IsJudgement text (Err r)
 no_tokens_due text e r fault (inl memory) = inl memory
 no_tokens_due text (lexing.BadByte p) r (inr fault) (inr is) = inr (caused text (bad_byte p fault) r is)
 no_tokens_due text (lexing.OpenComment p) r (inr fault) (inr is) = inr (caused text (open_comment p fault) r is)
 no_tokens_due text (lexing.LiteralPast p) r (inr fault) (inr is) = inr (caused text (literal_past p fault) r is)
-no_tokens_due text lexing.Memory r fault (inr is) = absurd is
+no_tokens_due text lexing.Memory r fault (inr is) = inl is
 no_tokens_due text (lexing.BadByte p) r (inl memory) (inr is) = absurd cc
 no_tokens_due text (lexing.OpenComment p) r (inl memory) (inr is) = absurd cc
 no_tokens_due text (lexing.LiteralPast p) r (inl memory) (inr is) = absurd cc
@@ -49,7 +51,7 @@ pub record Refused (text : List ℕ) (tokens : List Token) (end_ : Place) (e : P
   pub syntax : (p : Place) → e ≡ parsing.Syntax p → IsSyntax kind.Program text tokens end_ p
   pub deep : (p : Place) → e ≡ parsing.TooDeep p → IsTooDeep kind.Program text tokens end_ p
 
-pub no_program_due : (text : List ℕ) (tokens : List Token) (end_ : Place) (e : ParseError) (r : Refusal) → Refused text tokens end_ e → (r ≡ refusal.Memory) ⊎ IsRefusalOfTree e r → (r ≡ refusal.Memory) ⊎ IsJudgement text (Err r)
+pub no_program_due : (text : List ℕ) (tokens : List Token) (end_ : Place) (e : ParseError) (r : Refusal) → Refused text tokens end_ e → (r ≡ refusal.Memory) ⊎ (r ≡ tree_refusal e) → (r ≡ refusal.Memory) ⊎ IsJudgement text (Err r)
 no_program_due text tokens end_ e r why (inl memory) = inl memory
 no_program_due text tokens end_ (parsing.Syntax p) r why (inr is) =
     let stop = subst (λ (q : Place). IsSyntax kind.Program text tokens q p) why.last (why.syntax p refl) in
@@ -57,7 +59,7 @@ no_program_due text tokens end_ (parsing.Syntax p) r why (inr is) =
 no_program_due text tokens end_ (parsing.TooDeep p) r why (inr is) =
     let deep = subst (λ (q : Place). IsTooDeep kind.Program text tokens q p) why.last (why.deep p refl) in
     inr (caused text (too_deep p (record { tokens = tokens; are_tokens = why.are_tokens; deep = deep })) r is)
-no_program_due text tokens end_ parsing.Memory r why (inr is) = absurd is
+no_program_due text tokens end_ parsing.Memory r why (inr is) = inl is
 
 -- what a choice after another comes from
 then_is : {A B : Type 0} (f : Found A) (g : A → Found B) (b : B) → then_found f g ≡ form.is b → (a : A) × (f ≡ form.is a) × (g a ≡ form.is b)
@@ -81,7 +83,7 @@ items_count (t ∷ ts) l e =
 
 -- the first node that isn't judged is the cause of a refusal
 pub no_form_due : (text : List ℕ) (trees : List ItemTree) (names : List (List ℕ)) (place : Place) (r : Refusal) → IsProgramOf text trees names → items_in trees ≡ form.unbuilt place
-    → (r ≡ refusal.Memory) ⊎ (r ≡ refusal.Code 17 (refused_line 17 (codes "Unbuilt") place)) → (r ≡ refusal.Memory) ⊎ IsJudgement text (Err r)
+    → (r ≡ refusal.Memory) ⊎ (r ≡ form_refusal place) → (r ≡ refusal.Memory) ⊎ IsJudgement text (Err r)
 no_form_due text trees names place r of found (inl memory) = inl memory
 no_form_due text trees names place r of found (inr is) =
     inr (caused text (unbuilt_form place (record { program = of.program; first = ap items_in of.same ∙ found })) r is)

@@ -2,6 +2,7 @@
 use Rattle.std.specs.Prelude.{◌≡◌, ◌⊎◌, ℕ, ℤ, ◌+◌, ◌<◌, ◌^◌, List, [], ◌∷◌, ◌++◌, All, Some, slice_get, Result, Ok, Err, codes, decimal}
 use Rattle.lq_math.specs.LowestTerms.{IsLowest}
 use Rattle.lq_lex.specs.declared.error.LexError.TheVariants.{BadByte, OpenComment, LiteralPast}
+use Rattle.lq_parse.specs.declared.error.ParseError.TheVariants.{Syntax, TooDeep}
 use Rattle.lq_name.specs.declared.name.Binder.{Binder}
 use Rattle.lq_name.specs.declared.place.Place.{Place}
 use Rattle.lq_num.specs.declared.past.NumberPast.{NumberPast}
@@ -15,7 +16,6 @@ use Rattle.lq_straight.specs.declared.item.NameAt.{NameAt}
 use Rattle.lq_straight.specs.declared.item.Assertion.{Assertion}
 use Rattle.lq_straight.specs.declared.item.Item.{Item}
 use Rattle.lq_straight.specs.Forms.{is, unbuilt, items_in}
-use Rattle.lq_straight.specs.Names.{text_in}
 use Rattle.lq_straight.specs.Scope.{Resolves, IsFirstUnknown}
 use Rattle.lq_straight.specs.Meaning.{IsSafe}
 use Rattle.lq_straight.specs.Demands.{implications_of, assertions_of}
@@ -25,14 +25,7 @@ use Rattle.lq_app.specs.declared.verdict.Refusal.{Refusal}
 use Rattle.lq_app.specs.declared.verdict.Refusal.TheVariants.{Code, Memory}
 use Rattle.lq_app.specs.Program.{Program, names_in, place_text, IsFaulty, IsStopped, IsTooDeepAt}
 use Rattle.lq_app.specs.Texts.{fraction_text, past_text, term_text, formula_text}
-
--- The program that the text is, its items, and these with their names bound.
-pub record Bound (text : List ℕ) : Type 0 where
-  pub program : Program text
-  pub items : List (Item NameAt)
-  pub scoped : List (Item Binder)
-  pub recognised : items_in program.trees ≡ is items
-  pub resolves : Resolves items scoped
+use Rattle.lq_app.specs.Refusals.{token_refusal, tree_refusal, form_refusal, name_refusal}
 
 -- the text is a program of these items and names
 pub record IsReadAs (text : List ℕ) (names : List (List ℕ)) (items : List (Item NameAt)) : Type 0 where
@@ -42,14 +35,15 @@ pub record IsReadAs (text : List ℕ) (names : List (List ℕ)) (items : List (I
 
 -- the same with its names bound
 pub record IsBoundAs (text : List ℕ) (names : List (List ℕ)) (items : List (Item NameAt)) (scoped : List (Item Binder)) : Type 0 where
-  pub program : Program text
-  pub named : names_in program ≡ names
-  pub recognised : items_in program.trees ≡ is items
+  pub read : IsReadAs text names items
   pub resolves : Resolves items scoped
 
--- the texts of the names of the program
-abbrev pub names_of : {text : List ℕ} → Bound text → List (List ℕ)
-names_of p = names_in p.program
+-- The program that the text is: the texts of its names, its items, and these with their names bound.
+pub record Bound (text : List ℕ) : Type 0 where
+  pub names : List (List ℕ)
+  pub items : List (Item NameAt)
+  pub scoped : List (Item Binder)
+  pub bound : IsBoundAs text names items scoped
 
 -- what the program demands
 abbrev pub demands : {text : List ℕ} → Bound text → List Implication
@@ -83,7 +77,7 @@ pub record IsRejected (text report : List ℕ) : Type 0 where
   pub assertion : Assertion Binder
   pub asserted : slice_get (assertions_of of.scoped) number ≡ Some assertion
   pub lines : List ℕ
-  pub shows : ShowsPoint (names_of of) of.items point (terms_in first.failing) lines
+  pub shows : ShowsPoint of.names of.items point (terms_in first.failing) lines
   pub written : report ≡ head_lines (codes "rejected\n") number assertion.place ++ lines
 
 -- The demand is the first with a literal that can't be gathered, and the report has the first such comparison.
@@ -94,7 +88,7 @@ pub record IsUngathered (text report : List ℕ) : Type 0 where
   pub first : IsFirstUngathered (demands of) number formula
   pub assertion : Assertion Binder
   pub asserted : slice_get (assertions_of of.scoped) number ≡ Some assertion
-  pub written : report ≡ head_lines (codes "undecided\n") number assertion.place ++ codes "number past in " ++ formula_text (names_of of) of.items formula ++ codes "\n"
+  pub written : report ≡ head_lines (codes "undecided\n") number assertion.place ++ codes "number past in " ++ formula_text of.names of.items formula ++ codes "\n"
 
 -- All literals can be gathered, the demands before this one are valid, and the sizes of its constants sum to 2 ^ 126 or more. The
 -- report has an operation on two fractions whose result has no form within 128 bits.
@@ -115,20 +109,10 @@ pub record IsUnbuilt (text : List ℕ) (place : Place) : Type 0 where
 
 -- The text is a program, and this is the first name that it uses with no definition before.
 pub record HasUnknown (text : List ℕ) (x : NameAt) : Type 0 where
-  pub program : Program text
+  pub names : List (List ℕ)
   pub items : List (Item NameAt)
-  pub recognised : items_in program.trees ≡ is items
+  pub read : IsReadAs text names items
   pub first : IsFirstUnknown items x
-
--- a refusal by its number and its name, at a place
-abbrev pub refused_at : ℕ → List ℕ → Place → List ℕ
-refused_at code name place = codes "refused " ++ decimal code ++ codes " " ++ name ++ codes " in program at " ++ place_text place
-
-abbrev pub refused_line : ℕ → List ℕ → Place → List ℕ
-refused_line code name place = refused_at code name place ++ codes "\n"
-
-abbrev pub unknown_line : List (List ℕ) → NameAt → List ℕ
-unknown_line names x = refused_at 6 (codes "Unknown") x.place ++ codes ": " ++ text_in names x.name.0 ++ codes "\n"
 
 -- Why a text is refused, in the order in which the causes are asked for: no tokens, no program, a form that isn't judged yet, an unknown
 -- name.
@@ -141,27 +125,19 @@ pub data Cause (text : List ℕ) : Type 0 where
   unbuilt_form : (place : Place) → IsUnbuilt text place → Cause text
   unknown_name : (x : NameAt) → HasUnknown text x → Cause text
 
-abbrev pub code_of : {text : List ℕ} → Cause text → ℕ
-code_of (bad_byte p c) = 1
-code_of (open_comment p c) = 2
-code_of (literal_past p c) = 3
-code_of (stopped p c) = 4
-code_of (too_deep p c) = 5
-code_of (unbuilt_form p c) = 17
-code_of (unknown_name x c) = 6
+-- the refusal with its number and its report
+abbrev pub refusal_of : {text : List ℕ} → Cause text → Refusal
+refusal_of (bad_byte p c) = token_refusal (BadByte p)
+refusal_of (open_comment p c) = token_refusal (OpenComment p)
+refusal_of (literal_past p c) = token_refusal (LiteralPast p)
+refusal_of (stopped p c) = tree_refusal (Syntax p)
+refusal_of (too_deep p c) = tree_refusal (TooDeep p)
+refusal_of (unbuilt_form p c) = form_refusal p
+refusal_of (unknown_name x c) = name_refusal c.names x
 
-abbrev pub line_of : {text : List ℕ} → Cause text → List ℕ
-line_of (bad_byte p c) = refused_line 1 (codes "BadByte") p
-line_of (open_comment p c) = refused_line 2 (codes "OpenComment") p
-line_of (literal_past p c) = refused_line 3 (codes "LiteralPast") p
-line_of (stopped p c) = refused_line 4 (codes "Syntax") p
-line_of (too_deep p c) = refused_line 5 (codes "TooDeep") p
-line_of (unbuilt_form p c) = refused_line 17 (codes "Unbuilt") p
-line_of (unknown_name x c) = unknown_line (names_in c.program) x
-
--- the refusals with their numbers and reports
+-- the text is refused by this number and this report
 abbrev pub IsRefused : List ℕ → ℕ → List ℕ → Type 0
-IsRefused text code report = (c : Cause text) × (code ≡ code_of c) × (report ≡ line_of c)
+IsRefused text code report = (c : Cause text) × (Code code report ≡ refusal_of c)
 
 -- A judgement that is due. No types and no explanations are reported yet.
 abbrev pub IsJudgement : List ℕ → Result Judgement Refusal → Type 0
@@ -176,14 +152,22 @@ abbrev pub IsByNumber : List ℕ → Result Judgement Refusal → Type 0
 IsByNumber text (Ok (Undecided cause)) = IsPastNumber text cause
 IsByNumber text j = ⊥
 
--- both reject the same demand at the same place, and may show different points
+-- Both reject the same demand at the same place, and each shows a point: the same terms with the same texts in the same order. Only the
+-- numbers at these terms may differ.
 pub record DifferInPoints (report other : List ℕ) : Type 0 where
   pub number : ℕ
   pub place : Place
+  pub names : List (List ℕ)
+  pub items : List (Item NameAt)
+  pub terms : List Term
+  pub point : Point
   pub lines : List ℕ
-  pub others : List ℕ
+  pub shows : ShowsPoint names items point terms lines
   pub written : report ≡ head_lines (codes "rejected\n") number place ++ lines
-  pub also : other ≡ head_lines (codes "rejected\n") number place ++ others
+  pub other_point : Point
+  pub other_lines : List ℕ
+  pub other_shows : ShowsPoint names items other_point terms other_lines
+  pub other_written : other ≡ head_lines (codes "rejected\n") number place ++ other_lines
 
 -- they are one, but for the point that is shown
 abbrev pub Agree : Result Judgement Refusal → Result Judgement Refusal → Type 0

@@ -1,8 +1,8 @@
 pub mod Program
 pub mod Texts
 pub mod Steps
-pub mod Judgement
 pub mod Refusals
+pub mod Judgement
 pub mod Command
 pub mod Report
 pub mod Ends

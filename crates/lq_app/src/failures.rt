@@ -1,5 +1,5 @@
 // The reports on demands that fail and on those that aren't decided.
-ghost use Rattle.std.specs.Prelude.{◌≡◌, ℕ, List, ◌+◌, ◌<◌, ◌≤◌, ◌^◌, ◌++◌, length, codes, IfOk, OnOk};
+ghost use Rattle.std.specs.Prelude.{◌≡◌, ℕ, List, ◌<◌, ◌^◌, ◌++◌, codes, IfOk, OnOk};
 ghost use Rattle.lq_pred.specs.TermView.{sum_of};
 ghost use Rattle.lq_pred.specs.PredView.{formula_of};
 ghost use Rattle.lq_point.specs.Values.{as_point, values_of, table_of};
@@ -8,7 +8,7 @@ ghost use Rattle.lq_app.specs.Texts.{frac_text, past_text, term_text, formula_te
 ghost use Rattle.lq_app.specs.Judgement.{head_lines, ShowsPoint};
 
 use crate::report::push_place;
-use crate::texts::{Names, push_fraction, push_past, push_pred, push_term};
+use crate::texts::{Naming, push_fraction, push_past, push_pred, push_term};
 use itoa::Buffer;
 use lq_name::{Place, TextBuf};
 use lq_num::{Frac, NumberPast};
@@ -39,7 +39,7 @@ fn report_head(
 // The line on a term and its number.
 fn push_value(
     line: &mut Vec<u8>,
-    names: &Names,
+    names: &Naming,
     term: &Term,
     number: &Frac,
 ) -> Result<(), AllocError>
@@ -55,7 +55,7 @@ fn push_value(
 }
 
 // A line for each term of a point.
-fn push_point(line: &mut Vec<u8>, names: &Names, point: &Point) -> Result<(), AllocError>
+fn push_point(line: &mut Vec<u8>, names: &Naming, point: &Point) -> Result<(), AllocError>
     requires { AreOrdinals names.now.items.now names.now.ordinals.now }
     ensures { OnOk result ((lines : List ℕ) × (line.new.items ≡ line.old.items ++ lines)
         × ShowsPoint names.now.table.now names.now.items.now (as_point point.now) (table_of (values_of point.now)) lines) }
@@ -71,7 +71,7 @@ fn push_point(line: &mut Vec<u8>, names: &Names, point: &Point) -> Result<(), Al
 // The report on a demand that fails at the point.
 pub(crate) fn rejected_report(
     alloc: Global,
-    names: &Names,
+    names: &Naming,
     number: usize,
     place: Place,
     point: &Point,
@@ -89,7 +89,7 @@ pub(crate) fn rejected_report(
 // The report on a demand with a comparison that can't be gathered.
 pub(crate) fn ungathered_report(
     alloc: Global,
-    names: &Names,
+    names: &Naming,
     number: usize,
     place: Place,
     pred: &Pred,

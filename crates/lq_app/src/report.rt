@@ -1,7 +1,7 @@
 ghost use Rattle.std.specs.Prelude.{◌≡◌, ◌++◌, IfOk, OnOk};
 ghost use Rattle.lq_app.specs.Command.{usage_line};
-ghost use Rattle.lq_app.specs.Judgement.{refused_at, refused_line, unknown_line};
 ghost use Rattle.lq_app.specs.Program.{place_text};
+ghost use Rattle.lq_app.specs.Refusals.{refused_at, refused_line, unknown_line};
 ghost use Rattle.lq_app.specs.Report.{file_line};
 
 use crate::texts::text_of;

@@ -14,7 +14,7 @@ use lq_io::{Folder, Sink};
 use std::alloc::Global;
 
 /// Does all that the program does: reads the file that the words name, judges it, and writes the
-/// report. The report is made whole before its first byte is written, and writing takes no memory.
+/// report. No byte goes out before all of the report stands in memory, and sending it allocates nothing.
 ///
 /// The folder and the sink may tell nothing of what they hold and take, as those of a machine do; the
 /// clauses then say what can be said by their counts.

@@ -204,6 +204,63 @@ fn reports_by_text(rt: HostRuntime) -> Result<(), Fail> {
     Ok(())
 }
 
+#[test]
+fn printed_by_text(rt: HostRuntime) -> Result<(), Fail> {
+    let alloc = rt.alloc();
+    let cases = [
+        ("let () = print_int (1 - 2)", "accepted\n", 0),
+        (
+            "let () = print_int (1 + x)",
+            "refused 17 Unbuilt in program at 1:25\n",
+            3,
+        ),
+        (
+            "let () = print_int (1 * 2)",
+            "refused 17 Unbuilt in program at 1:21\n",
+            3,
+        ),
+        (
+            "let () = print_int (-1 + 2)",
+            "refused 17 Unbuilt in program at 1:21\n",
+            3,
+        ),
+    ];
+    for (text, report, status) in cases {
+        let (ended, written) = checked(alloc, Vec::from_slice(alloc, text.as_bytes())?)?;
+        assert_eq!(rt; ended.number(), status, "at {text}");
+        assert_eq!(rt; written.as_slice(), report.as_bytes(), "at {text}");
+    }
+    Ok(())
+}
+
+// let x = 1, the 1 in this many parentheses
+fn nested(alloc: Global, depth: usize) -> Result<Vec<u8>, AllocError> {
+    let mut text = Vec::from_slice(alloc, b"let x = ")?;
+    for _ in 0..depth {
+        text.push(b'(')?;
+    }
+    text.push(b'1')?;
+    for _ in 0..depth {
+        text.push(b')')?;
+    }
+    Ok(text)
+}
+
+#[test]
+fn levels_by_text(rt: HostRuntime) -> Result<(), Fail> {
+    let alloc = rt.alloc();
+    let (ended, written) = checked(alloc, nested(alloc, 250)?)?;
+    assert_eq!(rt; ended, Status::Good);
+    assert_eq!(rt; written.as_slice(), b"accepted\n".as_slice());
+    let (ended, written) = checked(alloc, nested(alloc, 251)?)?;
+    assert_eq!(rt; ended, Status::Refused);
+    assert_eq!(rt;
+        written.as_slice(),
+        b"refused 5 TooDeep in program at 1:259\n".as_slice()
+    );
+    Ok(())
+}
+
 const REJECTED: &str = "rejected\ndemand 1 at 1:10: assertion\n";
 
 #[test]

@@ -1,5 +1,5 @@
 // How numbers, names and comparisons are written.
-ghost use Rattle.std.specs.Prelude.{◌≡◌, ℕ, ◌+◌, ◌<◌, ◌^◌, ◌++◌, length, slice_get, codes, decimal, OnOk};
+ghost use Rattle.std.specs.Prelude.{◌≡◌, ◌++◌, slice_get, codes, decimal, OnOk};
 ghost use Rattle.std.specs.Fmt.{signed_decimal};
 ghost use Rattle.lq_pred.specs.TermView.{sum_of};
 ghost use Rattle.lq_pred.specs.PredView.{formula_of};
@@ -16,7 +16,7 @@ use std::alloc::AllocError;
 
 // What the names of a report are told by.
 #[derive(Clone, Copy)]
-pub(crate) struct Names<'a> {
+pub(crate) struct Naming<'a> {
     pub(crate) table: &'a NameTable,
     pub(crate) items: &'a [Item<NameAt>],
     pub(crate) ordinals: &'a [usize],
@@ -115,7 +115,7 @@ fn ordinal_at(ordinals: &[usize], number: usize) -> Option<usize>
     ordinals.get(number).copied()
 }
 
-fn push_name(line: &mut Vec<u8>, names: &Names, binder: Binder) -> Result<(), AllocError>
+fn push_name(line: &mut Vec<u8>, names: &Naming, binder: Binder) -> Result<(), AllocError>
     requires { AreOrdinals names.now.items.now names.now.ordinals.now }
     ensures { OnOk result (line.new.items ≡ line.old.items ++ binder_name names.now.table.now names.now.items.now binder.0) }
 {
@@ -134,7 +134,7 @@ fn push_name(line: &mut Vec<u8>, names: &Names, binder: Binder) -> Result<(), Al
     }
 }
 
-pub(crate) fn push_term(line: &mut Vec<u8>, names: &Names, term: &Term) -> Result<(), AllocError>
+pub(crate) fn push_term(line: &mut Vec<u8>, names: &Naming, term: &Term) -> Result<(), AllocError>
     requires { AreOrdinals names.now.items.now names.now.ordinals.now }
     ensures { OnOk result (line.new.items ≡ line.old.items ++ term_text names.now.table.now names.now.items.now (sum_of term.now)) }
 {
@@ -168,7 +168,7 @@ fn sign_of(op: CompareOp) -> &'static [u8]
     }
 }
 
-pub(crate) fn push_pred(line: &mut Vec<u8>, names: &Names, pred: &Pred) -> Result<(), AllocError>
+pub(crate) fn push_pred(line: &mut Vec<u8>, names: &Naming, pred: &Pred) -> Result<(), AllocError>
     requires { AreOrdinals names.now.items.now names.now.ordinals.now }
     ensures { OnOk result (line.new.items ≡ line.old.items ++ formula_text names.now.table.now names.now.items.now (formula_of pred.now)) }
 {

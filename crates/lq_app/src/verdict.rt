@@ -15,16 +15,16 @@ ghost use Rattle.lq_straight.specs.Uses.{AreSmall};
 ghost use Rattle.lq_straight.specs.Demands.{implications_of, assertions_of};
 ghost use Rattle.lq_tree.specs.Texts.{program_view};
 ghost use Rattle.lq_app.specs.Program.{IsProgramOf};
-ghost use Rattle.lq_app.specs.Judgement.{IsBoundAs, IsAccepted, IsRejected, IsUngathered, IsReadAs, IsJudgement, Agree, IsByNumber, HasSmallDemands, refused_line};
-ghost use Rattle.lq_app.specs.Refusals.{IsRefusalOfTokens, IsRefusalOfTree};
+ghost use Rattle.lq_app.specs.Judgement.{IsBoundAs, IsAccepted, IsRejected, IsUngathered, IsReadAs, IsJudgement, Agree, IsByNumber, HasSmallDemands};
+ghost use Rattle.lq_app.specs.Refusals.{refusal_at, token_refusal, tree_refusal};
 
 use crate::failures::{past_report, rejected_report, ungathered_report};
 use crate::laws::one_judgement;
 use crate::report::{refused_report, unknown_report};
 use crate::steps::lines_of;
-use crate::texts::Names;
+use crate::texts::Naming;
 use lq_demand::{Asked, ask};
-use lq_lex::{LexError, Tokens, lex};
+use lq_lex::{LexError, lex};
 use lq_name::{Binder, NameTable, Place, TextBuf, TextKind};
 use lq_num::NumberPast;
 use lq_parse::{ParseError, parse_program};
@@ -44,8 +44,8 @@ use thiserror::Error;
 pub enum Judgement {
     /// The program is safe. The text tells the types of its definitions; it is empty for now.
     Accepted(TextBuf),
-    /// A demand isn't valid, so no types over the qualifiers fit the program. The first text tells the first such demand and
-    /// a point at which it fails. The second one is to tell its hypotheses; it is empty for now.
+    /// A demand isn't valid. The first text tells the first such demand and a point at which it fails. The second one is to tell
+    /// its hypotheses; it is empty for now.
     Rejected(TextBuf, TextBuf),
     /// A number was past 128 bits. The text tells the demand, and the comparison or the operation.
     Undecided(TextBuf),
@@ -57,6 +57,7 @@ pub enum Refusal {
     /// The number of the refusal, and the line that reports it.
     #[error("refused with code {0}")]
     Code(u8, TextBuf),
+    /// Memory ran out.
     #[error("out of memory")]
     Memory,
 }
@@ -117,7 +118,7 @@ struct Source {
 
 // A refusal at a place.
 fn refused(alloc: Global, code: u8, name: &[u8], place: Place) -> Refusal
-    ensures { (result ≡ Refusal.Memory) ⊎ (result ≡ Refusal.Code code (refused_line code name.now place)) }
+    ensures { (result ≡ Refusal.Memory) ⊎ (result ≡ refusal_at code name.now place) }
 {
     match refused_report(alloc, code, name, place) {
         Ok(report) => Refusal::Code(code, report),
@@ -126,7 +127,7 @@ fn refused(alloc: Global, code: u8, name: &[u8], place: Place) -> Refusal
 }
 
 fn no_tokens(alloc: Global, error: LexError) -> Refusal
-    ensures { (result ≡ Refusal.Memory) ⊎ IsRefusalOfTokens error result }
+    ensures { (result ≡ Refusal.Memory) ⊎ (result ≡ token_refusal error) }
 {
     match error {
         LexError::BadByte(place) => refused(alloc, 1, b"BadByte", place),
@@ -137,7 +138,7 @@ fn no_tokens(alloc: Global, error: LexError) -> Refusal
 }
 
 fn no_program(alloc: Global, error: ParseError) -> Refusal
-    ensures { (result ≡ Refusal.Memory) ⊎ IsRefusalOfTree error result }
+    ensures { (result ≡ Refusal.Memory) ⊎ (result ≡ tree_refusal error) }
 {
     match error {
         ParseError::Syntax(place) => refused(alloc, 4, b"Syntax", place),
@@ -242,7 +243,7 @@ fn rejected(
 {
     let place = place_of_demand(alloc, scoped, number)?;
     let numbers = ordinals(alloc, items)?;
-    let names = Names {
+    let names = Naming {
         table,
         items,
         ordinals: &numbers,
@@ -268,7 +269,7 @@ fn ungathered(
 {
     let place = place_of_demand(alloc, scoped, number)?;
     let numbers = ordinals(alloc, items)?;
-    let names = Names {
+    let names = Naming {
         table,
         items,
         ordinals: &numbers,

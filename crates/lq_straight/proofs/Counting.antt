@@ -1,5 +1,6 @@
 -- Which definition of its name each item is.
-use Rattle.std.specs.Prelude.{slice_get, unwrap_or, IsSomeAnd}
+use Rattle.std.specs.Prelude.{◌==◌, slice_get, unwrap_or, IsSomeAnd}
+use Rattle.std.specs.Option.{option_map}
 use Rattle.std.proofs.Common.{◌≡◌, ⊎_elim, ℕ, zero, suc, ◌+◌, ◌-◌, ◌<◌, ◌≤◌, Bool, true, false, List, [], ◌∷◌, ◌++◌, length, take, count_by, get_or, Option, Some, None, refl, sym, ap, subst, ◌∙◌, arith}
 use Rattle.std.proofs.lemmas.Bool.Decides.{Decides-eqb}
 use Rattle.std.proofs.lemmas.Option.{slice_get_within, slice_get-get_or}
@@ -11,7 +12,7 @@ use Rattle.lq_straight.specs.declared.item.Right.{Right}
 use Rattle.lq_straight.specs.declared.item.Item.{Item}
 use Rattle.lq_straight.specs.declared.item.ItemNode.{ItemNode}
 use Rattle.lq_straight.specs.declared.item.ItemNode.TheVariants.{Define, Assert, Print}
-use Rattle.lq_straight.specs.Scope.{IsDefinitionOf, Defines, is_definition_node, is_definition_of, ordinal, AreOrdinals}
+use Rattle.lq_straight.specs.Scope.{IsDefinitionOf, Defines, defined, is_definition_of, ordinal, AreOrdinals}
 use Rattle.lq_straight.specs.Visible.{IsLatest, kept_ordinal, IsCounted}
 use Rattle.lq_straight.proofs.Lists.{item_at}
 use Rattle.lq_straight.proofs.Scoping.{IsUpTo, definition_is, latest_more, latest_same, at_some, slice_get_push, below_or_at}
@@ -20,6 +21,7 @@ use Rattle.lq_straight.proofs.Scoping.{IsUpTo, definition_is, latest_more, lates
 pub record NumberedTo (items : List (Item NameAt)) (at : ℕ) (numbers : List ℕ) : Type 0 where
   pub count : length numbers ≡ at
   pub each : (k : ℕ) (i : Item NameAt) (x : NameAt) (r : Right NameAt) → k < at → slice_get items k ≡ Some i → i.node ≡ Define x r → slice_get numbers k ≡ Some (ordinal items k x.name.0)
+  pub other : (k : ℕ) (i : Item NameAt) → k < at → slice_get items k ≡ Some i → defined i.node ≡ None → slice_get numbers k ≡ Some 0
   pub low : (k m : ℕ) → slice_get numbers k ≡ Some m → m ≤ at
 
 -- no further item is counted
@@ -35,16 +37,19 @@ same_count p items from (suc d) within none =
     ∙ count_by_more_no p items (from + d) i.0 (omega arith) not
     ∙ same_count p items from d (omega arith) (λ j k low high is. none j k low (omega arith) is)
 
-test_true : (name : ℕ) (n : ItemNode NameAt) → is_definition_node name n ≡ true → IsDefinitionOf name n
-test_true name (Define x r) is = (Decides-eqb x.name.0 name).0 is
-test_true name (Assert a) is = absurd cc
-test_true name (Print e) is = absurd cc
+-- whether what is defined has the name
+abbrev has_name : ℕ → Option NameAt → Bool
+has_name name o = unwrap_or (option_map (λ x. x.name.0 == name) o) false
 
-test_false : (name : ℕ) (n : ItemNode NameAt) → (IsDefinitionOf name n → ⊥) → is_definition_node name n ≡ false
-test_false name n other = by_test (is_definition_node name n) refl
+test_true : (name : ℕ) (o : Option NameAt) → has_name name o ≡ true → IsSomeAnd o (λ x. x.name.0 ≡ name)
+test_true name (Some x) is = (Decides-eqb x.name.0 name).0 is
+test_true name None is = absurd cc
+
+test_false : (name : ℕ) (o : Option NameAt) → (IsSomeAnd o (λ x. x.name.0 ≡ name) → ⊥) → has_name name o ≡ false
+test_false name o other = by_test (has_name name o) refl
   where
-    by_test : (b : Bool) → is_definition_node name n ≡ b → b ≡ false
-    by_test true e = absurd (other (test_true name n e))
+    by_test : (b : Bool) → has_name name o ≡ b → b ≡ false
+    by_test true e = absurd (other (test_true name o e))
     by_test false e = refl
 
 defined_here : (name : ℕ) (n : ItemNode NameAt) → IsDefinitionOf name n → (x : NameAt) × (r : Right NameAt) × (n ≡ Define x r) × (x.name.0 ≡ name)
@@ -53,7 +58,7 @@ defined_here name (Assert a) is = absurd is
 defined_here name (Print e) is = absurd is
 
 other_defines : (items : List (Item NameAt)) (name : ℕ) (j : ℕ) (i : Item NameAt) → slice_get items j ≡ Some i → (Defines items j name → ⊥) → is_definition_of name i ≡ false
-other_defines items name j i is none = test_false name i.node (λ d. none (at_some (λ (l : Item NameAt). IsDefinitionOf name l.node) (slice_get items j) i is d))
+other_defines items name j i is none = test_false name (defined i.node) (λ d. none (at_some (λ (l : Item NameAt). IsDefinitionOf name l.node) (slice_get items j) i is d))
 
 -- how many of the first items define the name
 counted_before : (items : List (Item NameAt)) (at : ℕ) (name : ℕ) (numbers : List ℕ) (o : Option Binder) → at ≤ length items → IsLatest items at name o → NumberedTo items at numbers
@@ -90,7 +95,7 @@ ordinal_next items at i x r kept numbers here node up numbered =
     let lt = slice_get_within items at i here in
     let before = counted_before items at name numbers (kept name) (omega arith) (up.latest name) numbered in
     let there : get_or items at i ≡ i = (let e = slice_get-get_or items at i lt in cc) in
-    let yes = ap (is_definition_of name) there ∙ ap (is_definition_node name) node ∙ (Decides-eqb name name).1 refl in
+    let yes = ap (is_definition_of name) there ∙ ap (λ (n : ItemNode NameAt). has_name name (defined n)) node ∙ (Decides-eqb name name).1 refl in
     sym (count_by_more_yes (is_definition_of name) items at i lt yes ∙ ap (λ (n : ℕ). n + 1) before)
 
 kept_low : (items : List (Item NameAt)) (at : ℕ) (numbers : List ℕ) (o : Option Binder) → NumberedTo items at numbers → kept_ordinal numbers o ≤ at
@@ -112,6 +117,12 @@ counted_ordinal : (items : List (Item NameAt)) (at : ℕ) (i : Item NameAt) (x :
 counted_ordinal items at i x r m kept new numbers here is counted up numbered =
     let same = subst (λ (j : ItemNode NameAt). IsCounted at numbers kept new j m) is counted in
     same.0 ∙ ordinal_next items at i x r kept numbers here is up numbered
+
+-- another item has the number 0
+other_zero : (at : ℕ) (n : ItemNode NameAt) (m : ℕ) (kept new : ℕ → Option Binder) (numbers : List ℕ) → defined n ≡ None → IsCounted at numbers kept new n m → m ≡ 0
+other_zero at (Define x r) m kept new numbers none counted = absurd cc
+other_zero at (Assert a) m kept new numbers none counted = counted.0
+other_zero at (Print e) m kept new numbers none counted = counted.0
 
 pushed_before : (numbers : List ℕ) (m k n : ℕ) → slice_get numbers k ≡ Some n → slice_get (numbers ++ m ∷ []) k ≡ Some n
 pushed_before [] m k n is = absurd cc
@@ -135,6 +146,14 @@ numbered_more items at i m kept new numbers here counted up numbered = record {
       subst (λ (n : ℕ). slice_get (numbers ++ m ∷ []) n ≡ Some (ordinal items k x.name.0)) place
       (pushed_last numbers m ∙ ap (λ (n : ℕ). Some n) (e ∙ ap (λ (n : ℕ). ordinal items n x.name.0) (sym same))))
       (below_or_at at k lt);
+  other = λ k j lt is none.
+      ⊎_elim (λ less. pushed_before numbers m k 0 (numbered.other k j less is none))
+      (λ same.
+      let item_is : i ≡ j = (let there = subst (λ (n : ℕ). slice_get items n ≡ Some j) same is in cc) in
+      let e = other_zero at i.node m kept new numbers (ap (λ (l : Item NameAt). defined l.node) item_is ∙ none) counted in
+      let place : length numbers ≡ k = numbered.count ∙ sym same in
+      subst (λ (n : ℕ). slice_get (numbers ++ m ∷ []) n ≡ Some 0) place (pushed_last numbers m ∙ ap (λ (n : ℕ). Some n) e))
+      (below_or_at at k lt);
   low = λ k n is.
       ⊎_elim (λ old. let le = numbered.low k n old in omega arith) (λ new_is. let le = counted_low items at i.node m kept new numbers counted numbered in let e = new_is.1 in omega arith) (slice_get_push numbers m n k is);
 }
@@ -146,4 +165,8 @@ counted_behind items at i (Assert a) m kept new numbers here node counted up = l
 counted_behind items at i (Print e) m kept new numbers here node counted up = latest_same items at i kept new here (λ name is. definition_is name (Print e) i.node (sym node) is) counted.1 up
 
 pub all_numbered : (items : List (Item NameAt)) (numbers : List ℕ) → NumberedTo items (length items) numbers → AreOrdinals items numbers
-all_numbered items numbers numbered = record { count = numbered.count; each = λ k i x r is node. numbered.each k i x r (slice_get_within items k i is) is node }
+all_numbered items numbers numbered = record {
+  count = numbered.count;
+  each = λ k i x r is node. numbered.each k i x r (slice_get_within items k i is) is node;
+  other = λ k i is none. numbered.other k i (slice_get_within items k i is) is none;
+}

@@ -3,6 +3,7 @@ pub mod Others
 pub mod Gathering
 pub mod Lists
 pub mod NameLists
+pub mod Binding
 pub mod Unique
 pub mod Kept
 pub mod Scoping

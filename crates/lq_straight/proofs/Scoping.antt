@@ -7,18 +7,16 @@ use Rattle.std.proofs.lemmas.List.{length_push}
 use Rattle.lq_name.specs.declared.name.Binder.{Binder}
 use Rattle.lq_straight.specs.declared.item.NameAt.{NameAt}
 use Rattle.lq_straight.specs.declared.item.Sum.{Sum}
-use Rattle.lq_straight.specs.declared.item.Sum.TheVariants as sum
 use Rattle.lq_straight.specs.declared.item.Right.{Right}
-use Rattle.lq_straight.specs.declared.item.Right.TheVariants as right
-use Rattle.lq_straight.specs.declared.item.Printed.{Printed}
-use Rattle.lq_straight.specs.declared.item.Printed.TheVariants as printed
 use Rattle.lq_straight.specs.declared.item.Item.{Item}
 use Rattle.lq_straight.specs.declared.item.ItemNode.{ItemNode}
 use Rattle.lq_straight.specs.declared.item.ItemNode.TheVariants.{Define, Assert, Print}
-use Rattle.lq_straight.specs.Uses.{used_by_sum, used_by_right, used_by_printed, used_by_node, used}
-use Rattle.lq_straight.specs.Scope.{IsDefinitionOf, Defines, IsNearest, IsBoundSum, IsBoundRight, IsBoundPrinted, IsBoundNode, IsBound, Resolves, EachName, IsFirstNot, IsKnown, IsFirstUnknown}
-use Rattle.lq_straight.specs.Visible.{IsLatest, IsFoundSum, IsFoundRight, IsFoundPrinted, IsFoundNode, IsFoundItem, IsKept}
-use Rattle.lq_straight.proofs.NameLists.{each_append, each_more, first_left, first_right, first_alone, first_same}
+use Rattle.lq_straight.specs.Uses.{used_by_sum, used_by_node, used}
+use Rattle.lq_straight.specs.Binding.{IsSameSum}
+use Rattle.lq_straight.specs.Scope.{IsDefinitionOf, Defines, IsNearest, Means, IsBoundNode, IsBound, Resolves, EachName, IsFirstNot, IsKnown, IsFirstUnknown}
+use Rattle.lq_straight.specs.Visible.{Keeps, IsLatest, IsFoundNode, IsFoundItem, IsKept}
+use Rattle.lq_straight.proofs.NameLists.{each_more, first_left, first_right, first_alone, first_same}
+use Rattle.lq_straight.proofs.Binding.{right_same, assertion_same, printed_same, sum_each, right_each, assertion_each, printed_each}
 
 -- what is kept is the last of the first definitions, for each name
 pub record IsUpTo (items : List (Item NameAt)) (at : ℕ) (kept : ℕ → Option Binder) : Type 0 where
@@ -96,65 +94,27 @@ latest_behind items at i m n kept new here node found up = absurd found
 nearest_kept : (items : List (Item NameAt)) (at : ℕ) (kept : ℕ → Option Binder) (name : ℕ) (b : Binder) → IsUpTo items at kept → kept name ≡ Some b → IsNearest items at name b.0
 nearest_kept items at kept name b up is = subst (λ (o : Option Binder). IsLatest items at name o) is (up.latest name)
 
--- a sum whose use is found is bound to the nearest definition
-sum_found : (items : List (Item NameAt)) (at : ℕ) (kept : ℕ → Option Binder) (s : Sum NameAt) (t : Sum Binder) → IsUpTo items at kept → IsFoundSum kept s t → IsBoundSum items at s t
-sum_found items at kept (sum.Use x) (sum.Use b) up found = nearest_kept items at kept x.name.0 b up found
-sum_found items at kept (sum.Add x n) (sum.Add b m) up found = (nearest_kept items at kept x.name.0 b up found.0, found.1)
-sum_found items at kept (sum.Sub x n) (sum.Sub b m) up found = (nearest_kept items at kept x.name.0 b up found.0, found.1)
-sum_found items at kept (sum.Whole n) (sum.Whole m) up found = found
-sum_found items at kept (sum.Negative n) (sum.Negative m) up found = found
-sum_found items at kept s t up found = absurd found
-
-right_found : (items : List (Item NameAt)) (at : ℕ) (kept : ℕ → Option Binder) (r : Right NameAt) (s : Right Binder) → IsUpTo items at kept → IsFoundRight kept r s → IsBoundRight items at r s
-right_found items at kept (right.Read p) (right.Read q) up found = found
-right_found items at kept (right.Sum s) (right.Sum t) up found = sum_found items at kept s t up found
-right_found items at kept r s up found = absurd found
-
-printed_found : (items : List (Item NameAt)) (at : ℕ) (kept : ℕ → Option Binder) (e : Printed NameAt) (f : Printed Binder) → IsUpTo items at kept → IsFoundPrinted kept e f → IsBoundPrinted items at e f
-printed_found items at kept (printed.Sum s) (printed.Sum t) up found = sum_found items at kept s t up found
-printed_found items at kept (printed.Add m n) (printed.Add k l) up found = found
-printed_found items at kept (printed.Sub m n) (printed.Sub k l) up found = found
-printed_found items at kept e f up found = absurd found
+-- what is kept for a name is the nearest definition
+kept_means : (items : List (Item NameAt)) (at : ℕ) (kept : ℕ → Option Binder) → IsUpTo items at kept → (x : NameAt) (b : Binder) → Keeps kept x b → Means items at x b
+kept_means items at kept up x b is = nearest_kept items at kept x.name.0 b up is
 
 node_found : (items : List (Item NameAt)) (at : ℕ) (kept new : ℕ → Option Binder) (i : ItemNode NameAt) (bound : ItemNode Binder) → IsUpTo items at kept → IsFoundNode at kept new i bound → IsBoundNode items at i bound
-node_found items at kept new (Define x r) (Define b s) up found = (found.0, right_found items at kept r s up found.1)
-node_found items at kept new (Assert a) (Assert b) up found = record {
-  place = found.0.place;
-  left = sum_found items at kept a.left b.left up found.0.left;
-  order = found.0.order;
-  right = sum_found items at kept a.right b.right up found.0.right;
-}
-node_found items at kept new (Print e) (Print f) up found = printed_found items at kept e f up found.0
+node_found items at kept new (Define x r) (Define b s) up found = (found.0, right_same (Keeps kept) (Means items at) (kept_means items at kept up) r s found.1)
+node_found items at kept new (Assert a) (Assert b) up found = assertion_same (Keeps kept) (Means items at) (kept_means items at kept up) a b found.0
+node_found items at kept new (Print e) (Print f) up found = printed_same (Keeps kept) (Means items at) (kept_means items at kept up) e f found.0
 node_found items at kept new i bound up found = absurd found
 
 bound_found : (items : List (Item NameAt)) (at : ℕ) (kept new : ℕ → Option Binder) (i : Item NameAt) (bound : Item Binder) → IsUpTo items at kept → IsFoundItem at kept new i bound → IsBound items at i bound
 bound_found items at kept new i bound up found = record { place = found.place; node = node_found items at kept new i.node bound.node up found.node }
 
--- the name of a use that is found is kept
-pub sum_kept : (kept : ℕ → Option Binder) (s : Sum NameAt) (t : Sum Binder) → IsFoundSum kept s t → EachName (IsKept kept) (used_by_sum s)
-sum_kept kept (sum.Use x) (sum.Use b) found = ((b, found), tt)
-sum_kept kept (sum.Add x n) (sum.Add b m) found = ((b, found.0), tt)
-sum_kept kept (sum.Sub x n) (sum.Sub b m) found = ((b, found.0), tt)
-sum_kept kept (sum.Whole n) (sum.Whole m) found = tt
-sum_kept kept (sum.Negative n) (sum.Negative m) found = tt
-sum_kept kept s t found = absurd found
-
-right_kept : (kept : ℕ → Option Binder) (r : Right NameAt) (s : Right Binder) → IsFoundRight kept r s → EachName (IsKept kept) (used_by_right r)
-right_kept kept (right.Read p) (right.Read q) found = tt
-right_kept kept (right.Sum s) (right.Sum t) found = sum_kept kept s t found
-right_kept kept r s found = absurd found
-
-printed_kept : (kept : ℕ → Option Binder) (e : Printed NameAt) (f : Printed Binder) → IsFoundPrinted kept e f → EachName (IsKept kept) (used_by_printed e)
-printed_kept kept (printed.Sum s) (printed.Sum t) found = sum_kept kept s t found
-printed_kept kept (printed.Add m n) (printed.Add k l) found = tt
-printed_kept kept (printed.Sub m n) (printed.Sub k l) found = tt
-printed_kept kept e f found = absurd found
+-- the names of uses that are found are kept
+pub sum_kept : (kept : ℕ → Option Binder) (s : Sum NameAt) (t : Sum Binder) → IsSameSum (Keeps kept) s t → EachName (IsKept kept) (used_by_sum s)
+sum_kept kept s t found = sum_each (Keeps kept) (IsKept kept) (λ x b is. (b, is)) s t found
 
 node_kept : (at : ℕ) (kept new : ℕ → Option Binder) (i : ItemNode NameAt) (bound : ItemNode Binder) → IsFoundNode at kept new i bound → EachName (IsKept kept) (used_by_node i)
-node_kept at kept new (Define x r) (Define b s) found = right_kept kept r s found.1
-node_kept at kept new (Assert a) (Assert b) found =
-    each_append (IsKept kept) (used_by_sum a.left) (used_by_sum a.right) (sum_kept kept a.left b.left found.0.left) (sum_kept kept a.right b.right found.0.right)
-node_kept at kept new (Print e) (Print f) found = printed_kept kept e f found.0
+node_kept at kept new (Define x r) (Define b s) found = right_each (Keeps kept) (IsKept kept) (λ y c is. (c, is)) r s found.1
+node_kept at kept new (Assert a) (Assert b) found = assertion_each (Keeps kept) (IsKept kept) (λ y c is. (c, is)) a b found.0
+node_kept at kept new (Print e) (Print f) found = printed_each (Keeps kept) (IsKept kept) (λ y c is. (c, is)) e f found.0
 node_kept at kept new i bound found = absurd found
 
 -- what is kept is known, and what is known is kept

@@ -12,25 +12,26 @@ use Rattle.lq_straight.specs.declared.item.Item.{Item}
 use Rattle.lq_straight.specs.declared.item.ItemNode.{ItemNode}
 use Rattle.lq_straight.specs.declared.item.ItemNode.TheVariants.{Define, Assert, Print}
 use Rattle.lq_straight.specs.Uses.{IsSmallSum, IsSmallRight, IsSmallNode, IsSmallItem, AreSmall}
-use Rattle.lq_straight.specs.Scope.{IsBoundSum, IsBoundRight, IsBoundNode, Resolves}
+use Rattle.lq_straight.specs.Binding.{IsSameSum, IsSameRight}
+use Rattle.lq_straight.specs.Scope.{Means, IsBoundNode, Resolves}
 use Rattle.lq_straight.proofs.Lists.{item_at}
 
-sum_small : (items : List (Item NameAt)) (at : ℕ) (s : Sum NameAt) (t : Sum Binder) → IsBoundSum items at s t → IsSmallSum s → IsSmallSum t
-sum_small items at (sum.Use x) (sum.Use b) is small = tt
-sum_small items at (sum.Add x n) (sum.Add b m) is small = subst (λ (k : ℕ). k < 2 ^ 127) is.1 small
-sum_small items at (sum.Sub x n) (sum.Sub b m) is small = subst (λ (k : ℕ). k < 2 ^ 127) is.1 small
-sum_small items at (sum.Whole n) (sum.Whole m) is small = subst (λ (k : ℕ). k < 2 ^ 127) is small
-sum_small items at (sum.Negative n) (sum.Negative m) is small = subst (λ (k : ℕ). k < 2 ^ 127) is small
-sum_small items at s t is small = absurd is
+sum_small : (Means : NameAt → Binder → Type 0) (s : Sum NameAt) (t : Sum Binder) → IsSameSum Means s t → IsSmallSum s → IsSmallSum t
+sum_small Means (sum.Use x) (sum.Use b) is small = tt
+sum_small Means (sum.Add x n) (sum.Add b m) is small = subst (λ (k : ℕ). k < 2 ^ 127) is.1 small
+sum_small Means (sum.Sub x n) (sum.Sub b m) is small = subst (λ (k : ℕ). k < 2 ^ 127) is.1 small
+sum_small Means (sum.Whole n) (sum.Whole m) is small = subst (λ (k : ℕ). k < 2 ^ 127) is small
+sum_small Means (sum.Negative n) (sum.Negative m) is small = subst (λ (k : ℕ). k < 2 ^ 127) is small
+sum_small Means s t is small = absurd is
 
-right_small : (items : List (Item NameAt)) (at : ℕ) (r : Right NameAt) (q : Right Binder) → IsBoundRight items at r q → IsSmallRight r → IsSmallRight q
-right_small items at (right.Read p) (right.Read q) is small = tt
-right_small items at (right.Sum s) (right.Sum t) is small = sum_small items at s t is small
-right_small items at r q is small = absurd is
+right_small : (Means : NameAt → Binder → Type 0) (r : Right NameAt) (q : Right Binder) → IsSameRight Means r q → IsSmallRight r → IsSmallRight q
+right_small Means (right.Read p) (right.Read q) is small = tt
+right_small Means (right.Sum s) (right.Sum t) is small = sum_small Means s t is small
+right_small Means r q is small = absurd is
 
 node_small : (items : List (Item NameAt)) (at : ℕ) (i : ItemNode NameAt) (b : ItemNode Binder) → IsBoundNode items at i b → IsSmallNode i → IsSmallNode b
-node_small items at (Define x r) (Define b q) is small = right_small items at r q is.1 small
-node_small items at (Assert a) (Assert b) is small = (sum_small items at a.left b.left is.left small.0, sum_small items at a.right b.right is.right small.1)
+node_small items at (Define x r) (Define b q) is small = right_small (Means items at) r q is.1 small
+node_small items at (Assert a) (Assert b) is small = (sum_small (Means items at) a.left b.left is.left small.0, sum_small (Means items at) a.right b.right is.right small.1)
 node_small items at (Print e) (Print f) is small = tt
 node_small items at i b is small = absurd is
 

@@ -17,10 +17,12 @@ use Rattle.lq_straight.specs.declared.item.Assertion.{Assertion}
 use Rattle.lq_straight.specs.declared.item.Item.{Item}
 use Rattle.lq_straight.specs.declared.item.ItemNode.{ItemNode}
 use Rattle.lq_straight.specs.declared.item.ItemNode.TheVariants.{Define, Assert, Print}
-use Rattle.lq_straight.specs.Uses.{used_by_sum, used_by_right, used_by_printed, used_by_node, used}
-use Rattle.lq_straight.specs.Scope.{IsNearest, IsBoundSum, IsBoundRight, IsBoundAssertion, IsBoundPrinted, IsBoundNode, IsBound, Resolves, EachName, IsFirstNot, IsKnown, IsFirstUnknown}
+use Rattle.lq_straight.specs.Uses.{used_by_node, used}
+use Rattle.lq_straight.specs.Binding.{IsSameSum, IsSameRight, IsSameAssertion, IsSamePrinted}
+use Rattle.lq_straight.specs.Scope.{IsNearest, Means, IsBoundNode, IsBound, Resolves, EachName, IsFirstNot, IsKnown, IsFirstUnknown}
 use Rattle.lq_straight.proofs.Lists.{item_at}
-use Rattle.lq_straight.proofs.NameLists.{each_append, first_once, first_or_each}
+use Rattle.lq_straight.proofs.NameLists.{first_once, first_or_each}
+use Rattle.lq_straight.proofs.Binding.{right_each, assertion_each, printed_each}
 
 -- a later first unknown name is none where an item before it has one
 not_earlier : (items : List (Item NameAt)) (x y : NameAt) (a : IsFirstUnknown items x) (b : IsFirstUnknown items y) → a.at < b.at → ⊥
@@ -40,34 +42,14 @@ one_unknown items x y a b =
     (cases_lt b.at a.at))
     (cases_lt a.at b.at)
 
--- a bound use is known
-nearest_known : (items : List (Item NameAt)) (at : ℕ) (x : NameAt) (k : ℕ) → IsNearest items at x.name.0 k → IsKnown items at x
-nearest_known items at x k is = (k, is.before, is.defines)
-
-sum_known : (items : List (Item NameAt)) (at : ℕ) (s : Sum NameAt) (t : Sum Binder) → IsBoundSum items at s t → EachName (IsKnown items at) (used_by_sum s)
-sum_known items at (sum.Use x) (sum.Use b) is = (nearest_known items at x b.0 is, tt)
-sum_known items at (sum.Add x n) (sum.Add b m) is = (nearest_known items at x b.0 is.0, tt)
-sum_known items at (sum.Sub x n) (sum.Sub b m) is = (nearest_known items at x b.0 is.0, tt)
-sum_known items at (sum.Whole n) (sum.Whole m) is = tt
-sum_known items at (sum.Negative n) (sum.Negative m) is = tt
-sum_known items at s t is = absurd is
-
-right_known : (items : List (Item NameAt)) (at : ℕ) (r : Right NameAt) (s : Right Binder) → IsBoundRight items at r s → EachName (IsKnown items at) (used_by_right r)
-right_known items at (right.Read p) (right.Read q) is = tt
-right_known items at (right.Sum s) (right.Sum t) is = sum_known items at s t is
-right_known items at r s is = absurd is
-
-printed_known : (items : List (Item NameAt)) (at : ℕ) (e : Printed NameAt) (f : Printed Binder) → IsBoundPrinted items at e f → EachName (IsKnown items at) (used_by_printed e)
-printed_known items at (printed.Sum s) (printed.Sum t) is = sum_known items at s t is
-printed_known items at (printed.Add m n) (printed.Add k l) is = tt
-printed_known items at (printed.Sub m n) (printed.Sub k l) is = tt
-printed_known items at e f is = absurd is
+-- a name that means a definition is known
+means_known : (items : List (Item NameAt)) (at : ℕ) (x : NameAt) (b : Binder) → Means items at x b → IsKnown items at x
+means_known items at x b is = (b.0, is.before, is.defines)
 
 node_known : (items : List (Item NameAt)) (at : ℕ) (i : ItemNode NameAt) (j : ItemNode Binder) → IsBoundNode items at i j → EachName (IsKnown items at) (used_by_node i)
-node_known items at (Define x r) (Define b s) is = right_known items at r s is.1
-node_known items at (Assert a) (Assert b) is =
-    each_append (IsKnown items at) (used_by_sum a.left) (used_by_sum a.right) (sum_known items at a.left b.left is.left) (sum_known items at a.right b.right is.right)
-node_known items at (Print e) (Print f) is = printed_known items at e f is
+node_known items at (Define x r) (Define b s) is = right_each (Means items at) (IsKnown items at) (means_known items at) r s is.1
+node_known items at (Assert a) (Assert b) is = assertion_each (Means items at) (IsKnown items at) (means_known items at) a b is
+node_known items at (Print e) (Print f) is = printed_each (Means items at) (IsKnown items at) (means_known items at) e f is
 node_known items at i j is = absurd is
 
 -- a program with an unknown name doesn't resolve
@@ -87,85 +69,92 @@ nearest_once items at name j k a b =
 binder_same : (b c : Binder) → b.0 ≡ c.0 → b ≡ c
 binder_same b c e = let of : ℕ → Binder = λ n. record { 0 = n } in ap of e
 
+-- a name means one binder at most
+abbrev MeansOne : (NameAt → Binder → Type 0) → Type 0
+MeansOne Means = (x : NameAt) (b c : Binder) → Means x b → Means x c → b ≡ c
+
+means_one : (items : List (Item NameAt)) (at : ℕ) → MeansOne (Means items at)
+means_one items at x b c is also = binder_same b c (nearest_once items at x.name.0 b.0 c.0 is also)
+
 -- the bound forms of each sum
-of_use : (items : List (Item NameAt)) (at : ℕ) (x : NameAt) (s : Sum Binder) → IsBoundSum items at (sum.Use x) s → (b : Binder) × (s ≡ sum.Use b) × IsNearest items at x.name.0 b.0
-of_use items at x (sum.Use b) is = (b, refl, is)
-of_use items at x s is = absurd is
+of_use : (Means : NameAt → Binder → Type 0) (x : NameAt) (s : Sum Binder) → IsSameSum Means (sum.Use x) s → (b : Binder) × (s ≡ sum.Use b) × Means x b
+of_use Means x (sum.Use b) is = (b, refl, is)
+of_use Means x s is = absurd is
 
-of_add : (items : List (Item NameAt)) (at : ℕ) (x : NameAt) (n : ℕ) (s : Sum Binder) → IsBoundSum items at (sum.Add x n) s → (b : Binder) × (s ≡ sum.Add b n) × IsNearest items at x.name.0 b.0
-of_add items at x n (sum.Add b m) is = (b, ap (λ (k : ℕ). sum.Add b k) (sym is.1), is.0)
-of_add items at x n s is = absurd is
+of_add : (Means : NameAt → Binder → Type 0) (x : NameAt) (n : ℕ) (s : Sum Binder) → IsSameSum Means (sum.Add x n) s → (b : Binder) × (s ≡ sum.Add b n) × Means x b
+of_add Means x n (sum.Add b m) is = (b, ap (λ (k : ℕ). sum.Add b k) (sym is.1), is.0)
+of_add Means x n s is = absurd is
 
-of_sub : (items : List (Item NameAt)) (at : ℕ) (x : NameAt) (n : ℕ) (s : Sum Binder) → IsBoundSum items at (sum.Sub x n) s → (b : Binder) × (s ≡ sum.Sub b n) × IsNearest items at x.name.0 b.0
-of_sub items at x n (sum.Sub b m) is = (b, ap (λ (k : ℕ). sum.Sub b k) (sym is.1), is.0)
-of_sub items at x n s is = absurd is
+of_sub : (Means : NameAt → Binder → Type 0) (x : NameAt) (n : ℕ) (s : Sum Binder) → IsSameSum Means (sum.Sub x n) s → (b : Binder) × (s ≡ sum.Sub b n) × Means x b
+of_sub Means x n (sum.Sub b m) is = (b, ap (λ (k : ℕ). sum.Sub b k) (sym is.1), is.0)
+of_sub Means x n s is = absurd is
 
-of_whole : (items : List (Item NameAt)) (at n : ℕ) (s : Sum Binder) → IsBoundSum items at (sum.Whole n) s → s ≡ sum.Whole n
-of_whole items at n (sum.Whole m) is = ap (λ (k : ℕ). sum.Whole k) (sym is)
-of_whole items at n s is = absurd is
+of_whole : (Means : NameAt → Binder → Type 0) (n : ℕ) (s : Sum Binder) → IsSameSum Means (sum.Whole n) s → s ≡ sum.Whole n
+of_whole Means n (sum.Whole m) is = ap (λ (k : ℕ). sum.Whole k) (sym is)
+of_whole Means n s is = absurd is
 
-of_negative : (items : List (Item NameAt)) (at n : ℕ) (s : Sum Binder) → IsBoundSum items at (sum.Negative n) s → s ≡ sum.Negative n
-of_negative items at n (sum.Negative m) is = ap (λ (k : ℕ). sum.Negative k) (sym is)
-of_negative items at n s is = absurd is
+of_negative : (Means : NameAt → Binder → Type 0) (n : ℕ) (s : Sum Binder) → IsSameSum Means (sum.Negative n) s → s ≡ sum.Negative n
+of_negative Means n (sum.Negative m) is = ap (λ (k : ℕ). sum.Negative k) (sym is)
+of_negative Means n s is = absurd is
 
 -- two uses bound in one way
-one_bound : (items : List (Item NameAt)) (at : ℕ) (name : ℕ) (s t : Sum Binder) (make : Binder → Sum Binder) → (b : Binder) × (s ≡ make b) × IsNearest items at name b.0 → (b : Binder) × (t ≡ make b) × IsNearest items at name b.0 → s ≡ t
-one_bound items at name s t make a b = a.1 ∙ ap make (binder_same a.0 b.0 (nearest_once items at name a.0.0 b.0.0 a.2 b.2)) ∙ sym b.1
+one_bound : (Means : NameAt → Binder → Type 0) → MeansOne Means → (x : NameAt) (s t : Sum Binder) (make : Binder → Sum Binder) → (b : Binder) × (s ≡ make b) × Means x b → (b : Binder) × (t ≡ make b) × Means x b → s ≡ t
+one_bound Means once x s t make a b = a.1 ∙ ap make (once x a.0 b.0 a.2 b.2) ∙ sym b.1
 
-sum_once : (items : List (Item NameAt)) (at : ℕ) (r : Sum NameAt) (s t : Sum Binder) → IsBoundSum items at r s → IsBoundSum items at r t → s ≡ t
-sum_once items at (sum.Use x) s t a b = one_bound items at x.name.0 s t (λ c. sum.Use c) (of_use items at x s a) (of_use items at x t b)
-sum_once items at (sum.Add x n) s t a b = one_bound items at x.name.0 s t (λ c. sum.Add c n) (of_add items at x n s a) (of_add items at x n t b)
-sum_once items at (sum.Sub x n) s t a b = one_bound items at x.name.0 s t (λ c. sum.Sub c n) (of_sub items at x n s a) (of_sub items at x n t b)
-sum_once items at (sum.Whole n) s t a b = of_whole items at n s a ∙ sym (of_whole items at n t b)
-sum_once items at (sum.Negative n) s t a b = of_negative items at n s a ∙ sym (of_negative items at n t b)
+sum_once : (Means : NameAt → Binder → Type 0) → MeansOne Means → (r : Sum NameAt) (s t : Sum Binder) → IsSameSum Means r s → IsSameSum Means r t → s ≡ t
+sum_once Means once (sum.Use x) s t a b = one_bound Means once x s t (λ c. sum.Use c) (of_use Means x s a) (of_use Means x t b)
+sum_once Means once (sum.Add x n) s t a b = one_bound Means once x s t (λ c. sum.Add c n) (of_add Means x n s a) (of_add Means x n t b)
+sum_once Means once (sum.Sub x n) s t a b = one_bound Means once x s t (λ c. sum.Sub c n) (of_sub Means x n s a) (of_sub Means x n t b)
+sum_once Means once (sum.Whole n) s t a b = of_whole Means n s a ∙ sym (of_whole Means n t b)
+sum_once Means once (sum.Negative n) s t a b = of_negative Means n s a ∙ sym (of_negative Means n t b)
 
-right_once : (items : List (Item NameAt)) (at : ℕ) (r : Right NameAt) (s t : Right Binder) → IsBoundRight items at r s → IsBoundRight items at r t → s ≡ t
-right_once items at (right.Read p) (right.Read q) (right.Read n) a b = ap (λ (k : Place). right.Read k) (sym a ∙ b)
-right_once items at (right.Sum r) (right.Sum s) (right.Sum t) a b = ap (λ (u : Sum Binder). right.Sum u) (sum_once items at r s t a b)
-right_once items at (right.Read p) (right.Sum s) t a b = absurd a
-right_once items at (right.Sum r) (right.Read q) t a b = absurd a
-right_once items at r s t a b = absurd b
+right_once : (Means : NameAt → Binder → Type 0) → MeansOne Means → (r : Right NameAt) (s t : Right Binder) → IsSameRight Means r s → IsSameRight Means r t → s ≡ t
+right_once Means once (right.Read p) (right.Read q) (right.Read n) a b = ap (λ (k : Place). right.Read k) (sym a ∙ b)
+right_once Means once (right.Sum r) (right.Sum s) (right.Sum t) a b = ap (λ (u : Sum Binder). right.Sum u) (sum_once Means once r s t a b)
+right_once Means once (right.Read p) (right.Sum s) t a b = absurd a
+right_once Means once (right.Sum r) (right.Read q) t a b = absurd a
+right_once Means once r s t a b = absurd b
 
 -- the bound forms of what is printed
-of_sum : (items : List (Item NameAt)) (at : ℕ) (s : Sum NameAt) (f : Printed Binder) → IsBoundPrinted items at (printed.Sum s) f → (t : Sum Binder) × (f ≡ printed.Sum t) × IsBoundSum items at s t
-of_sum items at s (printed.Sum t) is = (t, refl, is)
-of_sum items at s f is = absurd is
+of_sum : (Means : NameAt → Binder → Type 0) (s : Sum NameAt) (f : Printed Binder) → IsSamePrinted Means (printed.Sum s) f → (t : Sum Binder) × (f ≡ printed.Sum t) × IsSameSum Means s t
+of_sum Means s (printed.Sum t) is = (t, refl, is)
+of_sum Means s f is = absurd is
 
-of_two_added : (items : List (Item NameAt)) (at m n : ℕ) (f : Printed Binder) → IsBoundPrinted items at (printed.Add m n) f → f ≡ printed.Add m n
-of_two_added items at m n (printed.Add k l) is = ap (λ (a : ℕ). printed.Add a l) (sym is.0) ∙ ap (λ (a : ℕ). printed.Add m a) (sym is.1)
-of_two_added items at m n f is = absurd is
+of_two_added : (Means : NameAt → Binder → Type 0) (m n : ℕ) (f : Printed Binder) → IsSamePrinted Means (printed.Add m n) f → f ≡ printed.Add m n
+of_two_added Means m n (printed.Add k l) is = ap (λ (a : ℕ). printed.Add a l) (sym is.0) ∙ ap (λ (a : ℕ). printed.Add m a) (sym is.1)
+of_two_added Means m n f is = absurd is
 
-of_two_parted : (items : List (Item NameAt)) (at m n : ℕ) (f : Printed Binder) → IsBoundPrinted items at (printed.Sub m n) f → f ≡ printed.Sub m n
-of_two_parted items at m n (printed.Sub k l) is = ap (λ (a : ℕ). printed.Sub a l) (sym is.0) ∙ ap (λ (a : ℕ). printed.Sub m a) (sym is.1)
-of_two_parted items at m n f is = absurd is
+of_two_parted : (Means : NameAt → Binder → Type 0) (m n : ℕ) (f : Printed Binder) → IsSamePrinted Means (printed.Sub m n) f → f ≡ printed.Sub m n
+of_two_parted Means m n (printed.Sub k l) is = ap (λ (a : ℕ). printed.Sub a l) (sym is.0) ∙ ap (λ (a : ℕ). printed.Sub m a) (sym is.1)
+of_two_parted Means m n f is = absurd is
 
-printed_once : (items : List (Item NameAt)) (at : ℕ) (e : Printed NameAt) (s t : Printed Binder) → IsBoundPrinted items at e s → IsBoundPrinted items at e t → s ≡ t
-printed_once items at (printed.Sum r) s t a b =
-    let p = of_sum items at r s a in
-    let q = of_sum items at r t b in
-    p.1 ∙ ap (λ (u : Sum Binder). printed.Sum u) (sum_once items at r p.0 q.0 p.2 q.2) ∙ sym q.1
-printed_once items at (printed.Add m n) s t a b = of_two_added items at m n s a ∙ sym (of_two_added items at m n t b)
-printed_once items at (printed.Sub m n) s t a b = of_two_parted items at m n s a ∙ sym (of_two_parted items at m n t b)
+printed_once : (Means : NameAt → Binder → Type 0) → MeansOne Means → (e : Printed NameAt) (s t : Printed Binder) → IsSamePrinted Means e s → IsSamePrinted Means e t → s ≡ t
+printed_once Means once (printed.Sum r) s t a b =
+    let p = of_sum Means r s a in
+    let q = of_sum Means r t b in
+    p.1 ∙ ap (λ (u : Sum Binder). printed.Sum u) (sum_once Means once r p.0 q.0 p.2 q.2) ∙ sym q.1
+printed_once Means once (printed.Add m n) s t a b = of_two_added Means m n s a ∙ sym (of_two_added Means m n t b)
+printed_once Means once (printed.Sub m n) s t a b = of_two_parted Means m n s a ∙ sym (of_two_parted Means m n t b)
 
-assertion_once : (items : List (Item NameAt)) (at : ℕ) (r : Assertion NameAt) (s t : Assertion Binder) → IsBoundAssertion items at r s → IsBoundAssertion items at r t → s ≡ t
-assertion_once items at r s t a b =
-    let left = sum_once items at r.left s.left t.left a.left b.left in
-    let right = sum_once items at r.right s.right t.right a.right b.right in
+assertion_once : (Means : NameAt → Binder → Type 0) → MeansOne Means → (r : Assertion NameAt) (s t : Assertion Binder) → IsSameAssertion Means r s → IsSameAssertion Means r t → s ≡ t
+assertion_once Means once r s t a b =
+    let left = sum_once Means once r.left s.left t.left a.left b.left in
+    let right = sum_once Means once r.right s.right t.right a.right b.right in
     let place : s.place ≡ t.place = sym a.place ∙ b.place in
     let order : s.order ≡ t.order = sym a.order ∙ b.order in
     let make : Place → Sum Binder → Order → Sum Binder → Assertion Binder = λ p l o r. record { place = p; left = l; order = o; right = r } in
     ap (λ (p : Place). make p s.left s.order s.right) place ∙ ap (λ (l : Sum Binder). make t.place l s.order s.right) left ∙ ap (λ (o : Order). make t.place t.left o s.right) order ∙ ap (make t.place t.left t.order) right
 
 -- the bound forms of each form
-of_definition : (items : List (Item NameAt)) (at : ℕ) (x : NameAt) (r : Right NameAt) (j : ItemNode Binder) → IsBoundNode items at (Define x r) j → (b : Binder) × (s : Right Binder) × (j ≡ Define b s) × (b.0 ≡ at) × IsBoundRight items at r s
+of_definition : (items : List (Item NameAt)) (at : ℕ) (x : NameAt) (r : Right NameAt) (j : ItemNode Binder) → IsBoundNode items at (Define x r) j → (b : Binder) × (s : Right Binder) × (j ≡ Define b s) × (b.0 ≡ at) × IsSameRight (Means items at) r s
 of_definition items at x r (Define b s) is = (b, s, refl, is.0, is.1)
 of_definition items at x r j is = absurd is
 
-of_assertion : (items : List (Item NameAt)) (at : ℕ) (a : Assertion NameAt) (j : ItemNode Binder) → IsBoundNode items at (Assert a) j → (b : Assertion Binder) × (j ≡ Assert b) × IsBoundAssertion items at a b
+of_assertion : (items : List (Item NameAt)) (at : ℕ) (a : Assertion NameAt) (j : ItemNode Binder) → IsBoundNode items at (Assert a) j → (b : Assertion Binder) × (j ≡ Assert b) × IsSameAssertion (Means items at) a b
 of_assertion items at a (Assert b) is = (b, refl, is)
 of_assertion items at a j is = absurd is
 
-of_print : (items : List (Item NameAt)) (at : ℕ) (e : Printed NameAt) (j : ItemNode Binder) → IsBoundNode items at (Print e) j → (f : Printed Binder) × (j ≡ Print f) × IsBoundPrinted items at e f
+of_print : (items : List (Item NameAt)) (at : ℕ) (e : Printed NameAt) (j : ItemNode Binder) → IsBoundNode items at (Print e) j → (f : Printed Binder) × (j ≡ Print f) × IsSamePrinted (Means items at) e f
 of_print items at e (Print f) is = (f, refl, is)
 of_print items at e j is = absurd is
 
@@ -175,16 +164,16 @@ node_once items at (Define x r) s t a b =
     let q = of_definition items at x r t b in
     p.2
     ∙ ap (λ (y : Binder). Define y p.1) (binder_same p.0 q.0 (p.3 ∙ sym q.3))
-    ∙ ap (λ (u : Right Binder). Define q.0 u) (right_once items at r p.1 q.1 p.4 q.4)
+    ∙ ap (λ (u : Right Binder). Define q.0 u) (right_once (Means items at) (means_one items at) r p.1 q.1 p.4 q.4)
     ∙ sym q.2
 node_once items at (Assert r) s t a b =
     let p = of_assertion items at r s a in
     let q = of_assertion items at r t b in
-    p.1 ∙ ap (λ (u : Assertion Binder). Assert u) (assertion_once items at r p.0 q.0 p.2 q.2) ∙ sym q.1
+    p.1 ∙ ap (λ (u : Assertion Binder). Assert u) (assertion_once (Means items at) (means_one items at) r p.0 q.0 p.2 q.2) ∙ sym q.1
 node_once items at (Print e) s t a b =
     let p = of_print items at e s a in
     let q = of_print items at e t b in
-    p.1 ∙ ap (λ (u : Printed Binder). Print u) (printed_once items at e p.0 q.0 p.2 q.2) ∙ sym q.1
+    p.1 ∙ ap (λ (u : Printed Binder). Print u) (printed_once (Means items at) (means_one items at) e p.0 q.0 p.2 q.2) ∙ sym q.1
 
 item_once : (items : List (Item NameAt)) (at : ℕ) (i : Item NameAt) (s t : Item Binder) → IsBound items at i s → IsBound items at i t → s ≡ t
 item_once items at i s t a b =

@@ -31,9 +31,6 @@ abbrev pub then_found : {A B : Type 0} → Found A → (A → Found B) → Found
 then_found (is a) f = f a
 then_found (unbuilt p) f = unbuilt p
 
-abbrev pub place_of_tree : Tree → Place
-place_of_tree (tree i p f) = p
-
 -- a variable
 abbrev pub variable_in : Tree → Found NameAt
 variable_in (tree i p (use_of x)) = if is_primitive x then unbuilt p else is (record { name = record { 0 = x }; place = p })

@@ -2,6 +2,7 @@ pub mod Names
 pub mod Forms
 pub mod Recognising
 pub mod Uses
+pub mod Binding
 pub mod Scope
 pub mod Visible
 pub mod Meaning

@@ -1,24 +1,26 @@
 -- Which definition each use of a name means, and which names have none.
-use Rattle.std.specs.Prelude.{◌≡◌, ◌⊎◌, ℕ, ◌+◌, ◌<◌, ◌==◌, Bool, false, List, [], ◌∷◌, length, take, count_by, slice_get, Some, IsSomeAnd}
+use Rattle.std.specs.Prelude.{◌≡◌, ◌⊎◌, ℕ, ◌+◌, ◌<◌, ◌==◌, Bool, false, List, [], ◌∷◌, length, take, count_by, slice_get, Option, Some, None, unwrap_or, IsSomeAnd}
+use Rattle.std.specs.Option.{option_map}
 use Rattle.lq_name.specs.declared.name.Binder.{Binder}
 use Rattle.lq_straight.specs.declared.item.NameAt.{NameAt}
 use Rattle.lq_straight.specs.declared.item.Sum.{Sum}
-use Rattle.lq_straight.specs.declared.item.Sum.TheVariants as sum
 use Rattle.lq_straight.specs.declared.item.Right.{Right}
-use Rattle.lq_straight.specs.declared.item.Right.TheVariants as right
-use Rattle.lq_straight.specs.declared.item.Assertion.{Assertion}
 use Rattle.lq_straight.specs.declared.item.Printed.{Printed}
-use Rattle.lq_straight.specs.declared.item.Printed.TheVariants as printed
 use Rattle.lq_straight.specs.declared.item.Item.{Item}
 use Rattle.lq_straight.specs.declared.item.ItemNode.{ItemNode}
 use Rattle.lq_straight.specs.declared.item.ItemNode.TheVariants.{Define, Assert, Print}
 use Rattle.lq_straight.specs.Uses.{used}
+use Rattle.lq_straight.specs.Binding.{IsSameSum, IsSameRight, IsSameAssertion, IsSamePrinted}
+
+-- what an item defines
+abbrev pub defined : ItemNode NameAt → Option NameAt
+defined (Define x r) = Some x
+defined (Assert a) = None
+defined (Print e) = None
 
 -- the item defines the name
 abbrev pub IsDefinitionOf : ℕ → ItemNode NameAt → Type 0
-IsDefinitionOf name (Define x r) = x.name.0 ≡ name
-IsDefinitionOf name (Assert a) = ⊥
-IsDefinitionOf name (Print e) = ⊥
+IsDefinitionOf name n = IsSomeAnd (defined n) (λ x. x.name.0 ≡ name)
 
 -- the item with this number defines the name
 abbrev pub Defines : List (Item NameAt) → ℕ → ℕ → Type 0
@@ -30,36 +32,24 @@ pub record IsNearest (items : List (Item NameAt)) (at : ℕ) (name : ℕ) (k : �
   pub defines : Defines items k name
   pub last : (j : ℕ) → k < j → j < at → Defines items j name → ⊥
 
+-- in the item with this number the name means the nearest definition
+abbrev pub Means : List (Item NameAt) → ℕ → NameAt → Binder → Type 0
+Means items at x b = IsNearest items at x.name.0 b.0
+
 -- a sum of the item with this number, and the same one with its use bound
 abbrev pub IsBoundSum : List (Item NameAt) → ℕ → Sum NameAt → Sum Binder → Type 0
-IsBoundSum items at (sum.Use x) (sum.Use b) = IsNearest items at x.name.0 b.0
-IsBoundSum items at (sum.Add x n) (sum.Add b m) = IsNearest items at x.name.0 b.0 × (n ≡ m)
-IsBoundSum items at (sum.Sub x n) (sum.Sub b m) = IsNearest items at x.name.0 b.0 × (n ≡ m)
-IsBoundSum items at (sum.Whole n) (sum.Whole m) = n ≡ m
-IsBoundSum items at (sum.Negative n) (sum.Negative m) = n ≡ m
-IsBoundSum items at s t = ⊥
+IsBoundSum items at = IsSameSum (Means items at)
 
 abbrev pub IsBoundRight : List (Item NameAt) → ℕ → Right NameAt → Right Binder → Type 0
-IsBoundRight items at (right.Read p) (right.Read q) = p ≡ q
-IsBoundRight items at (right.Sum s) (right.Sum t) = IsBoundSum items at s t
-IsBoundRight items at r s = ⊥
-
-pub record IsBoundAssertion (items : List (Item NameAt)) (at : ℕ) (a : Assertion NameAt) (b : Assertion Binder) : Type 0 where
-  pub place : a.place ≡ b.place
-  pub left : IsBoundSum items at a.left b.left
-  pub order : a.order ≡ b.order
-  pub right : IsBoundSum items at a.right b.right
+IsBoundRight items at = IsSameRight (Means items at)
 
 abbrev pub IsBoundPrinted : List (Item NameAt) → ℕ → Printed NameAt → Printed Binder → Type 0
-IsBoundPrinted items at (printed.Sum s) (printed.Sum t) = IsBoundSum items at s t
-IsBoundPrinted items at (printed.Add m n) (printed.Add k l) = (m ≡ k) × (n ≡ l)
-IsBoundPrinted items at (printed.Sub m n) (printed.Sub k l) = (m ≡ k) × (n ≡ l)
-IsBoundPrinted items at e f = ⊥
+IsBoundPrinted items at = IsSamePrinted (Means items at)
 
 -- The form of the item with this number, and the same one with its uses bound. A definition binds the number of its item.
 abbrev pub IsBoundNode : List (Item NameAt) → ℕ → ItemNode NameAt → ItemNode Binder → Type 0
 IsBoundNode items at (Define x r) (Define b s) = (b.0 ≡ at) × IsBoundRight items at r s
-IsBoundNode items at (Assert a) (Assert b) = IsBoundAssertion items at a b
+IsBoundNode items at (Assert a) (Assert b) = IsSameAssertion (Means items at) a b
 IsBoundNode items at (Print e) (Print f) = IsBoundPrinted items at e f
 IsBoundNode items at i j = ⊥
 
@@ -95,22 +85,18 @@ pub record IsFirstUnknown (items : List (Item NameAt)) (x : NameAt) : Type 0 whe
   pub earlier : (k : ℕ) (i : Item NameAt) → k < at → slice_get items k ≡ Some i → EachName (IsKnown items k) (used i)
 
 -- whether the item defines the name
-abbrev pub is_definition_node : ℕ → ItemNode NameAt → Bool
-is_definition_node name (Define x r) = x.name.0 == name
-is_definition_node name (Assert a) = false
-is_definition_node name (Print e) = false
-
 abbrev pub is_definition_of : ℕ → Item NameAt → Bool
-is_definition_of name i = is_definition_node name i.node
+is_definition_of name i = unwrap_or (option_map (λ x. x.name.0 == name) (defined i.node)) false
 
 -- which of the definitions of the name the item with this number is, counted from 1
 abbrev pub ordinal : List (Item NameAt) → ℕ → ℕ → ℕ
 ordinal items k name = count_by (is_definition_of name) (take (k + 1) items)
 
--- the ordinals of the definitions by their numbers
+-- the ordinals of the definitions by their numbers, and 0 for the other items
 pub record AreOrdinals (items : List (Item NameAt)) (numbers : List ℕ) : Type 0 where
   pub count : length numbers ≡ length items
   pub each : (k : ℕ) (i : Item NameAt) (x : NameAt) (r : Right NameAt) → slice_get items k ≡ Some i → i.node ≡ Define x r → slice_get numbers k ≡ Some (ordinal items k x.name.0)
+  pub other : (k : ℕ) (i : Item NameAt) → slice_get items k ≡ Some i → defined i.node ≡ None → slice_get numbers k ≡ Some 0
 
 -- The uses of a program are bound in at most one way.
 abbrev pub IsOneScope : Type 0

@@ -57,7 +57,7 @@ IsSmallNode (Print e) = Unit {0}
 abbrev pub IsSmallItem : {V : Type 0} → Item V → Type 0
 IsSmallItem i = IsSmallNode i.node
 
--- the literals of the items are below 2 ^ 127
+-- the literals of definitions and assertions are below 2 ^ 127; nothing is said of printed literals
 abbrev pub AreSmall : {V : Type 0} → List (Item V) → Type 0
 AreSmall [] = Unit {0}
 AreSmall (i ∷ items) = IsSmallItem i × AreSmall items

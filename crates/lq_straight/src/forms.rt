@@ -25,6 +25,7 @@ pub enum FormError {
     /// The first node, in preorder, or the first token of the first item, whose form isn't judged yet.
     #[error("a form that isn't built yet")]
     Unbuilt(Place),
+    /// Memory ran out.
     #[error("out of memory")]
     Memory,
 }

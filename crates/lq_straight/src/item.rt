@@ -3,17 +3,24 @@ use lq_name::{Name, Place};
 /// A name where it stands in a program.
 #[derive(Clone, Copy, Debug, PartialEq, Eq)]
 pub struct NameAt {
+    /// Its number in the name table.
     pub name: Name,
+    /// Where it stands.
     pub place: Place,
 }
 
 /// A literal, a variable, or a variable with a literal added or taken away.
 #[derive(Clone, Copy)]
 pub enum Sum<V> {
+    /// A variable alone.
     Use(V),
+    /// A variable with a literal added.
     Add(V, u128),
+    /// A variable with a literal taken away.
     Sub(V, u128),
+    /// A literal that isn't below 0.
     Whole(u128),
+    /// A literal below 0, without its sign.
     Negative(u128),
 }
 
@@ -22,15 +29,20 @@ pub enum Sum<V> {
 pub enum Right<V> {
     /// `read_int ()`, with its place.
     Read(Place),
+    /// A sum.
     Sum(Sum<V>),
 }
 
 /// How the sides of an assertion are to stand.
 #[derive(Clone, Copy)]
 pub enum Order {
+    /// `left < right`.
     Less,
+    /// `left <= right`.
     AtMost,
+    /// `left > right`.
     Greater,
+    /// `left >= right`.
     AtLeast,
 }
 
@@ -39,24 +51,31 @@ pub enum Order {
 pub struct Assertion<V> {
     /// The place of `assert`.
     pub place: Place,
+    /// The side left of the comparison.
     pub left: Sum<V>,
+    /// How the sides are to stand.
     pub order: Order,
+    /// The side right of the comparison.
     pub right: Sum<V>,
 }
 
 /// What is printed: a sum, or two literals of which one is added to the other or taken away.
 #[derive(Clone, Copy)]
 pub enum Printed<V> {
+    /// A sum.
     Sum(Sum<V>),
+    /// The second literal added to the first.
     Add(u128, u128),
+    /// The second literal taken away from the first.
     Sub(u128, u128),
 }
 
-/// An item of a straight-line program, with the place of its first token and its variables as `V`: names once it is read, and
-/// binders once it is bound.
+/// An item of a straight-line program, with its variables as `V`: names once it is read, and binders once it is bound.
 #[derive(Clone, Copy)]
 pub struct Item<V> {
+    /// The place of its first token.
     pub place: Place,
+    /// Its form.
     pub node: ItemNode<V>,
 }
 
@@ -65,6 +84,7 @@ pub struct Item<V> {
 pub enum ItemNode<V> {
     /// `let binder = right`.
     Define(V, Right<V>),
+    /// An assertion.
     Assert(Assertion<V>),
     /// `let () = print_int printed`.
     Print(Printed<V>),

@@ -1,11 +1,12 @@
 // What each name means.
-ghost use Rattle.std.specs.Prelude.{◌≡◌, ℕ, ◌<◌, ◌^◌, [], ◌∷◌, length, None, Err, IfOk};
+ghost use Rattle.std.specs.Prelude.{◌≡◌, ◌<◌, ◌^◌, [], ◌∷◌, length, None, Err, IfOk};
 ghost use Rattle.lq_straight.specs.declared.item.NameAt.{NameAt};
 ghost use Rattle.lq_straight.specs.declared.item.ItemNode.TheVariants.{Assert};
 ghost use Rattle.lq_straight.specs.declared.scope.ScopeError.TheVariants.{Memory};
 ghost use Rattle.lq_straight.specs.Uses.{AreSmall, used_by_sum, used_by_right, used_by_printed, used_by_node, used};
 ghost use Rattle.lq_straight.specs.Scope.{Resolves, IsFirstUnknown, IsFirstNot};
-ghost use Rattle.lq_straight.specs.Visible.{seen, IsFoundSum, IsFoundRight, IsFoundPrinted, IsFoundAssertion, IsFoundNode, IsFoundItem, IsKept};
+ghost use Rattle.lq_straight.specs.Binding.{IsSameSum, IsSameRight, IsSamePrinted, IsSameAssertion};
+ghost use Rattle.lq_straight.specs.Visible.{seen, Keeps, IsFoundNode, IsFoundItem, IsKept};
 
 use crate::item::{Assertion, Item, ItemNode, NameAt, Printed, Right, Sum};
 use crate::visible::Visible;
@@ -19,6 +20,7 @@ pub enum ScopeError {
     /// The first name with no definition before its use.
     #[error("a name has no definition")]
     Unknown(NameAt),
+    /// Memory ran out.
     #[error("out of memory")]
     Memory,
 }
@@ -52,7 +54,7 @@ fn bind_use(visible: &Visible, name: NameAt) -> Result<Binder, ScopeError>
 
 // The sum with its use bound.
 fn bind_sum(visible: &Visible, sum: Sum<NameAt>) -> Result<Sum<Binder>, ScopeError>
-    ensures found { IfOk result (λ s. IsFoundSum (seen visible.now.kept.items) sum s) }
+    ensures found { IfOk result (λ s. IsSameSum (Keeps (seen visible.now.kept.items)) sum s) }
     ensures unknown { (x : NameAt) → result ≡ Err (ScopeError.Unknown x) → (used_by_sum sum ≡ x ∷ []) × (seen visible.now.kept.items x.name.0 ≡ None) }
 {
     Ok(match sum {
@@ -66,7 +68,7 @@ fn bind_sum(visible: &Visible, sum: Sum<NameAt>) -> Result<Sum<Binder>, ScopeErr
 
 // The right side of a definition with its use bound.
 fn bind_right(visible: &Visible, right: Right<NameAt>) -> Result<Right<Binder>, ScopeError>
-    ensures found { IfOk result (λ r. IsFoundRight (seen visible.now.kept.items) right r) }
+    ensures found { IfOk result (λ r. IsSameRight (Keeps (seen visible.now.kept.items)) right r) }
     ensures unknown { (x : NameAt) → result ≡ Err (ScopeError.Unknown x) → (used_by_right right ≡ x ∷ []) × (seen visible.now.kept.items x.name.0 ≡ None) }
 {
     Ok(match right {
@@ -77,7 +79,7 @@ fn bind_right(visible: &Visible, right: Right<NameAt>) -> Result<Right<Binder>, 
 
 // What is printed with its use bound.
 fn bind_printed(visible: &Visible, printed: Printed<NameAt>) -> Result<Printed<Binder>, ScopeError>
-    ensures found { IfOk result (λ e. IsFoundPrinted (seen visible.now.kept.items) printed e) }
+    ensures found { IfOk result (λ e. IsSamePrinted (Keeps (seen visible.now.kept.items)) printed e) }
     ensures unknown { (x : NameAt) → result ≡ Err (ScopeError.Unknown x) → (used_by_printed printed ≡ x ∷ []) × (seen visible.now.kept.items x.name.0 ≡ None) }
 {
     Ok(match printed {
@@ -92,7 +94,7 @@ fn bind_assertion(
     visible: &Visible,
     assertion: Assertion<NameAt>,
 ) -> Result<Assertion<Binder>, ScopeError>
-    ensures found { IfOk result (λ a. IsFoundAssertion (seen visible.now.kept.items) assertion a) }
+    ensures found { IfOk result (λ a. IsSameAssertion (Keeps (seen visible.now.kept.items)) assertion a) }
     ensures unknown { (x : NameAt) → result ≡ Err (ScopeError.Unknown x)
         → IsFirstNot (IsKept (seen visible.now.kept.items)) (used_by_node (Assert assertion)) x }
 {

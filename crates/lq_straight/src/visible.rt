@@ -1,5 +1,5 @@
 // The definitions that are visible.
-ghost use Rattle.std.specs.Prelude.{◌≡◌, ℕ, ◌+◌, ◌-◌, ◌<◌, ◌==◌, ◌^◌, ◌++◌, length, replicate, Some, None, IfOk, OnOk, OnErr, if◌then◌else◌};
+ghost use Rattle.std.specs.Prelude.{◌≡◌, ℕ, ◌+◌, ◌-◌, ◌<◌, ◌==◌, ◌^◌, ◌++◌, length, replicate, Some, None, OnOk, OnErr, if◌then◌else◌};
 ghost use Rattle.lq_straight.specs.Visible.{seen};
 
 use lq_name::{Binder, Name};

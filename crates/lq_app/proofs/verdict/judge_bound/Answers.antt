@@ -13,7 +13,7 @@ returns-in-Valid c = λ text bound.
     let same = c.in_ok-lines.ensures.demands in
     let valid = subst (λ (l : List Implication). All IsValid l) same (c.in_ok-ask.ensures.valid is) in (
       record {
-        of = record { program = bound.program; items = c.args.items.now; scoped = c.args.scoped.now; recognised = bound.recognised; resolves = bound.resolves };
+        of = record { names = c.args.table.now; items = c.args.items.now; scoped = c.args.scoped.now; bound = bound };
         gathered = subst (λ (l : List Implication). All CanBeGathered l) same (c.in_ok-ask.ensures.gathered is);
         valid = valid;
         safe = c.valid_programs_are_safe.ensures c.args.items.now c.args.scoped.now bound.resolves valid;

@@ -15,7 +15,7 @@ pub returns : goal.returns
 returns c = λ text names items bound.
     let at = c.in_ok-place.ensures in
     inr (record {
-      of = record { program = bound.program; items = items; scoped = c.args.scoped.now; recognised = bound.recognised; resolves = bound.resolves };
+      of = record { names = names; items = items; scoped = c.args.scoped.now; bound = bound };
       number = c.args.number;
       first = c.requires.first;
       past = c.args.past.now;

@@ -2,7 +2,6 @@ use Rattle.std.specs.Prelude.{codes}
 use Rattle.std.proofs.Common.{◌++◌, [], ℕ, List, sym, ap, subst, ◌∙◌, arith}
 use Rattle.lq_name.specs.declared.place.Place.{Place}
 use Rattle.lq_pred.specs.Sum.{Sum as Term}
-use Rattle.lq_pred.specs.Implication.{terms_in}
 use Rattle.lq_point.specs.Values.{as_point}
 use Rattle.lq_app.specs.Judgement.{head_lines, ShowsPoint}
 use Rattle.lq_app.proofs.Asserted.{below}
@@ -18,17 +17,16 @@ rejected_report-requires-clause-number c =
 pub returns : goal.returns
 returns c = λ text bound.
     let report = c.in_ok-report.ensures in
-    let at = c.in_ok-place.ensures in
-    let shown = subst (λ (l : List Term). ShowsPoint c.args.table.now c.args.items.now (as_point c.args.point.now) l report.0) c.requires.fails.terms report.2 in (
+    let at = c.in_ok-place.ensures in (
       record {
-        of = record { program = bound.program; items = c.args.items.now; scoped = c.args.scoped.now; recognised = bound.recognised; resolves = bound.resolves };
+        of = record { names = c.args.table.now; items = c.args.items.now; scoped = c.args.scoped.now; bound = bound };
         number = c.args.number;
         point = as_point c.args.point.now;
         first = c.requires.fails.first;
         assertion = at.0;
         asserted = at.1;
         lines = report.0;
-        shows = subst (λ (names : List (List ℕ)). ShowsPoint names c.args.items.now (as_point c.args.point.now) (terms_in c.requires.fails.first.failing) report.0) (sym bound.named) shown;
+        shows = subst (λ (l : List Term). ShowsPoint c.args.table.now c.args.items.now (as_point c.args.point.now) l report.0) c.requires.fails.terms report.2;
         written = report.1 ∙ ap (λ (p : Place). head_lines (codes "rejected\n") c.args.number p ++ report.0) (sym at.2);
       },
       c.from_bytes-explained.ensures ∙ c.new.ensures.items,

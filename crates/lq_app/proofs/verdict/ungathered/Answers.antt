@@ -18,13 +18,12 @@ pub returns : goal.returns
 returns c = λ text bound.
     let at = c.in_ok-place.ensures in
     inl (record {
-      of = record { program = bound.program; items = c.args.items.now; scoped = c.args.scoped.now; recognised = bound.recognised; resolves = bound.resolves };
+      of = record { names = c.args.table.now; items = c.args.items.now; scoped = c.args.scoped.now; bound = bound };
       number = c.args.number;
       formula = formula_of c.args.pred.now;
       first = c.requires.first;
       assertion = at.0;
       asserted = at.1;
       written = c.in_ok-report.ensures
-          ∙ ap (λ (p : Place). head_lines (codes "undecided\n") c.args.number p ++ codes "number past in " ++ formula_text c.args.table.now c.args.items.now (formula_of c.args.pred.now) ++ codes "\n") (sym at.2)
-          ∙ ap (λ (names : List (List ℕ)). head_lines (codes "undecided\n") c.args.number at.0.place ++ codes "number past in " ++ formula_text names c.args.items.now (formula_of c.args.pred.now) ++ codes "\n") (sym bound.named);
+          ∙ ap (λ (p : Place). head_lines (codes "undecided\n") c.args.number p ++ codes "number past in " ++ formula_text c.args.table.now c.args.items.now (formula_of c.args.pred.now) ++ codes "\n") (sym at.2);
     })
