@@ -1,4 +1,4 @@
-use Rattle.std.proofs.Common.{ℕ, List, Err, inr, refl, sym, ap, subst, ◌∙◌}
+use Rattle.std.proofs.Common.{ℕ, List, Err, inr, sym, ap, subst, ◌∙◌}
 use Rattle.lq_name.specs.declared.name.Binder.{Binder}
 use Rattle.lq_straight.specs.Scope.{Resolves, IsFirstUnknown}
 use Rattle.lq_straight.specs.declared.item.Item.{Item}

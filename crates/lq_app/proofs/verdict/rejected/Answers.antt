@@ -1,5 +1,5 @@
 use Rattle.std.specs.Prelude.{codes}
-use Rattle.std.proofs.Common.{◌++◌, [], ℕ, List, sym, ap, subst, ◌∙◌, arith}
+use Rattle.std.proofs.Common.{◌++◌, [], List, sym, ap, subst, ◌∙◌, arith}
 use Rattle.lq_name.specs.declared.place.Place.{Place}
 use Rattle.lq_pred.specs.Sum.{Sum as Term}
 use Rattle.lq_point.specs.Values.{as_point}

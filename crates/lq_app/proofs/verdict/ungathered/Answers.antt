@@ -1,5 +1,5 @@
 use Rattle.std.specs.Prelude.{codes}
-use Rattle.std.proofs.Common.{◌++◌, inl, [], ℕ, List, sym, ap, ◌∙◌, arith}
+use Rattle.std.proofs.Common.{◌++◌, inl, [], sym, ap, ◌∙◌, arith}
 use Rattle.lq_name.specs.declared.place.Place.{Place}
 use Rattle.lq_pred.specs.PredView.{formula_of}
 use Rattle.lq_app.specs.Texts.{formula_text}
