@@ -1,4 +1,5 @@
 // Laws of the definitions. Nothing is run.
+ghost use Rattle.lq_sound.specs.SameTree.{AreTheTextsTrees};
 ghost use Rattle.lq_straight.specs.Demands.{ValidIsSafe};
 
 use lq_model::{closing, closing_items};
@@ -13,3 +14,11 @@ pub fn valid_programs_are_safe()
     closing();
     closing_items();
 }
+
+/// The trees by whose meaning a program is safe are those of its text, item by item: each use carries the number of the
+/// nearest item before it that defines its name, `read_int ()` and `print_int` stand as reading and printing in place of
+/// their calls, and all else is the same. Places are the text's where something can fault or end the input, at an
+/// assertion and at a read; nothing is said of other places.
+pub fn bound_trees_are_the_texts()
+    ensures { AreTheTextsTrees }
+{}
