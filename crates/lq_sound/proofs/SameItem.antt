@@ -171,7 +171,7 @@ module _ (items : List (Item NameAt)) (at : ℕ) (Name : ℕ → ℕ → Type 0)
       → IsForm (action o (tree i p (assert (tree j r (compare (op_of order) a b))))) (Assert (record { place = p; left = s; order = order; right = t }))
   compared_same o i j p r order a b s t left right (Assert c) q same =
       let Is : Place → Order → Type 0 = λ u v. IsSameForm Name at (action o (tree i p (assert (tree j r (compare (op_of order) a b)))))
-          (action q (node u (assert (node q (compare (op_of v) (sum_tree q c.left) (sum_tree q c.right)))))) in
+      (action q (node u (assert (node q (compare (op_of v) (sum_tree q c.left) (sum_tree q c.right)))))) in
       subst (λ (u : Place). Is u c.order) same.place (subst (λ (v : Order). Is p v) same.order
       (same_action o q (tree i p (assert (tree j r (compare (op_of order) a b)))) (node p (assert (node q (compare (op_of order) (sum_tree q c.left) (sum_tree q c.right)))))
       (same_assertion i 0 p (tree j r (compare (op_of order) a b)) (node q (compare (op_of order) (sum_tree q c.left) (sum_tree q c.right)))

@@ -153,5 +153,5 @@ texts_trees trees items scoped found resolves =
           let also = slice_get-get_or items at filler (omega (arith, count, lt)) in
           let i = get_or items at filler in
           subst (λ (u : ItemTree). IsSameForm (IsNearestLet trees at) at t.form u.form) of.2
-          (bound_same trees items are at t i of.0 (item_of trees items are at t i here also) (resolves.each at i of.0 also of.1).node)
+          (bound_same trees items are at t i of.0 (item_of trees items are at t i here also) (resolves.each at i of.0 also of.1).node);
     }
