@@ -1,5 +1,5 @@
 -- The judgement on a text.
-use Rattle.std.specs.Prelude.{◌≡◌, ◌⊎◌, ℕ, ℤ, ◌+◌, ◌<◌, ◌^◌, List, [], ◌∷◌, ◌++◌, All, Some, slice_get, Result, Ok, Err, codes, decimal}
+use Rattle.std.specs.Prelude.{◌≡◌, ◌⊎◌, ℕ, ℤ, ◌+◌, ◌<◌, ◌^◌, List, [], ◌∷◌, ◌++◌, map, All, Some, slice_get, Result, Ok, Err, codes, decimal}
 use Rattle.lq_math.specs.LowestTerms.{IsLowest}
 use Rattle.lq_lex.specs.declared.error.LexError.TheVariants.{BadByte, OpenComment, LiteralPast}
 use Rattle.lq_parse.specs.declared.error.ParseError.TheVariants.{Syntax, TooDeep}
@@ -17,8 +17,9 @@ use Rattle.lq_straight.specs.declared.item.Assertion.{Assertion}
 use Rattle.lq_straight.specs.declared.item.Item.{Item}
 use Rattle.lq_straight.specs.Forms.{is, unbuilt, items_in}
 use Rattle.lq_straight.specs.Scope.{Resolves, IsFirstUnknown}
-use Rattle.lq_straight.specs.Meaning.{IsSafe}
+use Rattle.lq_straight.specs.Meaning.{item_tree, IsSafe}
 use Rattle.lq_straight.specs.Demands.{implications_of, assertions_of}
+use Rattle.lq_sound.specs.SameTree.{AreSameItems}
 use Rattle.lq_app.specs.declared.verdict.Judgement.{Judgement}
 use Rattle.lq_app.specs.declared.verdict.Judgement.TheVariants.{Accepted, Rejected, Undecided}
 use Rattle.lq_app.specs.declared.verdict.Refusal.{Refusal}
@@ -49,11 +50,13 @@ pub record Bound (text : List ℕ) : Type 0 where
 abbrev pub demands : {text : List ℕ} → Bound text → List Implication
 demands p = implications_of p.scoped
 
--- The text is a program whose names are all defined before they are used. Its demands are valid, and it is safe.
+-- The text is a program whose names are all defined before they are used. Its demands are valid, and it is safe: by the meaning of its own
+-- trees, with each use bound and each primitive in the place of its call.
 pub record IsAccepted (text : List ℕ) : Type 0 where
   pub of : Bound text
   pub gathered : All CanBeGathered (demands of)
   pub valid : All IsValid (demands of)
+  pub same : AreSameItems of.bound.read.program.trees (map item_tree of.scoped)
   pub safe : IsSafe of.scoped
 
 -- the first line and the line on a demand, counted from 0, whose assertion stands at this place

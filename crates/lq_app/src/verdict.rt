@@ -30,7 +30,7 @@ use lq_num::NumberPast;
 use lq_parse::{ParseError, parse_program};
 use lq_point::Point;
 use lq_pred::{Pred, Stop};
-use lq_sound::valid_programs_are_safe;
+use lq_sound::{bound_trees_are_the_texts, valid_programs_are_safe};
 use lq_straight::{
     Assertion, FormError, Item, ItemNode, NameAt, ScopeError, name_table, ordinals, recognise,
     resolve,
@@ -308,6 +308,7 @@ fn judge_bound(
     ensures { (text : List ℕ) → IsBoundAs text table.now items.now scoped.now → IfOk result (λ j. IsJudgement text (Ok j)) }
 {
     valid_programs_are_safe();
+    bound_trees_are_the_texts();
     let lines = lines_of(alloc, scoped)?;
     match ask(alloc, &lines)? {
         Asked::Valid => Ok(Judgement::Accepted(TextBuf::from_bytes(Vec::new(alloc)))),

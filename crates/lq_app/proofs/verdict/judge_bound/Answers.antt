@@ -16,6 +16,7 @@ returns-in-Valid c = λ text bound.
         of = record { names = c.args.table.now; items = c.args.items.now; scoped = c.args.scoped.now; bound = bound };
         gathered = subst (λ (l : List Implication). All CanBeGathered l) same (c.in_ok-ask.ensures.gathered is);
         valid = valid;
+        same = c.bound_trees_are_the_texts.ensures bound.read.program.trees c.args.items.now c.args.scoped.now bound.read.recognised bound.resolves;
         safe = c.valid_programs_are_safe.ensures c.args.items.now c.args.scoped.now bound.resolves valid;
       },
       c.from_bytes.ensures ∙ c.new.ensures.items,
