@@ -1,3 +1,4 @@
+// The fakes and the adapters, each once at a concrete type.
 use crate::{
     CalmFolder, CalmSink, FetchError, Folder, MemFolder, MemSink, RealFolder, RealSink, Sink,
     SinkFailed,
@@ -63,6 +64,7 @@ fn folders_in_memory(rt: HostRuntime) -> Result<(), Fail> {
     assert_eq!(rt; folder.files().len(), 1);
     assert_eq!(rt; calm.files().len(), 1);
     assert_eq!(rt; folder.failing(), [1, 3].as_slice());
+    assert_eq!(rt; folder.calls(), 6);
     Ok(())
 }
 
@@ -76,6 +78,9 @@ fn sinks_in_memory(rt: HostRuntime) -> Result<(), Fail> {
     assert_eq!(rt; sink.write(b""), Ok(0));
     assert_eq!(rt; sink.bytes(), b"abc".as_slice());
     assert_eq!(rt; sink.most(), 2);
+    assert_eq!(rt; sink.failing(), [1].as_slice());
+    assert_eq!(rt; sink.calls(), 4);
+    assert_eq!(rt; sink.lacking(), 0);
     assert_eq!(rt; CalmSink.write(b"abc"), Ok(3));
     Ok(())
 }
