@@ -18,6 +18,3 @@ pub use run::run_words;
 pub use status::Status;
 pub use verdict::{Judgement, Refusal, judge};
 pub use words::Words;
-
-#[cfg(test)]
-mod tests;

@@ -15,6 +15,3 @@ pub use laws::one_scope;
 pub use names::name_table;
 pub use ordinal::ordinals;
 pub use scope::{ScopeError, resolve};
-
-#[cfg(test)]
-mod tests;

@@ -1,0 +1,81 @@
+// Refusals by their codes, and the lines that report them.
+ghost use Rattle.std.specs.Prelude.{◌≡◌, true};
+ghost use Rattle.lq_report.specs.Refusals.{HasName};
+
+use crate::notation::quoted;
+use lq_name::{NameText, Place, TextKind};
+use lq_report::{Refused, refusal_text};
+use std::alloc::{AllocError, Global};
+
+fn kind_of(word: &str) -> Option<TextKind> {
+    match word {
+        "program" => Some(TextKind::Program),
+        "measures" => Some(TextKind::Measures),
+        "quals" => Some(TextKind::Quals),
+        _ => None,
+    }
+}
+
+fn place_of(kind: TextKind, line: u64, column: u64) -> Option<Place> {
+    Some(Place {
+        text: kind,
+        line: u32::try_from(line).ok()?,
+        column: u32::try_from(column).ok()?,
+    })
+}
+
+/// The refusal of this form, whose text is told by a word, and whose name stands in quotes.
+pub(crate) fn refused_of(
+    form: &str,
+    kind: &str,
+    numbers: &[u64],
+    name: NameText,
+) -> Option<Refused> {
+    match (form, kind_of(kind), numbers) {
+        ("at", Some(kind), [code, line, column]) => Some(Refused::At(
+            u8::try_from(*code).ok()?,
+            place_of(kind, *line, *column)?,
+        )),
+        ("named", Some(kind), [code, line, column]) => Some(Refused::Named(
+            u8::try_from(*code).ok()?,
+            place_of(kind, *line, *column)?,
+            name,
+        )),
+        ("wanted", Some(kind), [code, line, column, wanted, found]) => Some(Refused::Wanted(
+            u8::try_from(*code).ok()?,
+            place_of(kind, *line, *column)?,
+            u32::try_from(*wanted).ok()?,
+            u32::try_from(*found).ok()?,
+        )),
+        ("nodes", Some(kind), [code, line, column, nodes]) => Some(Refused::Nodes(
+            u8::try_from(*code).ok()?,
+            place_of(kind, *line, *column)?,
+            *nodes,
+        )),
+        ("counted", None, [code, count]) => {
+            Some(Refused::Counted(u8::try_from(*code).ok()?, *count))
+        }
+        _ => None,
+    }
+}
+
+fn has_name(refused: &Refused) -> bool
+    ensures { result ≡ true → HasName refused.now }
+{
+    let code = match refused {
+        Refused::At(code, _)
+        | Refused::Named(code, _, _)
+        | Refused::Wanted(code, _, _, _)
+        | Refused::Nodes(code, _, _)
+        | Refused::Counted(code, _) => *code,
+    };
+    0 < code && code < 18
+}
+
+/// The line on the refusal.
+pub(crate) fn refused_text(alloc: Global, refused: &Refused) -> Result<String, AllocError> {
+    if !has_name(refused) {
+        return String::from_str(alloc, "no code");
+    }
+    quoted(alloc, refusal_text(alloc, refused)?.as_bytes())
+}

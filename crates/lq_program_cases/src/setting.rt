@@ -1,0 +1,63 @@
+// What a run is made with.
+use crate::notation::quoted;
+use lq_app::{Words, run_words};
+use lq_io::{MemFolder, MemSink};
+use std::alloc::{AllocError, Global};
+use std::collections::BTreeMap;
+
+/// What a run is made with: by default `lq check p.ml` over an empty folder, and a sink that takes seven bytes at a call.
+#[derive(Drop)]
+pub(crate) struct Setting {
+    pub(crate) words: Option<Vec<String>>,
+    pub(crate) files: BTreeMap<String, Vec<u8>>,
+    pub(crate) failing_fetches: Vec<u64>,
+    pub(crate) most: usize,
+    pub(crate) failing_writes: Vec<u64>,
+}
+
+fn command(alloc: Global, list: Option<Vec<String>>) -> Result<Words, AllocError> {
+    let mut words = Words::new(alloc)?;
+    match list {
+        Some(list) => {
+            for word in list.iter() {
+                words.push(word.as_str())?;
+            }
+        }
+        None => {
+            for word in ["lq", "check", "p.ml"] {
+                words.push(word)?;
+            }
+        }
+    }
+    Ok(words)
+}
+
+impl Setting {
+    /// The default.
+    pub(crate) fn new(alloc: Global) -> Setting {
+        Setting {
+            words: None,
+            files: BTreeMap::new(alloc),
+            failing_fetches: Vec::new(alloc),
+            most: 7,
+            failing_writes: Vec::new(alloc),
+        }
+    }
+
+    /// Puts a file into the folder.
+    pub(crate) fn add_file(&mut self, name: String, text: Vec<u8>) -> Result<(), AllocError> {
+        self.files.insert(name, text)?;
+        Ok(())
+    }
+
+    /// The number of the status with which the run ends, and the bytes that the sink took.
+    pub(crate) fn run(self, alloc: Global) -> Result<String, AllocError> {
+        let words = command(alloc, self.words)?;
+        let mut folder = MemFolder::new(self.files, self.failing_fetches);
+        let mut out = MemSink::new(Vec::new(alloc), self.most.max(1), self.failing_writes);
+        let status = run_words(alloc, &words, &mut folder, &mut out);
+        let taken = quoted(alloc, out.bytes())?;
+        let number = status.number();
+        format!(in alloc; "{number} {taken}")
+    }
+}
