@@ -107,7 +107,8 @@ fn arith_sum(
     right: &Expr<Name>,
     place: Place,
 ) -> Result<Sum<NameAt>, Place>
-    ensures sum { Answers result (sum_in (tree 0 place (arithmetic op (parsed_view left.now) (parsed_view right.now)))) }
+    ensures sum { Answers result (sum_in (tree 0 place (arithmetic op (parsed_view left.now)
+        (parsed_view right.now)))) }
     ensures small { IfOk result (λ s. IsSmallSum s) }
 {
     match op {
@@ -218,7 +219,8 @@ fn printed_arith(
     right: &Expr<Name>,
     place: Place,
 ) -> Result<Printed<NameAt>, Place>
-    ensures { Answers result (printed_in (tree 0 place (arithmetic op (parsed_view left.now) (parsed_view right.now)))) }
+    ensures { Answers result (printed_in (tree 0 place (arithmetic op (parsed_view left.now)
+        (parsed_view right.now)))) }
 {
     match literal_in(left) {
         Ok(m) => match op {
@@ -256,7 +258,8 @@ fn done_in(tree: &Expr<Name>) -> Result<ItemNode<NameAt>, Place>
 
 // The definition of a name by the item at this place.
 fn defined_in(place: Place, name: NameAt, tree: &Expr<Name>) -> Result<ItemNode<NameAt>, Place>
-    ensures node { Answers result (node_in place (let_of (pattern name.place (bind name.name.0)) (parsed_view tree.now))) }
+    ensures node { Answers result (node_in place (let_of (pattern name.place (bind name.name.0))
+        (parsed_view tree.now))) }
     ensures small { IfOk result (λ n. IsSmallNode n) }
 {
     if is_primitive(name.name) {
@@ -267,7 +270,8 @@ fn defined_in(place: Place, name: NameAt, tree: &Expr<Name>) -> Result<ItemNode<
 
 // What the item at this place does with the value of the tree.
 fn bound_in(place: Place, pattern: &Pat<Name>, tree: &Expr<Name>) -> Result<ItemNode<NameAt>, Place>
-    ensures node { Answers result (node_in place (let_of (pat_view Name (λ n. n.0) pattern.now) (parsed_view tree.now))) }
+    ensures node { Answers result (node_in place (let_of (pat_view Name (λ n. n.0) pattern.now)
+        (parsed_view tree.now))) }
     ensures small { IfOk result (λ n. IsSmallNode n) }
 {
     match &pattern.node {
@@ -306,7 +310,8 @@ fn item_in(item: &ItemTree<Name>) -> Result<Item<NameAt>, Place>
 pub fn recognise(alloc: Global, program: &Program) -> Result<Vec<Item<NameAt>>, FormError>
     ensures ok { IfOk result (λ items. items_in (program_view program.now) ≡ is items.items) }
     ensures small { IfOk result (λ items. AreSmall items.items) }
-    ensures unbuilt { (p : Place) → result ≡ Err (Unbuilt p) → items_in (program_view program.now) ≡ unbuilt p }
+    ensures unbuilt { (p : Place) → result ≡ Err (Unbuilt p)
+        → items_in (program_view program.now) ≡ unbuilt p }
 {
     let mut items = Vec::new(alloc);
     for tree in program.items() {

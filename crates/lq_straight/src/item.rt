@@ -1,3 +1,4 @@
+// The items of straight-line programs.
 use lq_name::{Name, Place};
 
 /// A name where it stands in a program.

@@ -11,7 +11,7 @@ mod visible;
 
 pub use forms::{FormError, recognise};
 pub use item::{Assertion, Item, ItemNode, NameAt, Order, Printed, Right, Sum};
-pub use laws::one_scope;
+pub use laws::{one_scope, primitives_have_their_names};
 pub use names::name_table;
 pub use ordinal::ordinals;
 pub use scope::{ScopeError, resolve};

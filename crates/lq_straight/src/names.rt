@@ -1,3 +1,4 @@
+// The names of the primitives, and the table with which a program is read.
 ghost use Rattle.std.specs.Prelude.{◌≡◌, IfOk};
 ghost use Rattle.lq_straight.specs.Names.{first_names, is_primitive};
 

@@ -36,7 +36,8 @@ fn next_ordinal(
     number: u32,
 ) -> Result<usize, AllocError>
     requires low { (k m : ℕ) → slice_get ordinals.now k ≡ Some m → m < 2 ^ 33 }
-    ensures { IfOk result (λ m. IsCounted number ordinals.now (seen visible.old.kept.items) (seen visible.new.kept.items) node m) }
+    ensures { IfOk result (λ m. IsCounted number ordinals.now (seen visible.old.kept.items)
+        (seen visible.new.kept.items) node m) }
 {
     match node {
         ItemNode::Define(name, _) => {

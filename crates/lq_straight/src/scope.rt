@@ -44,7 +44,8 @@ impl<T: Drop> From<AllocFailed<T>> for ScopeError {
 // The binder that a use means.
 fn bind_use(visible: &Visible, name: NameAt) -> Result<Binder, ScopeError>
     ensures found { IfOk result (λ b. seen visible.now.kept.items name.name.0 ≡ Some b) }
-    ensures unknown { (x : NameAt) → result ≡ Err (ScopeError.Unknown x) → (x ≡ name) × (seen visible.now.kept.items name.name.0 ≡ None) }
+    ensures unknown { (x : NameAt) → result ≡ Err (ScopeError.Unknown x) → (x ≡ name)
+        × (seen visible.now.kept.items name.name.0 ≡ None) }
 {
     match visible.find(name.name) {
         Some(binder) => Ok(binder),
@@ -55,7 +56,8 @@ fn bind_use(visible: &Visible, name: NameAt) -> Result<Binder, ScopeError>
 // The sum with its use bound.
 fn bind_sum(visible: &Visible, sum: Sum<NameAt>) -> Result<Sum<Binder>, ScopeError>
     ensures found { IfOk result (λ s. IsSameSum (Keeps (seen visible.now.kept.items)) sum s) }
-    ensures unknown { (x : NameAt) → result ≡ Err (ScopeError.Unknown x) → (used_by_sum sum ≡ x ∷ []) × (seen visible.now.kept.items x.name.0 ≡ None) }
+    ensures unknown { (x : NameAt) → result ≡ Err (ScopeError.Unknown x) → (used_by_sum sum ≡ x ∷ [])
+        × (seen visible.now.kept.items x.name.0 ≡ None) }
 {
     Ok(match sum {
         Sum::Use(x) => Sum::Use(bind_use(visible, x)?),
@@ -69,7 +71,8 @@ fn bind_sum(visible: &Visible, sum: Sum<NameAt>) -> Result<Sum<Binder>, ScopeErr
 // The right side of a definition with its use bound.
 fn bind_right(visible: &Visible, right: Right<NameAt>) -> Result<Right<Binder>, ScopeError>
     ensures found { IfOk result (λ r. IsSameRight (Keeps (seen visible.now.kept.items)) right r) }
-    ensures unknown { (x : NameAt) → result ≡ Err (ScopeError.Unknown x) → (used_by_right right ≡ x ∷ []) × (seen visible.now.kept.items x.name.0 ≡ None) }
+    ensures unknown { (x : NameAt) → result ≡ Err (ScopeError.Unknown x) → (used_by_right right ≡ x ∷ [])
+        × (seen visible.now.kept.items x.name.0 ≡ None) }
 {
     Ok(match right {
         Right::Read(place) => Right::Read(place),
@@ -80,7 +83,8 @@ fn bind_right(visible: &Visible, right: Right<NameAt>) -> Result<Right<Binder>, 
 // What is printed with its use bound.
 fn bind_printed(visible: &Visible, printed: Printed<NameAt>) -> Result<Printed<Binder>, ScopeError>
     ensures found { IfOk result (λ e. IsSamePrinted (Keeps (seen visible.now.kept.items)) printed e) }
-    ensures unknown { (x : NameAt) → result ≡ Err (ScopeError.Unknown x) → (used_by_printed printed ≡ x ∷ []) × (seen visible.now.kept.items x.name.0 ≡ None) }
+    ensures unknown { (x : NameAt) → result ≡ Err (ScopeError.Unknown x)
+        → (used_by_printed printed ≡ x ∷ []) × (seen visible.now.kept.items x.name.0 ≡ None) }
 {
     Ok(match printed {
         Printed::Sum(sum) => Printed::Sum(bind_sum(visible, sum)?),
@@ -114,7 +118,8 @@ fn bind_node(
     node: ItemNode<NameAt>,
     number: u32,
 ) -> Result<ItemNode<Binder>, ScopeError>
-    ensures found { IfOk result (λ n. IsFoundNode number (seen visible.old.kept.items) (seen visible.new.kept.items) node n) }
+    ensures found { IfOk result (λ n. IsFoundNode number (seen visible.old.kept.items)
+        (seen visible.new.kept.items) node n) }
     ensures unknown { (x : NameAt) → result ≡ Err (ScopeError.Unknown x)
         → IsFirstNot (IsKept (seen visible.old.kept.items)) (used_by_node node) x }
 {
@@ -132,7 +137,8 @@ fn bind_node(
 
 // The item with this number, with its uses bound.
 fn bind(visible: &mut Visible, item: Item<NameAt>, number: u32) -> Result<Item<Binder>, ScopeError>
-    ensures found { IfOk result (λ i. IsFoundItem number (seen visible.old.kept.items) (seen visible.new.kept.items) item i) }
+    ensures found { IfOk result (λ i. IsFoundItem number (seen visible.old.kept.items)
+        (seen visible.new.kept.items) item i) }
     ensures unknown { (x : NameAt) → result ≡ Err (ScopeError.Unknown x)
         → IsFirstNot (IsKept (seen visible.old.kept.items)) (used item) x }
 {

@@ -14,7 +14,8 @@ pub(crate) struct Visible {
 // Makes the list long enough for this number.
 fn reach(kept: &mut Vec<Option<Binder>>, number: usize) -> Result<(), AllocError>
     requires { number + 1 < 2 ^ 64 }
-    ensures items { OnOk result (kept.new.items ≡ kept.old.items ++ replicate (number + 1 - length kept.old.items) None) }
+    ensures items { OnOk result (kept.new.items ≡ kept.old.items
+        ++ replicate (number + 1 - length kept.old.items) None) }
     ensures long { OnOk result (number < length kept.new.items) }
     ensures err { OnErr result (kept.new.items ≡ kept.old.items) }
 {
@@ -46,7 +47,9 @@ impl Visible {
 
     /// Makes this the last binder of the name.
     pub(crate) fn define(&mut self, name: Name, binder: Binder) -> Result<(), AllocError>
-        ensures { OnOk result ((other : ℕ) → seen self.new.kept.items other ≡ (if name.0 == other then Some binder else seen self.old.kept.items other)) }
+        ensures { OnOk result ((other : ℕ)
+            → seen self.new.kept.items other ≡
+            (if name.0 == other then Some binder else seen self.old.kept.items other)) }
     {
         let number = name.0 as usize;
         reach(&mut self.kept, number)?;
