@@ -2,12 +2,11 @@
 use Rattle.std.proofs.Common.{◌≡◌, ℕ, zero, suc, ◌+◌, Bool, true, false, if◌then◌else◌, [], ◌∷◌, ◌++◌, Option, Some, None, refl, sym, ap, ap₂, subst, ◌∙◌, arith}
 use Rattle.std.proofs.lemmas.List.{append-nil}
 use Rattle.lq_name.specs.declared.place.Place.{Place}
-use Rattle.lq_tree.specs.Pattern.{Pattern, pattern, any, bind, nothing, tuple_of, build_of, bound_in}
 use Rattle.lq_model.specs.declared.fault.FaultKind.TheVariants.{NoCase}
-use Rattle.lq_model.specs.Core.{Row, Core, val, use_of, fun, row, let_in, let_rec, call, one, two, store, and_of, or_of, if_else, match_on, seq, assert_false, Cores, none, more, Arms, no_arms, more_arms, Value, v_whole, v_flag, v_unit, v_fun, v_rec, v_tuple, v_build, v_array, Values, no_values, more_values, Pairs, value_in, without, replaced, close, close_all, close_arms, as_value, as_values, both_values, row_value, with_values}
+use Rattle.lq_model.specs.Core.{Pattern, variables_of, Parameter, ignored, variable, empty, matched, bound_in, Row, Core, val, use_of, fun, row, let_in, let_rec, call, one, two, three, and_of, or_of, if_else, match_on, seq, assert_false, Cores, none, more, Arms, no_arms, more_arms, Value, v_whole, v_flag, v_unit, v_fun, v_rec, v_tuple, v_build, v_array, Values, no_values, more_values, Pairs, value_in, without, replaced, close, close_all, close_arms, as_value, as_values, both_values, row_value, with_values}
 use Rattle.lq_model.specs.Operations as act
-use Rattle.lq_model.specs.Operations.{World, Act, unary_act, binary_act, store_act, fits, fits_form}
-use Rattle.lq_model.specs.Step.{Next, goes, faults, ends, done, Frame, in_row, in_let, in_function, in_argument, in_one, in_left, in_right, in_array, in_index, in_stored, in_and, in_or, in_condition, in_scrutinee, in_first, placed, plug, IsReady, AreValues, applied, first_arm, or_later, Step, part, let_value, let_function, call_body, unary, binary, storing, and_value, or_value, branch, arm, rest, assertion}
+use Rattle.lq_model.specs.Operations.{World, Act, unary_act, binary_act, ternary_act, fits}
+use Rattle.lq_model.specs.Step.{Next, goes, faults, ends, done, Frame, in_row, in_let, in_function, in_argument, in_one, in_left, in_right, in_start, in_middle, in_end, in_and, in_or, in_condition, in_scrutinee, in_first, placed, plug, IsReady, AreValues, applied, first_arm, or_later, Step, part, let_value, let_function, call_body, unary, binary, ternary, and_value, or_value, branch, arm, rest, assertion}
 use Rattle.lq_model.specs.StepFunction.{on_value, on_flag, with_part, step, step_row}
 use Rattle.lq_model.specs.Meaning.{Answer, comes, fails, runs_out, too_deep, gets_stuck, and_then, acts, looked_up, on_truth, choose, fitting, with_parameter, eval, eval_all, eval_arms, call_meaning}
 use Rattle.lq_model.specs.Laws.{ArePairsOf}
@@ -136,7 +135,7 @@ replaced_does n x (Some v) w = (0, val v, here (val v) w, refl)
 
 -- an arm whose pattern fits, or what follows
 arm_does : (n : ℕ) (q : Pattern) (v : Value) (o : Option Pairs) → fits q v ≡ o → (env : Pairs) (b c e : Core) (w : World) (x : Next) (go : Pairs → World → Answer) (other : World → Answer)
-    → ((ps : Pairs) → ArePairsOf (bound_in q) ps → close ps c ≡ close (ps ++ env) b) → Step e w (or_later o c w x)
+    → ((ps : Pairs) → ArePairsOf (variables_of q) ps → close ps c ≡ close (ps ++ env) b) → Step e w (or_later o c w x)
     → ((env1 : Pairs) → Does n (close env1 b) w (go env1 w)) → (Step e w x → Does n e w (other w)) → Does n e w (fitting o env go other w)
 arm_does n q v None is env b c e w x go other same s k later = later s
 arm_does n q v (Some ps) is env b c e w x go other same s k later =
@@ -144,26 +143,25 @@ arm_does n q v (Some ps) is env b c e w x go other same s k later =
 
 -- a body under its parameter's value
 match_does : (n : ℕ) (p : Place) (q : Pattern) (self env : Pairs) (c b : Core) (v : Value) (w : World) (go : Pairs → World → Answer)
-    → ((ps : Pairs) → ArePairsOf (bound_in q) ps → close (ps ++ self) c ≡ close (ps ++ env) b) → ((env1 : Pairs) → Does n (close env1 b) w (go env1 w))
+    → ((ps : Pairs) → ArePairsOf (variables_of q) ps → close (ps ++ self) c ≡ close (ps ++ env) b) → ((env1 : Pairs) → Does n (close env1 b) w (go env1 w))
     → Does n (match_on p (val v) (close_arms self (more_arms q c no_arms))) w (fitting (fits q v) env go (fails NoCase p) w)
 match_does n p q self env c b v w go same k =
-    let d = close (without (bound_in q) self) c in
+    let d = close (without (variables_of q) self) c in
     let e = match_on p (val v) (more_arms q d no_arms) in
-    arm_does n q v (fits q v) refl env b d e w (faults NoCase p) go (fails NoCase p) (λ ps h. close_behind (bound_in q) ps self c h ∙ same ps h)
+    arm_does n q v (fits q v) refl env b d e w (faults NoCase p) go (fails NoCase p) (λ ps h. close_behind (variables_of q) ps self c h ∙ same ps h)
     (arm p (val v) (more_arms q d no_arms) v w refl) k (λ s. (0, e, here e w, s))
 
-parameter_does : (n : ℕ) (q : Pattern) (self env : Pairs) (c b : Core) (v : Value) (w : World) (go : Pairs → World → Answer)
+parameter_does : (n : ℕ) (q : Parameter) (self env : Pairs) (c b : Core) (v : Value) (w : World) (go : Pairs → World → Answer)
     → ((ps : Pairs) → ArePairsOf (bound_in q) ps → close (ps ++ self) c ≡ close (ps ++ env) b) → ((env1 : Pairs) → Does n (close env1 b) w (go env1 w))
     → Does n (applied self q c v) w (with_parameter q v env go w)
-parameter_does n (pattern p any) self env c b v w go same k = subst (λ d. Does n d w (go env w)) (sym (same [] (λ x. refl))) (k env)
-parameter_does n (pattern p nothing) self env c b v w go same k = subst (λ d. Does n d w (go env w)) (sym (same [] (λ x. refl))) (k env)
-parameter_does n (pattern p (bind x)) self env c b v w go same k =
+parameter_does n ignored self env c b v w go same k = subst (λ d. Does n d w (go env w)) (sym (same [] (λ x. refl))) (k env)
+parameter_does n empty self env c b v w go same k = subst (λ d. Does n d w (go env w)) (sym (same [] (λ x. refl))) (k env)
+parameter_does n (variable x) self env c b v w go same k =
     subst (λ d. Does n d w (go ((x, v) ∷ env) w)) (sym (same ((x, v) ∷ []) (pair_of x v))) (k ((x, v) ∷ env))
-parameter_does n (pattern p (tuple_of qs)) self env c b v w go same k = match_does n p (pattern p (tuple_of qs)) self env c b v w go same k
-parameter_does n (pattern p (build_of d m qs)) self env c b v w go same k = match_does n p (pattern p (build_of d m qs)) self env c b v w go same k
+parameter_does n (matched p q) self env c b v w go same k = match_does n p q self env c b v w go same k
 
 -- what a `let` leaves open in its body
-let_same : (q : Pattern) (env : Pairs) (b : Core) (ps : Pairs) → ArePairsOf (bound_in q) ps → close (ps ++ []) (close (without (bound_in q) env) b) ≡ close (ps ++ env) b
+let_same : (q : Parameter) (env : Pairs) (b : Core) (ps : Pairs) → ArePairsOf (bound_in q) ps → close (ps ++ []) (close (without (bound_in q) env) b) ≡ close (ps ++ env) b
 let_same q env b ps h = ap (λ l. close l (close (without (bound_in q) env) b)) (append-nil ps) ∙ close_behind (bound_in q) ps env b h
 
 -- a form that goes by a truth value
@@ -213,12 +211,12 @@ module _ (called : Value → Value → World → Answer) (n : ℕ) (calls_do : (
         does_in (in_left o B) tt n (close env a) w (eval called a env w) (λ x u. and_then (eval called b env u) (λ y t. acts t (binary_act o x y t))) (does a env w) (λ d x u is.
         does_in (in_right o d) (x, is) n B u (eval called b env u) (λ y t. acts t (binary_act o x y t)) (does b env u) (λ c y t is2.
         does_act n (two o d c) t (binary_act o x y t) (λ a h. binary o d c x y t a is is2 h) (λ h. by_none (two o d c) t refl (rw (is, is2, h)))))
-    does (store p a i e) env w =
+    does (three o a i e) env w =
         let I = close env i in let E = close env e in
-        does_in (in_array p I E) tt n (close env a) w (eval called a env w) (λ x u. and_then (eval called i env u) (λ y t. and_then (eval called e env t) (λ z s. acts s (store_act p x y z s)))) (does a env w) (λ d x u is.
-        does_in (in_index p d E) (x, is) n I u (eval called i env u) (λ y t. and_then (eval called e env t) (λ z s. acts s (store_act p x y z s))) (does i env u) (λ c y t is2.
-        does_in (in_stored p d c) ((x, is), (y, is2)) n E t (eval called e env t) (λ z s. acts s (store_act p x y z s)) (does e env t) (λ j z s is3.
-        does_act n (store p d c j) s (store_act p x y z s) (λ a h. storing p d c j x y z s a is is2 is3 h) (λ h. by_none (store p d c j) s refl (rw (is, is2, is3, h))))))
+        does_in (in_start o I E) tt n (close env a) w (eval called a env w) (λ x u. and_then (eval called i env u) (λ y t. and_then (eval called e env t) (λ z s. acts s (ternary_act o x y z s)))) (does a env w) (λ d x u is.
+        does_in (in_middle o d E) (x, is) n I u (eval called i env u) (λ y t. and_then (eval called e env t) (λ z s. acts s (ternary_act o x y z s))) (does i env u) (λ c y t is2.
+        does_in (in_end o d c) ((x, is), (y, is2)) n E t (eval called e env t) (λ z s. acts s (ternary_act o x y z s)) (does e env t) (λ j z s is3.
+        does_act n (three o d c j) s (ternary_act o x y z s) (λ a h. ternary o d c j x y z s a is is2 is3 h) (λ h. by_none (three o d c j) s refl (rw (is, is2, is3, h))))))
     does (and_of a b) env w =
         let B = close env b in let no = val (v_flag false) in
         let then_b = λ (r : World). eval called b env r in
@@ -267,8 +265,8 @@ module _ (called : Value → Value → World → Answer) (n : ℕ) (calls_do : (
         → Does n e w (eval_arms called p cs v env w)
     does_arms no_arms env p v w e s = (0, e, here e w, s)
     does_arms (more_arms q b cs) env p v w e s =
-        arm_does n q v (fits q v) refl env b (close (without (bound_in q) env) b) e w (first_arm p (close_arms env cs) v w) (λ env1 u. eval called b env1 u) (λ u. eval_arms called p cs v env u)
-        (λ ps h. close_behind (bound_in q) ps env b h) s (λ env1. does b env1 w) (λ t. does_arms cs env p v w e t)
+        arm_does n q v (fits q v) refl env b (close (without (variables_of q) env) b) e w (first_arm p (close_arms env cs) v w) (λ env1 u. eval called b env1 u) (λ u. eval_arms called p cs v env u)
+        (λ ps h. close_behind (variables_of q) ps env b h) s (λ env1. does b env1 w) (λ t. does_arms cs env p v w e t)
 
 pub calls_do : (n : ℕ) (f a : Core) (g v : Value) (w : World) → as_value f ≡ Some g → as_value a ≡ Some v → Does n (call f a) w (call_meaning n g v w)
 calls_do zero f a g v w h k = (0, call f a, here (call f a) w, omega arith)

@@ -2,11 +2,11 @@
 use Rattle.std.proofs.Common.{◌≡◌, ℕ, Bool, true, false, ◌==◌, ◌||◌, if◌then◌else◌, List, [], ◌∷◌, ◌++◌, Option, Some, None, is_some, refl, sym, ap, ap₂, subst, ◌∙◌}
 use Rattle.std.specs.List.{list_any}
 use Rattle.std.proofs.lemmas.List.Folds.{list_any-append}
-use Rattle.lq_tree.specs.Pattern.{Pattern, pattern, PatternForm, any, bind, nothing, tuple_of, build_of, Patterns, no_patterns, more_patterns, bound_in, bound_in_form, bound_in_all}
-use Rattle.lq_model.specs.Core.{Core, Value, v_unit, v_tuple, v_build, Values, no_values, more_values, Pairs, value_in, without, close}
-use Rattle.lq_model.specs.Operations.{both_pairs, fits, fits_form, fits_all}
+use Rattle.lq_model.specs.Core.{Pattern, any, bind, nothing, tuple_of, build_of, Patterns, no_patterns, more_patterns, variables_of, variables_of_all, Core, Value, v_unit, v_tuple, v_build, Values, no_values, more_values, Pairs, value_in, without, close}
+use Rattle.lq_model.specs.Operations.{both_pairs, fits, fits_all}
 use Rattle.lq_model.specs.Laws.{SameIn, ArePairsOf}
-use Rattle.lq_model.proofs.Substitution.{close-close, close-same, unless, value_in-without}
+use Rattle.lq_model.specs.Leaving.{unless, value_in-without}
+use Rattle.lq_model.proofs.Substitution.{close-close, close-same}
 
 abbrev pub or_else : Option Value → Option Value → Option Value
 or_else (Some v) o = Some v
@@ -69,24 +69,21 @@ built true o xs ps go h = go h
 built false o xs ps go h = cc
 
 mutual
-  pub fits_binds : (q : Pattern) (v : Value) (ps : Pairs) → fits q v ≡ Some ps → ArePairsOf (bound_in q) ps
-  fits_binds (pattern p f) v ps h = form_binds f v ps h
+  pub fits_binds : (q : Pattern) (v : Value) (ps : Pairs) → fits q v ≡ Some ps → ArePairsOf (variables_of q) ps
+  fits_binds any v ps h = none_of ps h
+  fits_binds (bind x) v ps h = at_some (x ∷ []) ((x, v) ∷ []) ps h (pair_of x v)
+  fits_binds nothing v_unit ps h = none_of ps h
+  fits_binds nothing _ ps h = cc
+  fits_binds (tuple_of qs) (v_tuple vs) ps h = all_bind qs vs ps h
+  fits_binds (tuple_of qs) _ ps h = cc
+  fits_binds (build_of c qs) (v_build d vs) ps h = built (c == d) (fits_all qs vs) (variables_of_all qs) ps (all_bind qs vs ps) h
+  fits_binds (build_of c qs) _ ps h = cc
 
-  pub form_binds : (f : PatternForm) (v : Value) (ps : Pairs) → fits_form f v ≡ Some ps → ArePairsOf (bound_in_form f) ps
-  form_binds any v ps h = none_of ps h
-  form_binds (bind x) v ps h = at_some (x ∷ []) ((x, v) ∷ []) ps h (pair_of x v)
-  form_binds nothing v_unit ps h = none_of ps h
-  form_binds nothing _ ps h = cc
-  form_binds (tuple_of qs) (v_tuple vs) ps h = all_bind qs vs ps h
-  form_binds (tuple_of qs) _ ps h = cc
-  form_binds (build_of c p qs) (v_build d vs) ps h = built (c == d) (fits_all qs vs) (bound_in_all qs) ps (all_bind qs vs ps) h
-  form_binds (build_of c p qs) _ ps h = cc
-
-  all_bind : (qs : Patterns) (vs : Values) (ps : Pairs) → fits_all qs vs ≡ Some ps → ArePairsOf (bound_in_all qs) ps
+  all_bind : (qs : Patterns) (vs : Values) (ps : Pairs) → fits_all qs vs ≡ Some ps → ArePairsOf (variables_of_all qs) ps
   all_bind no_patterns no_values ps h = none_of ps h
   all_bind no_patterns (more_values v vs) ps h = cc
   all_bind (more_patterns q qs) no_values ps h = cc
   all_bind (more_patterns q qs) (more_values v vs) ps h =
       let b = both_from (fits q v) (fits_all qs vs) ps h in
-      subst (ArePairsOf (bound_in q ++ bound_in_all qs)) (sym b.4)
-      (pairs_append (bound_in q) (bound_in_all qs) b.0 b.1 (fits_binds q v b.0 b.2) (all_bind qs vs b.1 b.3))
+      subst (ArePairsOf (variables_of q ++ variables_of_all qs)) (sym b.4)
+      (pairs_append (variables_of q) (variables_of_all qs) b.0 b.1 (fits_binds q v b.0 b.2) (all_bind qs vs b.1 b.3))

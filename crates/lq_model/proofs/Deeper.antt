@@ -3,9 +3,8 @@ use Rattle.std.proofs.Common.{◌≡◌, ℕ, zero, suc, ◌+◌, Bool, true, fa
 use Rattle.lq_name.specs.declared.place.Place.{Place}
 use Rattle.lq_tree.specs.Pattern.{Pattern, pattern, any, bind, nothing, tuple_of, build_of}
 use Rattle.lq_model.specs.declared.fault.FaultKind.TheVariants.{NoCase}
-use Rattle.lq_model.specs.Core.{Core, val, use_of, fun, row, let_in, let_rec, call, one, two, store, and_of, or_of, if_else, match_on, seq, assert_false, Cores, none, more, Arms, no_arms, more_arms, Value, v_whole, v_flag, v_unit, v_fun, v_rec, v_tuple, v_build, v_array, Values, no_values, more_values, Pairs, value_in, without, close, row_value}
-use Rattle.lq_tree.specs.Pattern.{bound_in}
-use Rattle.lq_model.specs.Operations.{World, unary_act, binary_act, store_act, fits, fits_form}
+use Rattle.lq_model.specs.Core.{Parameter, ignored, variable, empty, matched, bound_in, Core, val, use_of, fun, row, let_in, let_rec, call, one, two, three, and_of, or_of, if_else, match_on, seq, assert_false, Cores, none, more, Arms, no_arms, more_arms, Value, v_whole, v_flag, v_unit, v_fun, v_rec, v_tuple, v_build, v_array, Values, no_values, more_values, Pairs, value_in, without, close, row_value}
+use Rattle.lq_model.specs.Operations.{World, unary_act, binary_act, ternary_act, fits}
 use Rattle.lq_model.specs.Meaning.{Answer, comes, fails, runs_out, too_deep, gets_stuck, and_then, acts, looked_up, on_truth, choose, fitting, with_parameter, eval, eval_all, eval_arms, call_meaning, meaning}
 use Rattle.lq_model.specs.Laws.{IsDeepEnough, MeansMore}
 
@@ -50,13 +49,12 @@ fitting_below : (o : Option Pairs) (env : Pairs) (go to : Pairs → World → An
 fitting_below None env go to other last w h k = k
 fitting_below (Some ps) env go to other last w h k = h (ps ++ env)
 
-parameter_below : (q : Pattern) (v : Value) (env : Pairs) (go to : Pairs → World → Answer) (w : World)
+parameter_below : (q : Parameter) (v : Value) (env : Pairs) (go to : Pairs → World → Answer) (w : World)
     → ((env1 : Pairs) → Below (go env1 w) (to env1 w)) → Below (with_parameter q v env go w) (with_parameter q v env to w)
-parameter_below (pattern p any) v env go to w h = h env
-parameter_below (pattern p nothing) v env go to w h = h env
-parameter_below (pattern p (bind x)) v env go to w h = h ((x, v) ∷ env)
-parameter_below (pattern p (tuple_of qs)) v env go to w h = fitting_below (fits_form (tuple_of qs) v) env go to (fails NoCase p) (fails NoCase p) w h refl
-parameter_below (pattern p (build_of c n qs)) v env go to w h = fitting_below (fits_form (build_of c n qs) v) env go to (fails NoCase p) (fails NoCase p) w h refl
+parameter_below ignored v env go to w h = h env
+parameter_below empty v env go to w h = h env
+parameter_below (variable x) v env go to w h = h ((x, v) ∷ env)
+parameter_below (matched p q) v env go to w h = fitting_below (fits q v) env go to (fails NoCase p) (fails NoCase p) w h refl
 
 module _ (called deeper : Value → Value → World → Answer) (calls : (g v : Value) (w : World) → Below (called g v w) (deeper g v w)) where
   mutual
@@ -72,8 +70,8 @@ module _ (called deeper : Value → Value → World → Answer) (calls : (g v : 
     eval_below (one o e) env w = then_below _ _ _ _ (eval_below e env w) (λ v u. below_same (acts u (unary_act o v u)))
     eval_below (two o a b) env w =
         then_below _ _ _ _ (eval_below a env w) (λ x u. then_below _ _ _ _ (eval_below b env u) (λ y t. below_same (acts t (binary_act o x y t))))
-    eval_below (store p a i e) env w =
-        then_below _ _ _ _ (eval_below a env w) (λ x u. then_below _ _ _ _ (eval_below i env u) (λ y t. then_below _ _ _ _ (eval_below e env t) (λ z s. below_same (acts s (store_act p x y z s)))))
+    eval_below (three o a i e) env w =
+        then_below _ _ _ _ (eval_below a env w) (λ x u. then_below _ _ _ _ (eval_below i env u) (λ y t. then_below _ _ _ _ (eval_below e env t) (λ z s. below_same (acts s (ternary_act o x y z s)))))
     eval_below (and_of a b) env w =
         then_below _ _ _ _ (eval_below a env w) (λ x u. truth_below x _ _ u (λ t. choose_below t (λ r. eval called b env r) (λ r. eval deeper b env r) (comes (v_flag false)) (comes (v_flag false)) u (eval_below b env u) refl))
     eval_below (or_of a b) env w =

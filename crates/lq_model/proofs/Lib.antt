@@ -9,3 +9,5 @@ pub mod UnderEnvironments
 pub mod Complete
 pub mod Deeper
 pub mod States
+pub mod Agreeing
+pub mod OtherPlaces

@@ -1,8 +1,7 @@
 -- The steps of a program come to what it means.
 use Rattle.std.proofs.Common.{◌≡◌, ℕ, suc, ◌+◌, ◌-◌, ◌≤◌, List, [], ◌∷◌, ◌++◌, Option, Some, None, ◌⊎◌, inl, inr, ⊎_elim, refl, sym, ap, ap₂, subst, ◌∙◌, arith}
 use Rattle.std.proofs.lemmas.Bool.{cases_lt}
-use Rattle.lq_tree.specs.Pattern.{Pattern, pattern, any, bind, nothing, tuple_of, build_of, bound_in}
-use Rattle.lq_model.specs.Core.{Core, Value, v_rec, Pairs, without, close, as_value}
+use Rattle.lq_model.specs.Core.{Parameter, ignored, variable, empty, matched, bound_in, Core, Value, v_rec, Pairs, without, close, as_value}
 use Rattle.lq_model.specs.Operations.{World}
 use Rattle.lq_model.specs.Step.{Next, goes, faults, ends}
 use Rattle.lq_model.specs.StepFunction.{step}
@@ -47,19 +46,18 @@ none_behind : (env : Pairs) (is : List Item) → close_items (without [] env) is
 none_behind env is = sym (close_items-none (close_items (without [] env) is)) ∙ close_items-behind [] [] env is (λ x. refl)
 
 -- the items behind a definition
-defined_is : (q : Pattern) (v : Value) (env : Pairs) (is : List Item) → defined q v (close_items (without (bound_in q) env) is) ≡ close_items (defining q v env) is
-defined_is (pattern p any) v env is = none_behind env is
-defined_is (pattern p nothing) v env is = none_behind env is
-defined_is (pattern p (bind x)) v env is = close_items-behind (x ∷ []) ((x, v) ∷ []) env is (pair_of x v)
-defined_is (pattern p (tuple_of qs)) v env is = refl
-defined_is (pattern p (build_of c n qs)) v env is = refl
+defined_is : (q : Parameter) (v : Value) (env : Pairs) (is : List Item) → defined q v (close_items (without (bound_in q) env) is) ≡ close_items (defining q v env) is
+defined_is ignored v env is = none_behind env is
+defined_is empty v env is = none_behind env is
+defined_is (variable x) v env is = close_items-behind (x ∷ []) ((x, v) ∷ []) env is (pair_of x v)
+defined_is (matched p q) v env is = refl
 
 -- ---- runs
 
 abbrev at : List Item → World → State
 at is w = record { items = is; world = w }
 
-one_turn : (q : Pattern) (is : List Item) (e : Core) (w : World) (o : Option Next) (j : ℕ) → as_value e ≡ None → step e w ≡ o
+one_turn : (q : Parameter) (is : List Item) (e : Core) (w : World) (o : Option Next) (j : ℕ) → as_value e ≡ None → step e w ≡ o
     → outcome_from (suc j) (at (let_item q e ∷ is) w) ≡ after_turn (item_next q is o) w (outcome_from j)
 one_turn q is e w o j h k =
     ap (λ x. after_turn (let_turn q e is w x) w (outcome_from j)) h ∙ ap (λ x. after_turn (item_next q is x) w (outcome_from j)) k
@@ -70,7 +68,7 @@ after_one k j = omega arith
 one_more : (j : ℕ) → 1 + j ≡ suc j
 one_more j = omega arith
 
-run_on : (k : ℕ) (q : Pattern) (is : List Item) (e d : Core) (w u : World) → Steps k e w d u → (j : ℕ)
+run_on : (k : ℕ) (q : Parameter) (is : List Item) (e d : Core) (w u : World) → Steps k e w d u → (j : ℕ)
     → outcome_from (k + j) (at (let_item q e ∷ is) w) ≡ outcome_from j (at (let_item q d ∷ is) u)
 run_on _ q is _ _ _ _ (here e w) j = let z : 0 + j ≡ j = omega arith in ap (λ m. outcome_from m (at (let_item q e ∷ is) w)) z
 run_on _ q is _ _ _ _ (onward k e d c w u t s p) j =
@@ -95,7 +93,7 @@ later_still n k m (gets_stuck u) h = tt
 ends_later : (n k : ℕ) (s t : State) (a : Answer) → ((j : ℕ) → outcome_from (k + j) s ≡ outcome_from j t) → Ends n t a → Ends n s a
 ends_later n k s t a h e = (k + e.0, h e.0 ∙ e.1, later_still n k e.0 a e.2)
 
-item_ends : (n : ℕ) (q : Pattern) (is : List Item) (e : Core) (w : World) (a : Answer) (go : Value → World → Answer) → Does n e w a
+item_ends : (n : ℕ) (q : Parameter) (is : List Item) (e : Core) (w : World) (a : Answer) (go : Value → World → Answer) → Does n e w a
     → ((v : Value) (u : World) → Ends n (at (defined q v is) u) (go v u)) → Ends n (at (let_item q e ∷ is) w) (and_then a go)
 item_ends n q is e w (comes v u) go h k =
     ends_later n h.0 (at (let_item q e ∷ is) w) (at (let_item q h.1 ∷ is) u) (go v u) (run_on h.0 q is e h.1 w u h.2)

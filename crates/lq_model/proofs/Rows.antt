@@ -1,8 +1,8 @@
 -- The step function gives exactly what the rows of the relation give.
 use Rattle.std.proofs.Common.{◌≡◌, Bool, true, false, if◌then◌else◌, [], Option, Some, None, refl, sym, ap, subst, ◌∙◌}
-use Rattle.lq_model.specs.Core.{Row, Core, val, use_of, fun, row, let_in, let_rec, call, one, two, store, and_of, or_of, if_else, match_on, seq, assert_false, Cores, none, more, Arms, no_arms, more_arms, Value, v_whole, v_flag, v_unit, v_fun, v_rec, v_tuple, v_build, v_array, Values, no_values, more_values, as_value, as_values, both_values}
-use Rattle.lq_model.specs.Operations.{World, Act, unary_act, binary_act, store_act}
-use Rattle.lq_model.specs.Step.{Next, goes, done, Frame, in_row, in_let, in_function, in_argument, in_one, in_left, in_right, in_array, in_index, in_stored, in_and, in_or, in_condition, in_scrutinee, in_first, placed, plug, within, IsReady, AreValues, applied, body_of, first_arm, Step, part, let_value, let_function, call_body, unary, binary, storing, and_value, or_value, branch, arm, rest, assertion}
+use Rattle.lq_model.specs.Core.{Row, Core, val, use_of, fun, row, let_in, let_rec, call, one, two, three, and_of, or_of, if_else, match_on, seq, assert_false, Cores, none, more, Arms, no_arms, more_arms, Value, v_whole, v_flag, v_unit, v_fun, v_rec, v_tuple, v_build, v_array, Values, no_values, more_values, as_value, as_values, both_values}
+use Rattle.lq_model.specs.Operations.{World, Act, unary_act, binary_act, ternary_act}
+use Rattle.lq_model.specs.Step.{Next, goes, done, Frame, in_row, in_let, in_function, in_argument, in_one, in_left, in_right, in_start, in_middle, in_end, in_and, in_or, in_condition, in_scrutinee, in_first, placed, plug, within, IsReady, AreValues, applied, body_of, first_arm, Step, part, let_value, let_function, call_body, unary, binary, ternary, and_value, or_value, branch, arm, rest, assertion}
 use Rattle.lq_model.specs.StepFunction.{inside, on_value, acted, goes_to, on_flag, with_part, step, step_row}
 
 -- ---- a part inside a frame
@@ -58,15 +58,15 @@ frame_inside (in_left o b) e w h k = ap (λ x. on_value x (in_left o b) (step e 
 frame_inside (in_right o a) e w h k =
     ap (λ x. on_value x (in_left o e) (step a w) (λ u. on_value (as_value e) (in_right o a) (step e w) (λ v. acted (binary_act o u v w)))) h.1
     ∙ ap (λ x. on_value x (in_right o a) (step e w) (λ v. acted (binary_act o h.0 v w))) k
-frame_inside (in_array p i x) e w h k =
-    ap (λ o. on_value o (in_array p i x) (step e w) (λ t. on_value (as_value i) (in_index p e x) (step i w) (λ u. on_value (as_value x) (in_stored p e i) (step x w) (λ v. acted (store_act p t u v w))))) k
-frame_inside (in_index p a x) e w h k =
-    ap (λ o. on_value o (in_array p e x) (step a w) (λ t. on_value (as_value e) (in_index p a x) (step e w) (λ u. on_value (as_value x) (in_stored p a e) (step x w) (λ v. acted (store_act p t u v w))))) h.1
-    ∙ ap (λ o. on_value o (in_index p a x) (step e w) (λ u. on_value (as_value x) (in_stored p a e) (step x w) (λ v. acted (store_act p h.0 u v w)))) k
-frame_inside (in_stored p a i) e w h k =
-    ap (λ o. on_value o (in_array p i e) (step a w) (λ t. on_value (as_value i) (in_index p a e) (step i w) (λ u. on_value (as_value e) (in_stored p a i) (step e w) (λ v. acted (store_act p t u v w))))) h.0.1
-    ∙ ap (λ o. on_value o (in_index p a e) (step i w) (λ u. on_value (as_value e) (in_stored p a i) (step e w) (λ v. acted (store_act p h.0.0 u v w)))) h.1.1
-    ∙ ap (λ o. on_value o (in_stored p a i) (step e w) (λ v. acted (store_act p h.0.0 h.1.0 v w))) k
+frame_inside (in_start o i x) e w h k =
+    ap (λ y. on_value y (in_start o i x) (step e w) (λ t. on_value (as_value i) (in_middle o e x) (step i w) (λ u. on_value (as_value x) (in_end o e i) (step x w) (λ v. acted (ternary_act o t u v w))))) k
+frame_inside (in_middle o a x) e w h k =
+    ap (λ y. on_value y (in_start o e x) (step a w) (λ t. on_value (as_value e) (in_middle o a x) (step e w) (λ u. on_value (as_value x) (in_end o a e) (step x w) (λ v. acted (ternary_act o t u v w))))) h.1
+    ∙ ap (λ y. on_value y (in_middle o a x) (step e w) (λ u. on_value (as_value x) (in_end o a e) (step x w) (λ v. acted (ternary_act o h.0 u v w)))) k
+frame_inside (in_end o a i) e w h k =
+    ap (λ y. on_value y (in_start o i e) (step a w) (λ t. on_value (as_value i) (in_middle o a e) (step i w) (λ u. on_value (as_value e) (in_end o a i) (step e w) (λ v. acted (ternary_act o t u v w))))) h.0.1
+    ∙ ap (λ y. on_value y (in_middle o a e) (step i w) (λ u. on_value (as_value e) (in_end o a i) (step e w) (λ v. acted (ternary_act o h.0.0 u v w)))) h.1.1
+    ∙ ap (λ y. on_value y (in_end o a i) (step e w) (λ v. acted (ternary_act o h.0.0 h.1.0 v w))) k
 frame_inside (in_and b) e w h k = ap (λ o. on_value o (in_and b) (step e w) (λ u. on_flag u (λ t. Some (goes (if t then b else val (v_flag false)) w)))) k
 frame_inside (in_or b) e w h k = ap (λ o. on_value o (in_or b) (step e w) (λ u. on_flag u (λ t. Some (goes (if t then val (v_flag true) else b) w)))) k
 frame_inside (in_condition a b) e w h k = ap (λ o. on_value o (in_condition a b) (step e w) (λ u. on_flag u (λ t. Some (goes (if t then a else b) w)))) k
@@ -86,10 +86,10 @@ step_from _ _ _ (unary o e v w a h k) = ap (λ x. on_value x (in_one o) (step e 
 step_from _ _ _ (binary o d e u v w a h k m) =
     ap (λ x. on_value x (in_left o e) (step d w) (λ u. on_value (as_value e) (in_right o d) (step e w) (λ v. acted (binary_act o u v w)))) h
     ∙ ap (λ x. on_value x (in_right o d) (step e w) (λ v. acted (binary_act o u v w))) k ∙ ap acted m
-step_from _ _ _ (storing p d i e t u v w a h k l m) =
-    ap (λ o. on_value o (in_array p i e) (step d w) (λ t. on_value (as_value i) (in_index p d e) (step i w) (λ u. on_value (as_value e) (in_stored p d i) (step e w) (λ v. acted (store_act p t u v w))))) h
-    ∙ ap (λ o. on_value o (in_index p d e) (step i w) (λ u. on_value (as_value e) (in_stored p d i) (step e w) (λ v. acted (store_act p t u v w)))) k
-    ∙ ap (λ o. on_value o (in_stored p d i) (step e w) (λ v. acted (store_act p t u v w))) l ∙ ap acted m
+step_from _ _ _ (ternary o d i e t u v w a h k l m) =
+    ap (λ y. on_value y (in_start o i e) (step d w) (λ t. on_value (as_value i) (in_middle o d e) (step i w) (λ u. on_value (as_value e) (in_end o d i) (step e w) (λ v. acted (ternary_act o t u v w))))) h
+    ∙ ap (λ y. on_value y (in_middle o d e) (step i w) (λ u. on_value (as_value e) (in_end o d i) (step e w) (λ v. acted (ternary_act o t u v w)))) k
+    ∙ ap (λ y. on_value y (in_end o d i) (step e w) (λ v. acted (ternary_act o t u v w))) l ∙ ap acted m
 step_from _ _ _ (and_value a b t w h) = ap (λ o. on_value o (in_and b) (step a w) (λ u. on_flag u (λ t. Some (goes (if t then b else val (v_flag false)) w)))) h
 step_from _ _ _ (or_value a b t w h) = ap (λ o. on_value o (in_or b) (step a w) (λ u. on_flag u (λ t. Some (goes (if t then val (v_flag true) else b) w)))) h
 step_from _ _ _ (branch c a b t w h) = ap (λ o. on_value o (in_condition a b) (step c w) (λ u. on_flag u (λ t. Some (goes (if t then a else b) w)))) h
@@ -186,11 +186,11 @@ mutual
       on_part (in_left o b) a w n (λ u. on_value (as_value b) (in_right o a) (step b w) (λ v. acted (binary_act o u v w))) tt (step_to a w)
       (λ u k t. on_part (in_right o a) b w n (λ v. acted (binary_act o u v w)) (u, k) (step_to b w)
       (λ v l m. let p = acted_from (binary_act o u v w) n m in subst (Step (two o a b) w) p.2 (binary o a b u v w p.0 k l p.1)) t) s
-  step_to (store p a i e) w n s =
-      on_part (in_array p i e) a w n (λ t. on_value (as_value i) (in_index p a e) (step i w) (λ u. on_value (as_value e) (in_stored p a i) (step e w) (λ v. acted (store_act p t u v w)))) tt (step_to a w)
-      (λ x k s. on_part (in_index p a e) i w n (λ u. on_value (as_value e) (in_stored p a i) (step e w) (λ v. acted (store_act p x u v w))) (x, k) (step_to i w)
-      (λ y l s. on_part (in_stored p a i) e w n (λ v. acted (store_act p x y v w)) ((x, k), (y, l)) (step_to e w)
-      (λ z m s. let r = acted_from (store_act p x y z w) n s in subst (Step (store p a i e) w) r.2 (storing p a i e x y z w r.0 k l m r.1)) s) s) s
+  step_to (three o a i e) w n s =
+      on_part (in_start o i e) a w n (λ t. on_value (as_value i) (in_middle o a e) (step i w) (λ u. on_value (as_value e) (in_end o a i) (step e w) (λ v. acted (ternary_act o t u v w)))) tt (step_to a w)
+      (λ x k s. on_part (in_middle o a e) i w n (λ u. on_value (as_value e) (in_end o a i) (step e w) (λ v. acted (ternary_act o x u v w))) (x, k) (step_to i w)
+      (λ y l s. on_part (in_end o a i) e w n (λ v. acted (ternary_act o x y v w)) ((x, k), (y, l)) (step_to e w)
+      (λ z m s. let r = acted_from (ternary_act o x y z w) n s in subst (Step (three o a i e) w) r.2 (ternary o a i e x y z w r.0 k l m r.1)) s) s) s
   step_to (and_of a b) w n s =
       on_part (in_and b) a w n (λ u. on_flag u (λ t. Some (goes (if t then b else val (v_flag false)) w))) tt (step_to a w)
       (λ v k t. let p = flag_from v _ n t in subst (Step (and_of a b) w) (some_once _ _ p.2) (and_value a b p.0 w (k ∙ ap Some p.1))) s

@@ -2,15 +2,12 @@
 use Rattle.std.proofs.Common.{◌≡◌, ℕ, zero, suc, ◌+◌, ℤ, Bool, true, false, List, [], ◌∷◌, ◌++◌, length, ◌≤◌, Option, Some, None, ◌⊎◌, inl, inr, ⊎_elim, slice_get, if◌then◌else◌, refl, sym, ap, subst, ◌∙◌, arith, zero-add}
 use Rattle.std.proofs.lemmas.List.{append-nil, append_assoc, same_from_push}
 use Rattle.lq_name.specs.declared.place.Place.{Place}
-use Rattle.lq_name.specs.declared.operation.ArithOp.{ArithOp}
-use Rattle.lq_name.specs.declared.operation.ArithOp.TheVariants as op
-use Rattle.lq_tree.specs.Pattern.{Pattern}
 use Rattle.std.specs.Ordering.{int_eq}
 use Rattle.std.proofs.Math.IntN.{pos, negsuc}
-use Rattle.lq_model.specs.Core.{Operation, negate, invert, assert, length_of, print, read, Binary, arithmetic, comparison, make, fetch, Core, Arms, no_arms, more_arms, Value, v_whole, v_flag, v_unit, v_fun, v_rec, v_tuple, v_build, v_array, Pairs, as_value}
+use Rattle.lq_model.specs.Core.{Parameter, Operation, negate, invert, assert, length_of, print, read, Arithmetic, sum, difference, product, quotient, remainder, Binary, arithmetic, comparison, make, fetch, Ternary, store, Core, Arms, no_arms, more_arms, Value, v_whole, v_flag, v_unit, v_fun, v_rec, v_tuple, v_build, v_array, Pairs, as_value}
 use Rattle.lq_model.specs.Operations as act
-use Rattle.lq_model.specs.Operations.{World, Act, arithmetic_act, make_act, fetch_act, store_act, unary_act, binary_act, read_act, assert_act, on_whole, on_array, with_elements, at_index, on_element, fits}
-use Rattle.lq_model.specs.Step.{Next, goes, faults, ends, done, Frame, within, first_arm, or_later, Step, part, let_value, let_function, call_body, unary, binary, storing, and_value, or_value, branch, arm, rest, assertion}
+use Rattle.lq_model.specs.Operations.{World, Act, arithmetic_act, make_act, fetch_act, store_act, unary_act, binary_act, ternary_act, read_act, assert_act, on_whole, on_array, with_elements, at_index, on_element, fits}
+use Rattle.lq_model.specs.Step.{Next, goes, faults, ends, done, Frame, within, first_arm, or_later, Step, part, let_value, let_function, call_body, unary, binary, ternary, and_value, or_value, branch, arm, rest, assertion}
 use Rattle.lq_model.specs.StepFunction.{step}
 use Rattle.lq_model.specs.Program.{Item, let_item, rec_item, State, outcome_of, Turn, to, over, item_next, let_turn, turn_of, turn, at_rest, after_turn, outcome_from}
 use Rattle.lq_model.specs.Laws.{IsOver}
@@ -118,13 +115,13 @@ zero_grows : (w : World) (b : Bool) (x y : Act) → ActGrows w.output x → ActG
 zero_grows w true x y h k = h
 zero_grows w false x y h k = k
 
-arithmetic_grows : (o : ArithOp) (p : Place) (m n : ℤ) (w : World) → ActGrows w.output (arithmetic_act o p m n w)
+arithmetic_grows : (o : Arithmetic) (m n : ℤ) (w : World) → ActGrows w.output (arithmetic_act o m n w)
 unfolding ActGrows
-arithmetic_grows op.Add p m n w = begins_same w.output
-arithmetic_grows op.Sub p m n w = begins_same w.output
-arithmetic_grows op.Mul p m n w = begins_same w.output
-arithmetic_grows op.Div p m n w = zero_grows w (int_eq n (pos 0)) _ _ tt (begins_same w.output)
-arithmetic_grows op.Mod p m n w = zero_grows w (int_eq n (pos 0)) _ _ tt (begins_same w.output)
+arithmetic_grows sum m n w = begins_same w.output
+arithmetic_grows difference m n w = begins_same w.output
+arithmetic_grows product m n w = begins_same w.output
+arithmetic_grows (quotient p) m n w = zero_grows w (int_eq n (pos 0)) _ _ tt (begins_same w.output)
+arithmetic_grows (remainder p) m n w = zero_grows w (int_eq n (pos 0)) _ _ tt (begins_same w.output)
 
 make_grows : (p : Place) (n : ℤ) (v : Value) (w : World) → ActGrows w.output (make_act p n v w)
 unfolding ActGrows
@@ -133,14 +130,14 @@ make_grows p (pos n) v w = begins_same w.output
 
 binary_grows : (o : Binary) (x y : Value) (w : World) → OptionGrows w.output (binary_act o x y w)
 unfolding OptionGrows ActGrows
-binary_grows (arithmetic o p) x y w = whole_grows w.output x _ (λ m. whole_grows w.output y _ (λ n. arithmetic_grows o p m n w))
+binary_grows (arithmetic o) x y w = whole_grows w.output x _ (λ m. whole_grows w.output y _ (λ n. arithmetic_grows o m n w))
 binary_grows (comparison o) x y w = whole_grows w.output x _ (λ m. whole_grows w.output y _ (λ n. begins_same w.output))
 binary_grows (make p) x y w = whole_grows w.output x _ (λ n. make_grows p n y w)
 binary_grows (fetch p) x y w = array_grows w.output x w _ (λ r l. whole_grows w.output y _ (λ k. index_grows w.output p l k _ (λ j v. begins_same w.output)))
 
-store_grows : (p : Place) (x y z : Value) (w : World) → OptionGrows w.output (store_act p x y z w)
+ternary_grows : (o : Ternary) (x y z : Value) (w : World) → OptionGrows w.output (ternary_act o x y z w)
 unfolding OptionGrows ActGrows
-store_grows p x y z w = array_grows w.output x w _ (λ r l. whole_grows w.output y _ (λ k. index_grows w.output p l k _ (λ j v. begins_same w.output)))
+ternary_grows (store p) x y z w = array_grows w.output x w _ (λ r l. whole_grows w.output y _ (λ k. index_grows w.output p l k _ (λ j v. begins_same w.output)))
 
 read_grows : (p : Place) (i : List ℤ) (w : World) → ActGrows w.output (read_act p i w)
 unfolding ActGrows
@@ -184,7 +181,7 @@ step_grows _ _ _ (let_function f q b e w) = begins_same w.output
 step_grows _ _ _ (call_body f a u v b w h k m) = begins_same w.output
 step_grows _ _ _ (unary o e v w a h k) = done_grows w.output a (at_some w.output _ a (unary_grows o v w) k)
 step_grows _ _ _ (binary o d e u v w a h k m) = done_grows w.output a (at_some w.output _ a (binary_grows o u v w) m)
-step_grows _ _ _ (storing p d i e t u v w a h k l m) = done_grows w.output a (at_some w.output _ a (store_grows p t u v w) m)
+step_grows _ _ _ (ternary o d i e t u v w a h k l m) = done_grows w.output a (at_some w.output _ a (ternary_grows o t u v w) m)
 step_grows _ _ _ (and_value a b t w h) = begins_same w.output
 step_grows _ _ _ (or_value a b t w h) = begins_same w.output
 step_grows _ _ _ (branch c a b t w h) = begins_same w.output
@@ -196,14 +193,14 @@ TurnGrows : List ℤ → Turn → Type 0
 TurnGrows a (to s) = Begins a s.world.output
 TurnGrows a (over e) = Unit {0}
 
-next_grows : (q : Pattern) (is : List Item) (a : List ℤ) (o : Option Next) → ((n : Next) → o ≡ Some n → GrowsBy a n) → TurnGrows a (item_next q is o)
+next_grows : (q : Parameter) (is : List Item) (a : List ℤ) (o : Option Next) → ((n : Next) → o ≡ Some n → GrowsBy a n) → TurnGrows a (item_next q is o)
 unfolding TurnGrows GrowsBy
 next_grows q is a None h = tt
 next_grows q is a (Some (goes e w)) h = h (goes e w) refl
 next_grows q is a (Some (faults k p)) h = tt
 next_grows q is a (Some (ends p)) h = tt
 
-let_grows : (q : Pattern) (e : Core) (is : List Item) (w : World) (o : Option Value) → TurnGrows w.output (let_turn q e is w o)
+let_grows : (q : Parameter) (e : Core) (is : List Item) (w : World) (o : Option Value) → TurnGrows w.output (let_turn q e is w o)
 unfolding TurnGrows
 let_grows q e is w (Some v) = begins_same w.output
 let_grows q e is w None = next_grows q is w.output (step e w) (λ n h. step_grows e w n (step_to e w n h))

@@ -1,7 +1,6 @@
 -- The steps of a state give exactly what the functions give.
 use Rattle.std.proofs.Common.{◌≡◌, ℕ, zero, suc, List, [], ◌∷◌, Option, Some, None, refl, sym, ap, subst, ◌∙◌}
-use Rattle.lq_tree.specs.Pattern.{Pattern}
-use Rattle.lq_model.specs.Core.{Core, Value, as_value}
+use Rattle.lq_model.specs.Core.{Parameter, Core, Value, as_value}
 use Rattle.lq_model.specs.Operations.{World}
 use Rattle.lq_model.specs.Step.{Next, goes, faults, ends}
 use Rattle.lq_model.specs.StepFunction.{step}
@@ -13,7 +12,7 @@ use Rattle.lq_model.proofs.Adequate.{no_value}
 
 -- ---- one step
 
-item_from : (q : Pattern) (e : Core) (n : Next) (is : List Item) (w : World) → as_value e ≡ None → step e w ≡ Some n → turn_of (let_item q e ∷ is) w ≡ item_next q is (Some n)
+item_from : (q : Parameter) (e : Core) (n : Next) (is : List Item) (w : World) → as_value e ≡ None → step e w ≡ Some n → turn_of (let_item q e ∷ is) w ≡ item_next q is (Some n)
 item_from q e n is w h k = ap (let_turn q e is w) h ∙ ap (item_next q is) k
 
 turn_from : (s : State) (t : Turn) → Transition s t → turn s ≡ t
@@ -35,14 +34,14 @@ never_stuck _ _ (item_faults q e f p is w s) k = cc
 never_stuck _ _ (item_ends q e p is w s) k = cc
 
 -- a state with no row is stuck
-stuck_next : (q : Pattern) (e : Core) (is : List Item) (w : World) (o : Option Next) → step e w ≡ o → ((t : Turn) → Transition (state (let_item q e ∷ is) w) t → ⊥)
+stuck_next : (q : Parameter) (e : Core) (is : List Item) (w : World) (o : Option Next) → step e w ≡ o → ((t : Turn) → Transition (state (let_item q e ∷ is) w) t → ⊥)
     → item_next q is o ≡ over stuck
 stuck_next q e is w None h none = refl
 stuck_next q e is w (Some (goes d u)) h none = absurd (none _ (item_goes q e d is w u (step_to e w (goes d u) h)))
 stuck_next q e is w (Some (faults k p)) h none = absurd (none _ (item_faults q e k p is w (step_to e w (faults k p) h)))
 stuck_next q e is w (Some (ends p)) h none = absurd (none _ (item_ends q e p is w (step_to e w (ends p) h)))
 
-stuck_let : (q : Pattern) (e : Core) (is : List Item) (w : World) (o : Option Value) → as_value e ≡ o → ((t : Turn) → Transition (state (let_item q e ∷ is) w) t → ⊥)
+stuck_let : (q : Parameter) (e : Core) (is : List Item) (w : World) (o : Option Value) → as_value e ≡ o → ((t : Turn) → Transition (state (let_item q e ∷ is) w) t → ⊥)
     → let_turn q e is w o ≡ over stuck
 stuck_let q e is w None h none = stuck_next q e is w (step e w) refl none
 stuck_let q e is w (Some v) h none = absurd (none _ (define_value q e v is w h))
@@ -66,7 +65,7 @@ only_outcome _ _ _ (is_stuck n i is w none) = sym (outcome_after n (state (i ∷
 abbrev Reached : ℕ → Type 0
 Reached n = (s : State) → Reaches n s (outcome_from n s)
 
-reached_next : (n : ℕ) → Reached n → (q : Pattern) (e : Core) (is : List Item) (w : World) (o : Option Next) → as_value e ≡ None → step e w ≡ o
+reached_next : (n : ℕ) → Reached n → (q : Parameter) (e : Core) (is : List Item) (w : World) (o : Option Next) → as_value e ≡ None → step e w ≡ o
     → Reaches (suc n) (state (let_item q e ∷ is) w) (after_turn (item_next q is o) w (outcome_from n))
 reached_next n go q e is w (Some (goes d u)) h k = goes_on n _ _ _ (item_goes q e d is w u (step_to e w (goes d u) k)) (go (state (let_item q d ∷ is) u))
 reached_next n go q e is w (Some (faults f p)) h k = breaks_off n _ _ (item_faults q e f p is w (step_to e w (faults f p) k))
@@ -75,7 +74,7 @@ reached_next n go q e is w None h k =
     is_stuck n (let_item q e) is w (λ t r.
     never_stuck _ t r (sym (turn_from _ t r) ∙ ap (let_turn q e is w) h ∙ ap (item_next q is) k))
 
-reached_let : (n : ℕ) → Reached n → (q : Pattern) (e : Core) (is : List Item) (w : World) (o : Option Value) → as_value e ≡ o
+reached_let : (n : ℕ) → Reached n → (q : Parameter) (e : Core) (is : List Item) (w : World) (o : Option Value) → as_value e ≡ o
     → Reaches (suc n) (state (let_item q e ∷ is) w) (after_turn (let_turn q e is w o) w (outcome_from n))
 reached_let n go q e is w (Some v) h = goes_on n _ _ _ (define_value q e v is w h) (go (state (defined q v is) w))
 reached_let n go q e is w None h = reached_next n go q e is w (step e w) h refl

@@ -1,10 +1,9 @@
 -- Closing: one after another, by the same values, by none.
 use Rattle.std.proofs.Common.{◌≡◌, ℕ, Bool, true, false, ◌==◌, if◌then◌else◌, List, [], ◌∷◌, ◌++◌, Option, Some, None, refl, sym, ap, ap₂, ◌∙◌}
 use Rattle.std.specs.List.{list_any}
-use Rattle.std.proofs.lemmas.Bool.{eqb-true}
-use Rattle.lq_tree.specs.Pattern.{bound_in}
-use Rattle.lq_model.specs.Core.{Core, val, use_of, fun, row, let_in, let_rec, call, one, two, store, and_of, or_of, if_else, match_on, seq, assert_false, Cores, none, more, Arms, no_arms, more_arms, Value, Pairs, value_in, without, replaced, close, close_all, close_arms}
+use Rattle.lq_model.specs.Core.{variables_of, bound_in, Core, val, use_of, fun, row, let_in, let_rec, call, one, two, three, and_of, or_of, if_else, match_on, seq, assert_false, Cores, none, more, Arms, no_arms, more_arms, Value, Pairs, value_in, without, replaced, close, close_all, close_arms}
 use Rattle.lq_model.specs.Laws.{SameIn}
+use Rattle.lq_model.specs.Leaving.{unless, value_in-without}
 
 pub ap₃ : {A B C D : Type 0} (f : A → B → C → D) {a a' : A} {b b' : B} {c c' : C} → a ≡ a' → b ≡ b' → c ≡ c' → f a b c ≡ f a' b' c'
 ap₃ f {a' = a'} {b = b} {b' = b'} {c = c} e h i = ap (λ x. f x b c) e ∙ ap (λ x. f a' x c) h ∙ ap (f a' b') i
@@ -48,7 +47,7 @@ mutual
   close-close (call f a) d g = ap₂ call (close-close f d g) (close-close a d g)
   close-close (one o e) d g = ap (one o) (close-close e d g)
   close-close (two o a b) d g = ap₂ (two o) (close-close a d g) (close-close b d g)
-  close-close (store p a i e) d g = ap₃ (store p) (close-close a d g) (close-close i d g) (close-close e d g)
+  close-close (three o a b c) d g = ap₃ (three o) (close-close a d g) (close-close b d g) (close-close c d g)
   close-close (and_of a b) d g = ap₂ and_of (close-close a d g) (close-close b d g)
   close-close (or_of a b) d g = ap₂ or_of (close-close a d g) (close-close b d g)
   close-close (if_else c a b) d g = ap₃ if_else (close-close c d g) (close-close a d g) (close-close b d g)
@@ -63,37 +62,12 @@ mutual
   pub close_arms-close : (cs : Arms) (d g : Pairs) → close_arms g (close_arms d cs) ≡ close_arms (d ++ g) cs
   close_arms-close no_arms d g = refl
   close_arms-close (more_arms q e cs) d g =
-      ap₂ (more_arms q) (body_close (bound_in q) e d g (close-close e (without (bound_in q) d) (without (bound_in q) g))) (close_arms-close cs d g)
+      ap₂ (more_arms q) (body_close (variables_of q) e d g (close-close e (without (variables_of q) d) (without (variables_of q) g))) (close_arms-close cs d g)
 
 pub in_body : (xs : List ℕ) (d g : Pairs) (b : Core) → close (without xs g) (close (without xs d) b) ≡ close (without xs (d ++ g)) b
 in_body xs d g b = body_close xs b d g (close-close b (without xs d) (without xs g))
 
 -- ---- by the same values
-
--- what is left of a value where the variable is among those that are left out
-abbrev pub unless : Bool → Option Value → Option Value
-unless b o = if b then None else o
-
-pub value_in-without : (xs : List ℕ) (ps : Pairs) (k : ℕ) → value_in (without xs ps) k ≡ unless (list_any (λ x. x == k) xs) (value_in ps k)
-value_in-without xs [] k = nothing (list_any (λ x. x == k) xs)
-  where
-    nothing : (b : Bool) → None ≡ unless b None
-    nothing true = refl
-    nothing false = refl
-value_in-without xs (p ∷ ps) k = by (list_any (λ x. x == p.0) xs) (p.0 == k) refl refl (value_in-without xs ps k)
-  where
-    by : (out here : Bool) → list_any (λ x. x == p.0) xs ≡ out → (p.0 == k) ≡ here → value_in (without xs ps) k ≡ unless (list_any (λ x. x == k) xs) (value_in ps k)
-        → value_in (if out then without xs ps else p ∷ without xs ps) k ≡ unless (list_any (λ x. x == k) xs) (if here then Some p.1 else value_in ps k)
-    by true true o h rest =
-        let e : p.0 ≡ k = eqb-true p.0 k h in
-        let out : list_any (λ x. x == k) xs ≡ true = sym (ap (λ j. list_any (λ x. x == j) xs) e) ∙ o in
-        rest ∙ ap (λ b. unless b (value_in ps k)) out ∙ sym (ap (λ b. unless b (Some p.1)) out)
-    by true false o h rest = rest
-    by false true o h rest =
-        let e : p.0 ≡ k = eqb-true p.0 k h in
-        let out : list_any (λ x. x == k) xs ≡ false = sym (ap (λ j. list_any (λ x. x == j) xs) e) ∙ o in
-        ap (λ b. if b then Some p.1 else value_in (without xs ps) k) h ∙ sym (ap (λ b. unless b (Some p.1)) out)
-    by false false o h rest = ap (λ b. if b then Some p.1 else value_in (without xs ps) k) h ∙ rest
 
 pub same_without : (xs : List ℕ) (d g : Pairs) → SameIn d g → SameIn (without xs d) (without xs g)
 same_without xs d g h k = value_in-without xs d k ∙ ap (unless (list_any (λ x. x == k) xs)) (h k) ∙ sym (value_in-without xs g k)
@@ -111,7 +85,7 @@ mutual
   close-same (call f a) d g h = ap₂ call (close-same f d g h) (close-same a d g h)
   close-same (one o e) d g h = ap (one o) (close-same e d g h)
   close-same (two o a b) d g h = ap₂ (two o) (close-same a d g h) (close-same b d g h)
-  close-same (store p a i e) d g h = ap₃ (store p) (close-same a d g h) (close-same i d g h) (close-same e d g h)
+  close-same (three o a b c) d g h = ap₃ (three o) (close-same a d g h) (close-same b d g h) (close-same c d g h)
   close-same (and_of a b) d g h = ap₂ and_of (close-same a d g h) (close-same b d g h)
   close-same (or_of a b) d g h = ap₂ or_of (close-same a d g h) (close-same b d g h)
   close-same (if_else c a b) d g h = ap₃ if_else (close-same c d g h) (close-same a d g h) (close-same b d g h)
@@ -126,7 +100,7 @@ mutual
   pub close_arms-same : (cs : Arms) (d g : Pairs) → SameIn d g → close_arms d cs ≡ close_arms g cs
   close_arms-same no_arms d g h = refl
   close_arms-same (more_arms q e cs) d g h =
-      ap₂ (more_arms q) (close-same e (without (bound_in q) d) (without (bound_in q) g) (same_without (bound_in q) d g h)) (close_arms-same cs d g h)
+      ap₂ (more_arms q) (close-same e (without (variables_of q) d) (without (variables_of q) g) (same_without (variables_of q) d g h)) (close_arms-same cs d g h)
 
 -- ---- by none
 
@@ -141,7 +115,7 @@ mutual
   close-none (call f a) = ap₂ call (close-none f) (close-none a)
   close-none (one o e) = ap (one o) (close-none e)
   close-none (two o a b) = ap₂ (two o) (close-none a) (close-none b)
-  close-none (store p a i e) = ap₃ (store p) (close-none a) (close-none i) (close-none e)
+  close-none (three o a b c) = ap₃ (three o) (close-none a) (close-none b) (close-none c)
   close-none (and_of a b) = ap₂ and_of (close-none a) (close-none b)
   close-none (or_of a b) = ap₂ or_of (close-none a) (close-none b)
   close-none (if_else c a b) = ap₃ if_else (close-none c) (close-none a) (close-none b)

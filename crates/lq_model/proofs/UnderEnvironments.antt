@@ -1,10 +1,9 @@
 -- The meaning goes by the values of the environment alone, and a closing is an environment in front.
 use Rattle.std.proofs.Common.{◌≡◌, ℕ, Bool, true, false, if◌then◌else◌, List, [], ◌∷◌, ◌++◌, Option, Some, None, ◌==◌, refl, sym, ap, ◌∙◌, append_assoc}
 use Rattle.lq_name.specs.declared.place.Place.{Place}
-use Rattle.lq_tree.specs.Pattern.{Pattern, pattern, any, bind, nothing, tuple_of, build_of, bound_in}
 use Rattle.lq_model.specs.declared.fault.FaultKind.TheVariants.{NoCase}
-use Rattle.lq_model.specs.Core.{Core, val, use_of, fun, row, let_in, let_rec, call, one, two, store, and_of, or_of, if_else, match_on, seq, assert_false, Cores, none, more, Arms, no_arms, more_arms, Value, v_whole, v_flag, v_unit, v_fun, v_rec, v_tuple, v_build, v_array, Values, more_values, Pairs, value_in, without, replaced, close, close_all, close_arms, row_value}
-use Rattle.lq_model.specs.Operations.{World, fits, fits_form}
+use Rattle.lq_model.specs.Core.{Pattern, variables_of, Parameter, ignored, variable, empty, matched, bound_in, Core, val, use_of, fun, row, let_in, let_rec, call, one, two, three, and_of, or_of, if_else, match_on, seq, assert_false, Cores, none, more, Arms, no_arms, more_arms, Value, v_whole, v_flag, v_unit, v_fun, v_rec, v_tuple, v_build, v_array, Values, more_values, Pairs, value_in, without, replaced, close, close_all, close_arms, row_value}
+use Rattle.lq_model.specs.Operations.{World, fits}
 use Rattle.lq_model.specs.Meaning.{Answer, comes, fails, runs_out, too_deep, gets_stuck, and_then, looked_up, on_truth, choose, fitting, with_parameter, eval, eval_all, eval_arms, call_meaning}
 use Rattle.lq_model.specs.Laws.{SameIn, ArePairsOf, MeansAlike, MeansClosed}
 use Rattle.lq_model.proofs.Substitution.{in_body, close-same, same_without}
@@ -38,19 +37,16 @@ choose_same false f g other last w h k = k
 
 -- two environments behind a pattern's values
 fitting_same : (q : Pattern) (v : Value) (o : Option Pairs) → fits q v ≡ o → (d g : Pairs) (go to : Pairs → World → Answer) (other last : World → Answer) (w : World)
-    → ((ps : Pairs) → ArePairsOf (bound_in q) ps → go (ps ++ d) w ≡ to (ps ++ g) w) → other w ≡ last w → fitting o d go other w ≡ fitting o g to last w
+    → ((ps : Pairs) → ArePairsOf (variables_of q) ps → go (ps ++ d) w ≡ to (ps ++ g) w) → other w ≡ last w → fitting o d go other w ≡ fitting o g to last w
 fitting_same q v None is d g go to other last w h k = k
 fitting_same q v (Some ps) is d g go to other last w h k = h ps (fits_binds q v ps is)
 
-parameter_same : (q : Pattern) (v : Value) (d g : Pairs) (go to : Pairs → World → Answer) (w : World)
+parameter_same : (q : Parameter) (v : Value) (d g : Pairs) (go to : Pairs → World → Answer) (w : World)
     → ((ps : Pairs) → ArePairsOf (bound_in q) ps → go (ps ++ d) w ≡ to (ps ++ g) w) → with_parameter q v d go w ≡ with_parameter q v g to w
-parameter_same (pattern p any) v d g go to w h = h [] (λ x. refl)
-parameter_same (pattern p nothing) v d g go to w h = h [] (λ x. refl)
-parameter_same (pattern p (bind x)) v d g go to w h = h ((x, v) ∷ []) (pair_of x v)
-parameter_same (pattern p (tuple_of qs)) v d g go to w h =
-    fitting_same (pattern p (tuple_of qs)) v (fits_form (tuple_of qs) v) refl d g go to (fails NoCase p) (fails NoCase p) w h refl
-parameter_same (pattern p (build_of c n qs)) v d g go to w h =
-    fitting_same (pattern p (build_of c n qs)) v (fits_form (build_of c n qs) v) refl d g go to (fails NoCase p) (fails NoCase p) w h refl
+parameter_same ignored v d g go to w h = h [] (λ x. refl)
+parameter_same empty v d g go to w h = h [] (λ x. refl)
+parameter_same (variable x) v d g go to w h = h ((x, v) ∷ []) (pair_of x v)
+parameter_same (matched p q) v d g go to w h = fitting_same q v (fits q v) refl d g go to (fails NoCase p) (fails NoCase p) w h refl
 
 -- ---- environments with the same values
 
@@ -60,7 +56,7 @@ same_front ps d g h k = value_in-append ps d k ∙ ap (or_else (value_in ps k)) 
 same_more : (x : ℕ) (v : Value) (d g : Pairs) → SameIn d g → SameIn ((x, v) ∷ d) ((x, v) ∷ g)
 same_more x v d g h = same_front ((x, v) ∷ []) d g h
 
-function_same : (f : ℕ) (q : Pattern) (b : Core) (d g : Pairs) → SameIn d g
+function_same : (f : ℕ) (q : Parameter) (b : Core) (d g : Pairs) → SameIn d g
     → v_rec f q (close (without (f ∷ bound_in q) d) b) ≡ v_rec f q (close (without (f ∷ bound_in q) g) b)
 function_same f q b d g h = ap (v_rec f q) (close-same b (without (f ∷ bound_in q) d) (without (f ∷ bound_in q) g) (same_without (f ∷ bound_in q) d g h))
 
@@ -85,7 +81,7 @@ module _ (called : Value → Value → World → Answer) where
     eval-same (call f a) d g w h = then_both _ _ _ _ (eval-same f d g w h) (λ c u. then_both _ _ _ _ (eval-same a d g u h) (λ v t. refl))
     eval-same (one o e) d g w h = then_both _ _ _ _ (eval-same e d g w h) (λ v u. refl)
     eval-same (two o a b) d g w h = then_both _ _ _ _ (eval-same a d g w h) (λ x u. then_both _ _ _ _ (eval-same b d g u h) (λ y t. refl))
-    eval-same (store p a i e) d g w h =
+    eval-same (three o a i e) d g w h =
         then_both _ _ _ _ (eval-same a d g w h) (λ x u. then_both _ _ _ _ (eval-same i d g u h) (λ y t. then_both _ _ _ _ (eval-same e d g t h) (λ z s. refl)))
     eval-same (and_of a b) d g w h =
         then_both _ _ _ _ (eval-same a d g w h) (λ x u. truth_same x _ _ u (λ t. choose_same t (λ r. eval called b d r) (λ r. eval called b g r) (comes (v_flag false)) (comes (v_flag false)) u (eval-same b d g u h) refl))
@@ -135,7 +131,7 @@ module _ (called : Value → Value → World → Answer) where
     eval-close (call f a) d g w = then_both _ _ _ _ (eval-close f d g w) (λ c u. then_both _ _ _ _ (eval-close a d g u) (λ v t. refl))
     eval-close (one o e) d g w = then_both _ _ _ _ (eval-close e d g w) (λ v u. refl)
     eval-close (two o a b) d g w = then_both _ _ _ _ (eval-close a d g w) (λ x u. then_both _ _ _ _ (eval-close b d g u) (λ y t. refl))
-    eval-close (store p a i e) d g w =
+    eval-close (three o a i e) d g w =
         then_both _ _ _ _ (eval-close a d g w) (λ x u. then_both _ _ _ _ (eval-close i d g u) (λ y t. then_both _ _ _ _ (eval-close e d g t) (λ z s. refl)))
     eval-close (and_of a b) d g w =
         then_both _ _ _ _ (eval-close a d g w) (λ x u. truth_same x _ _ u (λ t. choose_same t (λ r. eval called (close d b) g r) (λ r. eval called b (d ++ g) r) (comes (v_flag false)) (comes (v_flag false)) u (eval-close b d g u) refl))
@@ -155,8 +151,8 @@ module _ (called : Value → Value → World → Answer) where
     pub arms-close : (cs : Arms) (p : Place) (v : Value) (d g : Pairs) (w : World) → eval_arms called p (close_arms d cs) v g w ≡ eval_arms called p cs v (d ++ g) w
     arms-close no_arms p v d g w = refl
     arms-close (more_arms q e cs) p v d g w =
-        fitting_same q v (fits q v) refl g (d ++ g) (λ env u. eval called (close (without (bound_in q) d) e) env u) (λ env u. eval called e env u) (λ u. eval_arms called p (close_arms d cs) v g u) (λ u. eval_arms called p cs v (d ++ g) u) w
-        (λ ps k. eval-close e (without (bound_in q) d) (ps ++ g) w ∙ eval-same e (without (bound_in q) d ++ (ps ++ g)) (ps ++ (d ++ g)) w (same_left_out (bound_in q) ps d g k)) (arms-close cs p v d g w)
+        fitting_same q v (fits q v) refl g (d ++ g) (λ env u. eval called (close (without (variables_of q) d) e) env u) (λ env u. eval called e env u) (λ u. eval_arms called p (close_arms d cs) v g u) (λ u. eval_arms called p cs v (d ++ g) u) w
+        (λ ps k. eval-close e (without (variables_of q) d) (ps ++ g) w ∙ eval-same e (without (variables_of q) d ++ (ps ++ g)) (ps ++ (d ++ g)) w (same_left_out (variables_of q) ps d g k)) (arms-close cs p v d g w)
 
 pub means_alike : MeansAlike
 means_alike n e d g w h = eval-same (call_meaning n) e d g w h

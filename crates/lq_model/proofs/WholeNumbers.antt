@@ -7,9 +7,8 @@ use Rattle.std.proofs.lemmas.Bool.Decides.{Decides-int_eq}
 use Rattle.std.proofs.Math.Nat.{mod-le}
 use Rattle.std.proofs.lemmas.Int.{quot-rem, rem_below, ints}
 use Rattle.lq_name.specs.declared.place.Place.{Place}
-use Rattle.lq_tree.specs.Pattern.{pattern, nothing}
 use Rattle.lq_model.specs.declared.fault.FaultKind.TheVariants.{ZeroDivisor}
-use Rattle.lq_model.specs.Core.{v_whole, print}
+use Rattle.lq_model.specs.Core.{empty, v_whole, print}
 use Rattle.lq_model.specs.Operations as act
 use Rattle.lq_model.specs.Operations.{World}
 use Rattle.lq_model.specs.Step.{done, in_one, within}
@@ -22,7 +21,7 @@ have_no_bound m n p input = ((3, refl), (4, refl), (4, refl), (4, refl), (4, ref
 -- one of two acts, printed
 print_if : (b : Bool) (p : Place) (q : ℤ) (input : List ℤ) → b ≡ false
     → (let w : World = record { arrays = []; input = input; output = [] } in
-    after_turn (item_next (pattern p nothing) [] (Some (within (in_one print) (done (if b then act.faults ZeroDivisor p else act.gives (v_whole q) w))))) w (outcome_from 3)
+    after_turn (item_next empty [] (Some (within (in_one print) (done (if b then act.faults ZeroDivisor p else act.gives (v_whole q) w))))) w (outcome_from 3)
     ≡ record { ending = finished; output = q ∷ [] })
 print_if true p q input h = cc
 print_if false p q input h = refl

@@ -1,11 +1,9 @@
--- What the meaning of a program speaks of: values, and expressions in which values may stand. A variable is the number of its binder,
--- a constructor that of its name. A place is kept only where an expression can fault or end the input.
-use Rattle.std.specs.Prelude.{ℕ, ℤ, Bool, List, [], ◌∷◌, Option, Some, None, if◌then◌else◌, ◌==◌}
+-- What the meaning of a program speaks of: patterns, values, and expressions in which values may stand. A variable is the number of its
+-- binder, a constructor that of its name. A place is kept only where something can fault or end the input.
+use Rattle.std.specs.Prelude.{ℕ, ℤ, Bool, List, [], ◌∷◌, ◌++◌, Option, Some, None, if◌then◌else◌, ◌==◌}
 use Rattle.std.specs.List.{list_any}
-use Rattle.lq_name.specs.declared.operation.ArithOp.{ArithOp}
 use Rattle.lq_name.specs.declared.operation.CompareOp.{CompareOp}
 use Rattle.lq_name.specs.declared.place.Place.{Place}
-use Rattle.lq_tree.specs.Pattern.{Pattern, bound_in}
 
 -- an operation on one value: the negative, `not`, `assert`, `Array.length`, `print_int`, `read_int`
 pub data Operation : Type 0 where
@@ -16,12 +14,24 @@ pub data Operation : Type 0 where
   print : Operation
   read : Place → Operation
 
+-- arithmetic: a quotient and a remainder can fault
+pub data Arithmetic : Type 0 where
+  sum : Arithmetic
+  difference : Arithmetic
+  product : Arithmetic
+  quotient : Place → Arithmetic
+  remainder : Place → Arithmetic
+
 -- an operation on two values: arithmetic, comparisons, `Array.make`, `a.(i)`
 pub data Binary : Type 0 where
-  arithmetic : ArithOp → Place → Binary
+  arithmetic : Arithmetic → Binary
   comparison : CompareOp → Binary
   make : Place → Binary
   fetch : Place → Binary
+
+-- an operation on three values: `a.(i) <- e`
+pub data Ternary : Type 0 where
+  store : Place → Ternary
 
 -- a form whose parts are a row: a tuple, a constructor, a list literal
 pub data Row : Type 0 where
@@ -30,18 +40,57 @@ pub data Row : Type 0 where
   list_of : Row
 
 mutual
+  pub data Pattern : Type 0 where
+    -- `_`, a variable, `()`, a tuple, a constructor
+    any : Pattern
+    bind : ℕ → Pattern
+    nothing : Pattern
+    tuple_of : Patterns → Pattern
+    build_of : ℕ → Patterns → Pattern
+
+  pub data Patterns : Type 0 where
+    no_patterns : Patterns
+    more_patterns : Pattern → Patterns → Patterns
+
+-- the variables that a pattern binds, from left to right
+abbrev mutual
+  pub variables_of : Pattern → List ℕ
+  variables_of any = []
+  variables_of (bind x) = x ∷ []
+  variables_of nothing = []
+  variables_of (tuple_of qs) = variables_of_all qs
+  variables_of (build_of c qs) = variables_of_all qs
+
+  pub variables_of_all : Patterns → List ℕ
+  variables_of_all no_patterns = []
+  variables_of_all (more_patterns q qs) = variables_of q ++ variables_of_all qs
+
+-- What a function or a definition takes a value by: `_`, a variable, `()`, or a pattern that the value is matched against at a place.
+pub data Parameter : Type 0 where
+  ignored : Parameter
+  variable : ℕ → Parameter
+  empty : Parameter
+  matched : Place → Pattern → Parameter
+
+abbrev pub bound_in : Parameter → List ℕ
+bound_in ignored = []
+bound_in (variable x) = x ∷ []
+bound_in empty = []
+bound_in (matched p q) = variables_of q
+
+mutual
   pub data Core : Type 0 where
     val : Value → Core
     use_of : ℕ → Core
-    fun : Pattern → Core → Core
+    fun : Parameter → Core → Core
     row : Row → Cores → Core
-    let_in : Pattern → Core → Core → Core
+    let_in : Parameter → Core → Core → Core
     -- `let rec f = fun q -> b in e`: the name f, the parameter q, the function's body b, and the expression e behind it
-    let_rec : ℕ → Pattern → Core → Core → Core
+    let_rec : ℕ → Parameter → Core → Core → Core
     call : Core → Core → Core
     one : Operation → Core → Core
     two : Binary → Core → Core → Core
-    store : Place → Core → Core → Core → Core
+    three : Ternary → Core → Core → Core → Core
     and_of : Core → Core → Core
     or_of : Core → Core → Core
     if_else : Core → Core → Core → Core
@@ -62,8 +111,8 @@ mutual
     v_whole : ℤ → Value
     v_flag : Bool → Value
     v_unit : Value
-    v_fun : Pattern → Core → Value
-    v_rec : ℕ → Pattern → Core → Value
+    v_fun : Parameter → Core → Value
+    v_rec : ℕ → Parameter → Core → Value
     v_tuple : Values → Value
     v_build : ℕ → Values → Value
     v_array : ℕ → ℕ → Value
@@ -89,7 +138,7 @@ abbrev pub replaced : ℕ → Option Value → Core
 replaced x None = use_of x
 replaced x (Some v) = val v
 
--- The expression with closed values in the place of variables, all at once. What a pattern binds in its body, and a recursive function
+-- The expression with closed values in the place of variables, all at once. What a parameter binds in its body, and a recursive function
 -- in both of its parts, isn't replaced there. A value in the expression is closed, and stays.
 abbrev mutual
   pub close : Pairs → Core → Core
@@ -102,7 +151,7 @@ abbrev mutual
   close ps (call f a) = call (close ps f) (close ps a)
   close ps (one o e) = one o (close ps e)
   close ps (two o a b) = two o (close ps a) (close ps b)
-  close ps (store p a i e) = store p (close ps a) (close ps i) (close ps e)
+  close ps (three o a b c) = three o (close ps a) (close ps b) (close ps c)
   close ps (and_of a b) = and_of (close ps a) (close ps b)
   close ps (or_of a b) = or_of (close ps a) (close ps b)
   close ps (if_else c a b) = if_else (close ps c) (close ps a) (close ps b)
@@ -116,7 +165,7 @@ abbrev mutual
 
   pub close_arms : Pairs → Arms → Arms
   close_arms ps no_arms = no_arms
-  close_arms ps (more_arms q e cs) = more_arms q (close (without (bound_in q) ps) e) (close_arms ps cs)
+  close_arms ps (more_arms q e cs) = more_arms q (close (without (variables_of q) ps) e) (close_arms ps cs)
 
 -- a list of these values: `[]` is the constructor 7 and `::` the constructor 8 of every name table
 abbrev pub list_value : Values → Value
@@ -149,7 +198,7 @@ abbrev mutual
   as_value (call f a) = None
   as_value (one o e) = None
   as_value (two o a b) = None
-  as_value (store p a i e) = None
+  as_value (three o a b c) = None
   as_value (and_of a b) = None
   as_value (or_of a b) = None
   as_value (if_else c a b) = None

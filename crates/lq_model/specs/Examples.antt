@@ -1,5 +1,6 @@
 -- Small programs, what their first steps give, and what they mean.
 use Rattle.std.specs.Prelude.{◌≡◌, ℕ, ℤ, pos, negsuc, false, List, [], ◌∷◌}
+use Rattle.lq_name.specs.declared.operation.ArithOp.{ArithOp}
 use Rattle.lq_name.specs.declared.operation.ArithOp.TheVariants as op
 use Rattle.lq_name.specs.declared.operation.CompareOp.{CompareOp}
 use Rattle.lq_name.specs.declared.operation.CompareOp.TheVariants as test
@@ -9,7 +10,7 @@ use Rattle.lq_tree.specs.declared.expr.Arguments.TheVariants.{Apart}
 use Rattle.lq_tree.specs.Items.{ItemTree, ItemForm, let_of, let_rec_of}
 use Rattle.lq_tree.specs.Pattern.{Pattern, pattern, any, bind, nothing, tuple_of, build_of, no_patterns, more_patterns}
 use Rattle.lq_tree.specs.Tree as form
-use Rattle.lq_tree.specs.Tree.{Tree, tree, Form, no_trees, more_trees, no_cases, more_cases}
+use Rattle.lq_tree.specs.Tree.{Tree, tree, Form, Trees, no_trees, more_trees, no_cases, more_cases}
 use Rattle.lq_model.specs.declared.fault.FaultKind.TheVariants.{AssertFailed, OutOfBounds, ZeroDivisor, NegativeLength, NoCase}
 use Rattle.lq_model.specs.FromTree.{items_of}
 use Rattle.lq_model.specs.Meaning.{program_meaning}
@@ -271,3 +272,68 @@ stored_at i =
 -- a store at the last index, and one at the length
 abbrev pub StoreExample : Type 0
 StoreExample = Gives (stored_at (pos 1) ∷ []) [] finished (pos 7 ∷ []) × Gives (stored_at (pos 2) ∷ []) [] (fault OutOfBounds (at 5)) []
+
+-- ---- the order of parts
+
+-- `print_int n; e`
+abbrev pub said : ℤ → Tree → Tree
+said n e = chained (plain (form.print (number n))) e
+
+-- `print_int ((print_int 1; 7) + (print_int 2; 2))`, and so on: the left operand comes first
+abbrev pub calculated : ArithOp → ItemTree
+calculated o = printed (plain (form.arithmetic o (said (pos 1) (number (pos 7))) (said (pos 2) (number (pos 2)))))
+
+abbrev pub OperandsExample : Type 0
+OperandsExample =
+    Gives (calculated op.Add ∷ calculated op.Sub ∷ []) [] finished (pos 1 ∷ pos 2 ∷ pos 9 ∷ pos 1 ∷ pos 2 ∷ pos 5 ∷ [])
+    × Gives (calculated op.Mul ∷ calculated op.Div ∷ calculated op.Mod ∷ []) [] finished
+    (pos 1 ∷ pos 2 ∷ pos 14 ∷ pos 1 ∷ pos 2 ∷ pos 3 ∷ pos 1 ∷ pos 2 ∷ pos 1 ∷ [])
+
+-- of a comparison too: `if (print_int 1; 7) < (print_int 2; 2) then 1 else 0`
+abbrev pub ComparedExample : Type 0
+ComparedExample =
+    Gives (printed (plain (form.if_else (plain (form.compare test.Lt (said (pos 1) (number (pos 7))) (said (pos 2) (number (pos 2))))) (number (pos 1)) (number (pos 0)))) ∷ [])
+    [] finished (pos 1 ∷ pos 2 ∷ pos 0 ∷ [])
+
+-- `Array.length (Array.make (print_int 1; 3) (print_int 2; 0))`: the length before the element
+abbrev pub MadeExample : Type 0
+MadeExample =
+    Gives (printed (plain (form.length_of (plain (form.make (said (pos 1) (number (pos 3))) (said (pos 2) (number (pos 0))))))) ∷ []) [] finished (pos 1 ∷ pos 2 ∷ pos 3 ∷ [])
+
+-- `(print_int 1; Array.make 1 7).(print_int 2; 0)`: the array before the index; and before what is stored
+abbrev pub seven : Tree
+seven = plain (form.make (number (pos 1)) (number (pos 7)))
+
+abbrev pub FetchedExample : Type 0
+FetchedExample = Gives (printed (plain (form.fetch (said (pos 1) seven) (said (pos 2) (number (pos 0))))) ∷ []) [] finished (pos 1 ∷ pos 2 ∷ pos 7 ∷ [])
+
+abbrev pub StoredExample : Type 0
+StoredExample =
+    Gives (run (plain (form.store (said (pos 1) seven) (said (pos 2) (number (pos 0))) (said (pos 3) (number (pos 5))))) ∷ []) [] finished (pos 1 ∷ pos 2 ∷ pos 3 ∷ [])
+
+-- two parts that print 1 and 2
+abbrev pub two_parts : Trees
+two_parts = more_trees (said (pos 1) (number (pos 0))) (more_trees (said (pos 2) (plain (form.list_of no_trees))) no_trees)
+
+-- `e; ()`
+abbrev pub dropped : Form → ItemTree
+dropped f = run (chained (plain f) (plain form.unit))
+
+-- the parts of a tuple, a constructor and a list literal from left to right
+abbrev pub PartsExample : Type 0
+PartsExample =
+    Gives (dropped (form.tuple two_parts) ∷ []) [] finished (pos 1 ∷ pos 2 ∷ [])
+    × Gives (dropped (form.build 8 Apart two_parts) ∷ []) [] finished (pos 1 ∷ pos 2 ∷ [])
+    × Gives (dropped (form.list_of two_parts) ∷ []) [] finished (pos 1 ∷ pos 2 ∷ [])
+
+-- `(print_int 1; fun x -> x) (print_int 2; 3)`: the function before its argument
+abbrev pub AppliedExample : Type 0
+AppliedExample =
+    Gives (printed (plain (form.call (said (pos 1) (plain (form.fun (variable 0) (name 0)))) (said (pos 2) (number (pos 3))))) ∷ []) [] finished (pos 1 ∷ pos 2 ∷ pos 3 ∷ [])
+
+-- `let rec f f = f`, `print_int (f 5)`: a parameter hides the function's own name; and so within an expression
+abbrev pub OwnNameExample : Type 0
+OwnNameExample =
+    Gives (item (let_rec_of 0 (record { id = 0; place = at 0; parameter = variable 0; body = name 0 })) ∷ printed (plain (form.call (name 0) (number (pos 5)))) ∷ [])
+    [] finished (pos 5 ∷ [])
+    × Gives (printed (plain (form.let_rec 0 0 (at 0) (variable 0) (name 0) (plain (form.call (name 0) (number (pos 5)))))) ∷ []) [] finished (pos 5 ∷ [])

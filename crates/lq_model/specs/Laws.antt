@@ -1,8 +1,7 @@
 -- The laws of the meaning.
 use Rattle.std.specs.Prelude.{◌≡◌, ◌↔◌, ℕ, ◌+◌, ◌≤◌, ℤ, ◌==◌, List, [], ◌∷◌, ◌++◌, length, Some, None, is_some}
 use Rattle.std.specs.List.{list_any}
-use Rattle.lq_tree.specs.Pattern.{Pattern, bound_in}
-use Rattle.lq_model.specs.Core.{Core, Value, Pairs, value_in, without, close, as_value}
+use Rattle.lq_model.specs.Core.{Pattern, variables_of, Core, Value, Pairs, value_in, without, close, as_value}
 use Rattle.lq_model.specs.Operations.{World, fits}
 use Rattle.lq_model.specs.Step.{Next, Step, Frame, plug, IsReady}
 use Rattle.lq_model.specs.StepFunction.{inside, step}
@@ -97,7 +96,7 @@ abbrev pub ClosesBehind : Type 0
 ClosesBehind = (xs : List ℕ) (ps env : Pairs) (e : Core) → ArePairsOf xs ps → close ps (close (without xs env) e) ≡ close (ps ++ env) e
 
 abbrev pub FitsBinds : Type 0
-FitsBinds = (q : Pattern) (v : Value) (ps : Pairs) → fits q v ≡ Some ps → ArePairsOf (bound_in q) ps
+FitsBinds = (q : Pattern) (v : Value) (ps : Pairs) → fits q v ≡ Some ps → ArePairsOf (variables_of q) ps
 
 -- the same of the items of a program
 abbrev pub ItemsCloseTwice : Type 0

@@ -10,3 +10,6 @@ pub mod Laws
 pub mod Adequacy
 pub mod Numbers
 pub mod Examples
+pub mod Leaving
+pub mod Outcomes
+pub mod Places

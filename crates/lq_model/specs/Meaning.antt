@@ -2,12 +2,11 @@
 -- steps.
 use Rattle.std.specs.Prelude.{ℕ, zero, suc, ℤ, Bool, true, false, List, [], ◌∷◌, ◌++◌, Option, Some, None}
 use Rattle.lq_name.specs.declared.place.Place.{Place}
-use Rattle.lq_tree.specs.Pattern.{Pattern, pattern, any, bind, nothing, tuple_of, build_of, bound_in, bound_in_all}
 use Rattle.lq_model.specs.declared.fault.FaultKind.{FaultKind}
 use Rattle.lq_model.specs.declared.fault.FaultKind.TheVariants.{AssertFailed, NoCase}
-use Rattle.lq_model.specs.Core.{Core, val, use_of, fun, row, let_in, let_rec, call, one, two, store, and_of, or_of, if_else, match_on, seq, assert_false, Cores, none, more, Arms, no_arms, more_arms, Value, v_flag, v_unit, v_fun, v_rec, Values, no_values, more_values, Pairs, value_in, without, close, row_value}
+use Rattle.lq_model.specs.Core.{variables_of, Parameter, ignored, variable, empty, matched, bound_in, Core, val, use_of, fun, row, let_in, let_rec, call, one, two, three, and_of, or_of, if_else, match_on, seq, assert_false, Cores, none, more, Arms, no_arms, more_arms, Value, v_flag, v_unit, v_fun, v_rec, Values, no_values, more_values, Pairs, value_in, without, close, row_value}
 use Rattle.lq_model.specs.Operations as act
-use Rattle.lq_model.specs.Operations.{World, Act, unary_act, binary_act, store_act, fits_form, fits}
+use Rattle.lq_model.specs.Operations.{World, Act, unary_act, binary_act, ternary_act, fits}
 use Rattle.lq_model.specs.Program.{Item, let_item, rec_item, running, finished, input_ended, fault, stuck, Outcome, outcome_of, started}
 
 -- A value, a fault at a place, the end of the input at a place, calls that nest too deep, or a form that is no value and has no step; each
@@ -51,13 +50,12 @@ abbrev pub fitting : Option Pairs → Pairs → (Pairs → World → Answer) →
 fitting None env go other w = other w
 fitting (Some ps) env go other w = go (ps ++ env) w
 
--- what follows under the value of a parameter; one that is a tuple is a match at its place
-abbrev pub with_parameter : Pattern → Value → Pairs → (Pairs → World → Answer) → World → Answer
-with_parameter (pattern p any) v env go w = go env w
-with_parameter (pattern p nothing) v env go w = go env w
-with_parameter (pattern p (bind x)) v env go w = go ((x, v) ∷ env) w
-with_parameter (pattern p (tuple_of qs)) v env go w = fitting (fits_form (tuple_of qs) v) env go (fails NoCase p) w
-with_parameter (pattern p (build_of c n qs)) v env go w = fitting (fits_form (build_of c n qs) v) env go (fails NoCase p) w
+-- what follows under the value of a parameter; one that is a pattern is a match at its place
+abbrev pub with_parameter : Parameter → Value → Pairs → (Pairs → World → Answer) → World → Answer
+with_parameter ignored v env go w = go env w
+with_parameter empty v env go w = go env w
+with_parameter (variable x) v env go w = go ((x, v) ∷ env) w
+with_parameter (matched p q) v env go w = fitting (fits q v) env go (fails NoCase p) w
 
 -- The form's parts in the order of their evaluation, and then what the form makes of their values. `called` says what a call of a function
 -- on an argument comes to.
@@ -72,8 +70,8 @@ abbrev mutual
   eval called (call f a) env w = and_then (eval called f env w) (λ g u. and_then (eval called a env u) (λ v t. called g v t))
   eval called (one o e) env w = and_then (eval called e env w) (λ v u. acts u (unary_act o v u))
   eval called (two o a b) env w = and_then (eval called a env w) (λ x u. and_then (eval called b env u) (λ y t. acts t (binary_act o x y t)))
-  eval called (store p a i e) env w =
-      and_then (eval called a env w) (λ x u. and_then (eval called i env u) (λ y t. and_then (eval called e env t) (λ z s. acts s (store_act p x y z s))))
+  eval called (three o a b c) env w =
+      and_then (eval called a env w) (λ x u. and_then (eval called b env u) (λ y t. and_then (eval called c env t) (λ z s. acts s (ternary_act o x y z s))))
   eval called (and_of a b) env w =
       and_then (eval called a env w) (λ x u. on_truth x (λ t s. choose t (λ r. eval called b env r) (comes (v_flag false)) s) u)
   eval called (or_of a b) env w =
@@ -107,13 +105,12 @@ meaning n e env w = eval (call_meaning n) e env w
 
 -- ---- programs
 
--- the environment behind a definition; an item's pattern is a variable, or binds nothing
-abbrev pub defining : Pattern → Value → Pairs → Pairs
-defining (pattern p any) v env = env
-defining (pattern p nothing) v env = env
-defining (pattern p (bind x)) v env = (x, v) ∷ env
-defining (pattern p (tuple_of qs)) v env = without (bound_in_all qs) env
-defining (pattern p (build_of c n qs)) v env = without (bound_in_all qs) env
+-- the environment behind a definition; an item's parameter is a variable, or binds nothing
+abbrev pub defining : Parameter → Value → Pairs → Pairs
+defining ignored v env = env
+defining empty v env = env
+defining (variable x) v env = (x, v) ∷ env
+defining (matched p q) v env = without (variables_of q) env
 
 -- the items in order, each under the definitions before it
 abbrev pub items_meaning : ℕ → List Item → Pairs → World → Answer

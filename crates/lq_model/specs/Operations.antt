@@ -2,15 +2,12 @@
 use Rattle.std.specs.Prelude.{ℕ, zero, suc, ℤ, pos, negsuc, ◌+ℤ◌, ◌-ℤ◌, ◌*ℤ◌, int_div, int_rem, Bool, true, false, not, ◌==◌, if◌then◌else◌, List, [], ◌∷◌, ◌++◌, length, Option, Some, None, slice_get, slice_set}
 use Rattle.std.specs.Ordering.{int_eq}
 use Rattle.std.specs.Int.Signed.{lt_z}
-use Rattle.lq_name.specs.declared.operation.ArithOp.{ArithOp}
-use Rattle.lq_name.specs.declared.operation.ArithOp.TheVariants as op
 use Rattle.lq_name.specs.declared.operation.CompareOp.{CompareOp}
 use Rattle.lq_name.specs.declared.operation.CompareOp.TheVariants as test
 use Rattle.lq_name.specs.declared.place.Place.{Place}
-use Rattle.lq_tree.specs.Pattern.{Pattern, pattern, PatternForm, any, bind, nothing, tuple_of, build_of, Patterns, no_patterns, more_patterns}
 use Rattle.lq_model.specs.declared.fault.FaultKind.{FaultKind}
 use Rattle.lq_model.specs.declared.fault.FaultKind.TheVariants.{AssertFailed, OutOfBounds, ZeroDivisor, NegativeLength}
-use Rattle.lq_model.specs.Core.{Operation, negate, invert, assert, length_of, print, read, Binary, arithmetic, comparison, make, fetch, Value, v_whole, v_flag, v_unit, v_tuple, v_build, v_array, Values, no_values, more_values, Pairs}
+use Rattle.lq_model.specs.Core.{Pattern, any, bind, nothing, tuple_of, build_of, Patterns, no_patterns, more_patterns, Operation, negate, invert, assert, length_of, print, read, Arithmetic, sum, difference, product, quotient, remainder, Binary, arithmetic, comparison, make, fetch, Ternary, store, Value, v_whole, v_flag, v_unit, v_tuple, v_build, v_array, Values, no_values, more_values, Pairs}
 
 -- the arrays, what is left of the input, and the output so far
 pub record World : Type 0 where
@@ -30,15 +27,15 @@ on_whole (v_whole n) go = go n
 on_whole _ go = None
 
 -- arithmetic; numbers have no bound
-abbrev pub arithmetic_act : ArithOp → Place → ℤ → ℤ → World → Act
+abbrev pub arithmetic_act : Arithmetic → ℤ → ℤ → World → Act
 -- `+`, `-`, `*`: the sum, the difference, the product
-arithmetic_act op.Add p m n w = gives (v_whole (m +ℤ n)) w
-arithmetic_act op.Sub p m n w = gives (v_whole (m -ℤ n)) w
-arithmetic_act op.Mul p m n w = gives (v_whole (m *ℤ n)) w
+arithmetic_act sum m n w = gives (v_whole (m +ℤ n)) w
+arithmetic_act difference m n w = gives (v_whole (m -ℤ n)) w
+arithmetic_act product m n w = gives (v_whole (m *ℤ n)) w
 -- `/`: the quotient rounded toward 0; a divisor 0 is the fault ZeroDivisor
-arithmetic_act op.Div p m n w = if int_eq n (pos 0) then faults ZeroDivisor p else gives (v_whole (int_div m n)) w
+arithmetic_act (quotient p) m n w = if int_eq n (pos 0) then faults ZeroDivisor p else gives (v_whole (int_div m n)) w
 -- `mod`: the remainder, which has the dividend's sign or is 0; a divisor 0 is the fault ZeroDivisor
-arithmetic_act op.Mod p m n w = if int_eq n (pos 0) then faults ZeroDivisor p else gives (v_whole (int_rem m n)) w
+arithmetic_act (remainder p) m n w = if int_eq n (pos 0) then faults ZeroDivisor p else gives (v_whole (int_rem m n)) w
 
 -- a comparison of two numbers: whether it is true
 abbrev pub compares : CompareOp → ℤ → ℤ → Bool
@@ -94,13 +91,18 @@ store_act p a i u w =
 -- the operations on two values
 abbrev pub binary_act : Binary → Value → Value → World → Option Act
 -- arithmetic on two numbers
-binary_act (arithmetic o p) x y w = on_whole x (λ m. on_whole y (λ n. Some (arithmetic_act o p m n w)))
+binary_act (arithmetic o) x y w = on_whole x (λ m. on_whole y (λ n. Some (arithmetic_act o m n w)))
 -- a comparison of two numbers: its truth value
 binary_act (comparison o) x y w = on_whole x (λ m. on_whole y (λ n. Some (gives (v_flag (compares o m n)) w)))
 -- `Array.make` on a number and any value
 binary_act (make p) x v w = on_whole x (λ n. Some (make_act p n v w))
 -- an array at a number
 binary_act (fetch p) a i w = fetch_act p a i w
+
+-- the operations on three values
+abbrev pub ternary_act : Ternary → Value → Value → Value → World → Option Act
+-- an array at a number, and any value
+ternary_act (store p) a i u w = store_act p a i u w
 
 -- `read_int ()`: the next number of the input, which is then gone from it; where none is left, the input has ended
 abbrev pub read_act : Place → List ℤ → World → Act
@@ -140,17 +142,14 @@ both_pairs (Some ps) (Some qs) = Some (ps ++ qs)
 -- tuple pattern a tuple whose components its parts fit, a constructor pattern a value of that constructor whose fields its parts fit.
 abbrev mutual
   pub fits : Pattern → Value → Option Pairs
-  fits (pattern p f) v = fits_form f v
-
-  pub fits_form : PatternForm → Value → Option Pairs
-  fits_form any v = Some []
-  fits_form (bind x) v = Some ((x, v) ∷ [])
-  fits_form nothing v_unit = Some []
-  fits_form nothing _ = None
-  fits_form (tuple_of qs) (v_tuple vs) = fits_all qs vs
-  fits_form (tuple_of qs) _ = None
-  fits_form (build_of c p qs) (v_build d vs) = if c == d then fits_all qs vs else None
-  fits_form (build_of c p qs) _ = None
+  fits any v = Some []
+  fits (bind x) v = Some ((x, v) ∷ [])
+  fits nothing v_unit = Some []
+  fits nothing _ = None
+  fits (tuple_of qs) (v_tuple vs) = fits_all qs vs
+  fits (tuple_of qs) _ = None
+  fits (build_of c qs) (v_build d vs) = if c == d then fits_all qs vs else None
+  fits (build_of c qs) _ = None
 
   pub fits_all : Patterns → Values → Option Pairs
   fits_all no_patterns no_values = Some []

@@ -1,17 +1,16 @@
 -- What the first steps of a program give, and when a program is safe.
-use Rattle.std.specs.Prelude.{ℕ, zero, suc, ℤ, List, [], ◌∷◌, Option, Some, None}
+use Rattle.std.specs.Prelude.{◌≡◌, ℕ, zero, suc, ℤ, List, [], ◌∷◌, Option, Some, None}
 use Rattle.lq_name.specs.declared.place.Place.{Place}
-use Rattle.lq_tree.specs.Pattern.{Pattern, pattern, bind, bound_in}
 use Rattle.lq_model.specs.declared.fault.FaultKind.{FaultKind}
-use Rattle.lq_model.specs.Core.{Core, Value, v_rec, Pairs, without, close, as_value}
+use Rattle.lq_model.specs.Core.{Parameter, variable, bound_in, Core, Value, v_rec, Pairs, without, close, as_value}
 use Rattle.lq_model.specs.Operations.{World}
 use Rattle.lq_model.specs.Step.{Next, goes, faults, ends}
 use Rattle.lq_model.specs.StepFunction.{step}
 
 -- an item that takes steps: a definition, or a recursive function under its name
 pub data Item : Type 0 where
-  let_item : Pattern → Core → Item
-  rec_item : ℕ → Pattern → Core → Item
+  let_item : Parameter → Core → Item
+  rec_item : ℕ → Parameter → Core → Item
 
 -- Closed values in the place of variables in the items. Where an item defines a variable again, its right side still has the value, and
 -- the items after it don't. A recursive function's own name and what its parameter binds aren't replaced in its body.
@@ -20,9 +19,9 @@ close_items ps [] = []
 close_items ps (let_item q e ∷ is) = let_item q (close ps e) ∷ close_items (without (bound_in q) ps) is
 close_items ps (rec_item f q b ∷ is) = rec_item f q (close (without (f ∷ bound_in q) ps) b) ∷ close_items (without (f ∷ []) ps) is
 
--- the items with the value in place of the variable that the pattern is
-abbrev pub defined : Pattern → Value → List Item → List Item
-defined (pattern p (bind x)) v is = close_items ((x, v) ∷ []) is
+-- the items with the value in place of the variable that the parameter is
+abbrev pub defined : Parameter → Value → List Item → List Item
+defined (variable x) v is = close_items ((x, v) ∷ []) is
 defined _ v is = is
 
 -- the items left, and the world
@@ -50,14 +49,14 @@ pub data Turn : Type 0 where
   to : State → Turn
   over : Ending → Turn
 
-abbrev pub item_next : Pattern → List Item → Option Next → Turn
+abbrev pub item_next : Parameter → List Item → Option Next → Turn
 item_next q is (Some (goes e w)) = to (record { items = let_item q e ∷ is; world = w })
 item_next q is (Some (faults k p)) = over (fault k p)
 item_next q is (Some (ends p)) = over (input_ended p)
 item_next q is None = over stuck
 
 -- `let p = v`: the value replaces the variable in the items after it, and the item is gone; else its expression steps
-abbrev pub let_turn : Pattern → Core → List Item → World → Option Value → Turn
+abbrev pub let_turn : Parameter → Core → List Item → World → Option Value → Turn
 let_turn q e is w (Some v) = to (record { items = defined q v is; world = w })
 let_turn q e is w None = item_next q is (step e w)
 
@@ -102,3 +101,7 @@ IsCalm stuck = ⊥
 -- On every finite list of whole numbers as input, no number of steps meets a fault or gets stuck.
 abbrev pub IsSafe : List Item → Type 0
 IsSafe is = (input : List ℤ) (n : ℕ) → IsCalm (outcome is input n).ending
+
+-- on every input, no number of steps comes to an item left and no step
+abbrev pub IsNeverStuck : List Item → Type 0
+IsNeverStuck is = (input : List ℤ) (n : ℕ) → (outcome is input n).ending ≡ stuck → ⊥

@@ -1,9 +1,8 @@
 -- One step of a program, as a relation on states with a row for each item, and the outcomes to which such steps come.
 use Rattle.std.specs.Prelude.{◌≡◌, ℕ, suc, List, [], ◌∷◌, Some}
 use Rattle.lq_name.specs.declared.place.Place.{Place}
-use Rattle.lq_tree.specs.Pattern.{Pattern}
 use Rattle.lq_model.specs.declared.fault.FaultKind.{FaultKind}
-use Rattle.lq_model.specs.Core.{Core, Value, v_rec, as_value}
+use Rattle.lq_model.specs.Core.{Parameter, Core, Value, v_rec, as_value}
 use Rattle.lq_model.specs.Operations.{World}
 use Rattle.lq_model.specs.Step.{goes, faults, ends, Step}
 use Rattle.lq_model.specs.Program.{Item, let_item, rec_item, close_items, defined, State, finished, input_ended, fault, stuck, Ending, Outcome, outcome_of, Turn, to, over, at_rest}
@@ -15,15 +14,15 @@ state is w = record { items = is; world = w }
 -- from a state to the next one, or to the ending with which the run is over
 pub data Transition : State → Turn → Type 0 where
   -- `let p = v`: the value replaces the variable in the items after it, and the item is gone
-  define_value : (q : Pattern) (e : Core) (v : Value) (is : List Item) (w : World) → as_value e ≡ Some v → Transition (state (let_item q e ∷ is) w) (to (state (defined q v is) w))
+  define_value : (q : Parameter) (e : Core) (v : Value) (is : List Item) (w : World) → as_value e ≡ Some v → Transition (state (let_item q e ∷ is) w) (to (state (defined q v is) w))
   -- `let rec f = fun`: the recursive function replaces f in the items after it, and the item is gone
-  define_function : (f : ℕ) (q : Pattern) (b : Core) (is : List Item) (w : World) → Transition (state (rec_item f q b ∷ is) w) (to (state (close_items ((f, v_rec f q b) ∷ []) is) w))
+  define_function : (f : ℕ) (q : Parameter) (b : Core) (is : List Item) (w : World) → Transition (state (rec_item f q b ∷ is) w) (to (state (close_items ((f, v_rec f q b) ∷ []) is) w))
   -- `let p = e`: the first item's expression steps
-  item_goes : (q : Pattern) (e d : Core) (is : List Item) (w u : World) → Step e w (goes d u) → Transition (state (let_item q e ∷ is) w) (to (state (let_item q d ∷ is) u))
+  item_goes : (q : Parameter) (e d : Core) (is : List Item) (w u : World) → Step e w (goes d u) → Transition (state (let_item q e ∷ is) w) (to (state (let_item q d ∷ is) u))
   -- its step is a fault, and the run is over
-  item_faults : (q : Pattern) (e : Core) (k : FaultKind) (p : Place) (is : List Item) (w : World) → Step e w (faults k p) → Transition (state (let_item q e ∷ is) w) (over (fault k p))
+  item_faults : (q : Parameter) (e : Core) (k : FaultKind) (p : Place) (is : List Item) (w : World) → Step e w (faults k p) → Transition (state (let_item q e ∷ is) w) (over (fault k p))
   -- its step finds no input, and the run is over
-  item_ends : (q : Pattern) (e : Core) (p : Place) (is : List Item) (w : World) → Step e w (ends p) → Transition (state (let_item q e ∷ is) w) (over (input_ended p))
+  item_ends : (q : Parameter) (e : Core) (p : Place) (is : List Item) (w : World) → Step e w (ends p) → Transition (state (let_item q e ∷ is) w) (over (input_ended p))
 
 -- a run from the state has come to this outcome after so many steps
 pub data Reaches : ℕ → State → Outcome → Type 0 where

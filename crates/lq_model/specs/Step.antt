@@ -1,12 +1,11 @@
 -- One step of an expression, as a relation with a row for each form. The leftmost part that isn't a value is evaluated first.
 use Rattle.std.specs.Prelude.{◌≡◌, ℕ, Bool, true, false, [], ◌∷◌, Option, Some, None, if◌then◌else◌}
 use Rattle.lq_name.specs.declared.place.Place.{Place}
-use Rattle.lq_tree.specs.Pattern.{Pattern, pattern, any, bind, nothing, tuple_of, build_of}
 use Rattle.lq_model.specs.declared.fault.FaultKind.{FaultKind}
 use Rattle.lq_model.specs.declared.fault.FaultKind.TheVariants.{AssertFailed, NoCase}
-use Rattle.lq_model.specs.Core.{Operation, Binary, Row, Core, val, row, let_in, let_rec, call, one, two, store, and_of, or_of, if_else, match_on, seq, assert_false, Cores, none, more, Arms, no_arms, more_arms, Value, v_flag, v_fun, v_rec, Values, Pairs, close, close_arms, as_value, as_values}
+use Rattle.lq_model.specs.Core.{Parameter, ignored, variable, empty, matched, Operation, Binary, Ternary, Row, Core, val, row, let_in, let_rec, call, one, two, three, and_of, or_of, if_else, match_on, seq, assert_false, Cores, none, more, Arms, no_arms, more_arms, Value, v_flag, v_fun, v_rec, Values, Pairs, close, close_arms, as_value, as_values}
 use Rattle.lq_model.specs.Operations as act
-use Rattle.lq_model.specs.Operations.{World, Act, binary_act, unary_act, store_act, fits}
+use Rattle.lq_model.specs.Operations.{World, Act, binary_act, unary_act, ternary_act, fits}
 
 -- What one step gives: an expression and a world, a fault at a place, or the end of the input at a place. A fault and an ended input
 -- are one step.
@@ -25,15 +24,15 @@ done (act.ends p) = ends p
 -- An expression with a part left open. What stands before that part is meant to be values.
 pub data Frame : Type 0 where
   in_row : Row → Cores → Cores → Frame
-  in_let : Pattern → Core → Frame
+  in_let : Parameter → Core → Frame
   in_function : Core → Frame
   in_argument : Core → Frame
   in_one : Operation → Frame
   in_left : Binary → Core → Frame
   in_right : Binary → Core → Frame
-  in_array : Place → Core → Core → Frame
-  in_index : Place → Core → Core → Frame
-  in_stored : Place → Core → Core → Frame
+  in_start : Ternary → Core → Core → Frame
+  in_middle : Ternary → Core → Core → Frame
+  in_end : Ternary → Core → Core → Frame
   in_and : Core → Frame
   in_or : Core → Frame
   in_condition : Core → Core → Frame
@@ -54,9 +53,9 @@ plug (in_argument f) d = call f d
 plug (in_one o) d = one o d
 plug (in_left o b) d = two o d b
 plug (in_right o a) d = two o a d
-plug (in_array p i e) d = store p d i e
-plug (in_index p a e) d = store p a d e
-plug (in_stored p a i) d = store p a i d
+plug (in_start o b c) d = three o d b c
+plug (in_middle o a c) d = three o a d c
+plug (in_end o a b) d = three o a b d
 plug (in_and b) d = and_of d b
 plug (in_or b) d = or_of d b
 plug (in_condition a b) d = if_else d a b
@@ -78,9 +77,9 @@ IsReady (in_argument f) = IsValue f
 IsReady (in_one o) = Unit {0}
 IsReady (in_left o b) = Unit {0}
 IsReady (in_right o a) = IsValue a
-IsReady (in_array p i e) = Unit {0}
-IsReady (in_index p a e) = IsValue a
-IsReady (in_stored p a i) = IsValue a × IsValue i
+IsReady (in_start o b c) = Unit {0}
+IsReady (in_middle o a c) = IsValue a
+IsReady (in_end o a b) = IsValue a × IsValue b
 IsReady (in_and b) = Unit {0}
 IsReady (in_or b) = Unit {0}
 IsReady (in_condition a b) = Unit {0}
@@ -95,14 +94,13 @@ within f (ends p) = ends p
 
 -- ---- functions and arms
 
--- The body with the value for its parameter, and with the pairs of a recursive function for its own name. A parameter that is a tuple
--- is a match on the value, at the parameter's place.
-abbrev pub applied : Pairs → Pattern → Core → Value → Core
-applied self (pattern p any) b v = close self b
-applied self (pattern p nothing) b v = close self b
-applied self (pattern p (bind x)) b v = close ((x, v) ∷ self) b
-applied self (pattern p (tuple_of qs)) b v = match_on p (val v) (close_arms self (more_arms (pattern p (tuple_of qs)) b no_arms))
-applied self (pattern p (build_of c n qs)) b v = match_on p (val v) (close_arms self (more_arms (pattern p (build_of c n qs)) b no_arms))
+-- The body with the value for its parameter, and with the pairs of a recursive function for its own name. A parameter that is a pattern
+-- is a match on the value, at its place.
+abbrev pub applied : Pairs → Parameter → Core → Value → Core
+applied self ignored b v = close self b
+applied self empty b v = close self b
+applied self (variable x) b v = close ((x, v) ∷ self) b
+applied self (matched p q) b v = match_on p (val v) (close_arms self (more_arms q b no_arms))
 
 -- the body of a function with this argument
 abbrev pub body_of : Value → Value → Option Core
@@ -125,18 +123,18 @@ pub data Step : Core → World → Next → Type 0 where
   -- the leftmost part that isn't a value steps
   part : (f : Frame) (e : Core) (w : World) (n : Next) → IsReady f → as_value e ≡ None → Step e w n → Step (plug f e) w (within f n)
   -- `let p = v in e`: e with the value in place of the variable
-  let_value : (q : Pattern) (e b : Core) (v : Value) (w : World) → as_value e ≡ Some v → Step (let_in q e b) w (goes (applied [] q b v) w)
+  let_value : (q : Parameter) (e b : Core) (v : Value) (w : World) → as_value e ≡ Some v → Step (let_in q e b) w (goes (applied [] q b v) w)
   -- `let rec f = fun in e`: e with the recursive function in place of f
-  let_function : (f : ℕ) (q : Pattern) (b e : Core) (w : World) → Step (let_rec f q b e) w (goes (close ((f, v_rec f q b) ∷ []) e) w)
+  let_function : (f : ℕ) (q : Parameter) (b e : Core) (w : World) → Step (let_rec f q b e) w (goes (close ((f, v_rec f q b) ∷ []) e) w)
   -- `v w`: the body of v with w for its parameter, and with a recursive function also for its own name
   call_body : (f a : Core) (u v : Value) (b : Core) (w : World) → as_value f ≡ Some u → as_value a ≡ Some v → body_of u v ≡ Some b → Step (call f a) w (goes b w)
   -- an operation on one value: unary minus, `not`, `assert`, `Array.length`, `print_int`, `read_int`; what it gives, its fault or the end of the input
   unary : (o : Operation) (e : Core) (v : Value) (w : World) (a : Act) → as_value e ≡ Some v → unary_act o v w ≡ Some a → Step (one o e) w (done a)
   -- an operation on two values: arithmetic, comparisons, `Array.make n v`, `a.(i)`; what it gives, or its fault
   binary : (o : Binary) (d e : Core) (u v : Value) (w : World) (a : Act) → as_value d ≡ Some u → as_value e ≡ Some v → binary_act o u v w ≡ Some a → Step (two o d e) w (done a)
-  -- `a.(i) <- v`: unit and the changed store, or the fault OutOfBounds
-  storing : (p : Place) (d i e : Core) (t u v : Value) (w : World) (a : Act) → as_value d ≡ Some t → as_value i ≡ Some u → as_value e ≡ Some v → store_act p t u v w ≡ Some a
-      → Step (store p d i e) w (done a)
+  -- an operation on three values: `a.(i) <- v`; what it gives, or its fault
+  ternary : (o : Ternary) (a b c : Core) (t u v : Value) (w : World) (x : Act) → as_value a ≡ Some t → as_value b ≡ Some u → as_value c ≡ Some v → ternary_act o t u v w ≡ Some x
+      → Step (three o a b c) w (done x)
   -- `v && e`, `v || e`: the left value if it decides, else the right expression
   and_value : (a b : Core) (t : Bool) (w : World) → as_value a ≡ Some (v_flag t) → Step (and_of a b) w (goes (if t then b else val (v_flag false)) w)
   or_value : (a b : Core) (t : Bool) (w : World) → as_value a ≡ Some (v_flag t) → Step (or_of a b) w (goes (if t then val (v_flag true) else b) w)

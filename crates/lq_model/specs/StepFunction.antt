@@ -1,9 +1,9 @@
 -- One step as a function: what the relation gives, and None where no row applies.
 use Rattle.std.specs.Prelude.{Bool, true, false, [], ◌∷◌, Option, Some, None, if◌then◌else◌}
 use Rattle.lq_model.specs.declared.fault.FaultKind.TheVariants.{AssertFailed}
-use Rattle.lq_model.specs.Core.{Row, Core, val, use_of, fun, row, let_in, let_rec, call, one, two, store, and_of, or_of, if_else, match_on, seq, assert_false, Cores, none, more, Arms, no_arms, more_arms, Value, v_flag, v_rec, close, as_value}
-use Rattle.lq_model.specs.Operations.{World, Act, unary_act, binary_act, store_act}
-use Rattle.lq_model.specs.Step.{Next, goes, faults, done, Frame, in_row, in_let, in_function, in_argument, in_one, in_left, in_right, in_array, in_index, in_stored, in_and, in_or, in_condition, in_scrutinee, in_first, within, applied, body_of, first_arm}
+use Rattle.lq_model.specs.Core.{Row, Core, val, use_of, fun, row, let_in, let_rec, call, one, two, three, and_of, or_of, if_else, match_on, seq, assert_false, Cores, none, more, Arms, no_arms, more_arms, Value, v_flag, v_rec, close, as_value}
+use Rattle.lq_model.specs.Operations.{World, Act, unary_act, binary_act, ternary_act}
+use Rattle.lq_model.specs.Step.{Next, goes, faults, done, Frame, in_row, in_let, in_function, in_argument, in_one, in_left, in_right, in_start, in_middle, in_end, in_and, in_or, in_condition, in_scrutinee, in_first, within, applied, body_of, first_arm}
 
 abbrev pub inside : Frame → Option Next → Option Next
 inside f None = None
@@ -44,9 +44,9 @@ abbrev mutual
   step (one o e) w = on_value (as_value e) (in_one o) (step e w) (λ v. acted (unary_act o v w))
   step (two o a b) w =
       on_value (as_value a) (in_left o b) (step a w) (λ u. on_value (as_value b) (in_right o a) (step b w) (λ v. acted (binary_act o u v w)))
-  step (store p a i e) w =
-      on_value (as_value a) (in_array p i e) (step a w) (λ t. on_value (as_value i) (in_index p a e) (step i w)
-      (λ u. on_value (as_value e) (in_stored p a i) (step e w) (λ v. acted (store_act p t u v w))))
+  step (three o a b c) w =
+      on_value (as_value a) (in_start o b c) (step a w) (λ t. on_value (as_value b) (in_middle o a c) (step b w)
+      (λ u. on_value (as_value c) (in_end o a b) (step c w) (λ v. acted (ternary_act o t u v w))))
   step (and_of a b) w = on_value (as_value a) (in_and b) (step a w) (λ u. on_flag u (λ t. Some (goes (if t then b else val (v_flag false)) w)))
   step (or_of a b) w = on_value (as_value a) (in_or b) (step a w) (λ u. on_flag u (λ t. Some (goes (if t then val (v_flag true) else b) w)))
   step (if_else c a b) w = on_value (as_value c) (in_condition a b) (step c w) (λ u. on_flag u (λ t. Some (goes (if t then a else b) w)))

@@ -1,5 +1,7 @@
 ghost use Rattle.lq_model.specs.Laws.{IsStepFunction, IsDetermined, IsDeterminedOnStates, HasOneOutcome, IsSafeBySteps, StaysOver, OutputGrows, OutputPasses, ClosesTwice, ClosesAlike, ClosesByNone, ClosesBehind, FitsBinds, OneIsPaired, PairsJoin, ItemsCloseTwice, ItemsCloseAlike, ItemsCloseByNone, ItemsCloseBehind, StepsInside, PartsWait, ValuesRest, MeansAlike, MeansClosed, MeansMore};
 ghost use Rattle.lq_model.specs.Numbers.{HaveNoBound, DividesTowardZero};
+ghost use Rattle.lq_model.specs.Places.{OtherPlacesDontCount};
+ghost use Rattle.lq_model.specs.Outcomes.{SameMeaningSameOutcomes, NeverStuckByMeaning, SafeWithoutFaults};
 ghost use Rattle.lq_model.specs.Adequacy.{IsAdequate, IsComplete, IsAdequateOfPrograms, IsCompleteOfPrograms, IsSafeByMeaning};
 
 /// The step function gives exactly what the rows of the relation give, so an expression has at most one step
@@ -86,4 +88,19 @@ pub fn adequacy_of_programs()
     ensures there { IsAdequateOfPrograms }
     ensures back { IsCompleteOfPrograms }
     ensures safe { IsSafeByMeaning }
+{}
+
+/// Programs that mean the same, at every bound on nested calls and on every input, have the same outcomes, where the first
+/// one is never stuck. A program is never stuck exactly where its meaning isn't, and then it is safe exactly where it meets
+/// no fault.
+pub fn same_outcomes()
+    ensures same { SameMeaningSameOutcomes }
+    ensures meaning { NeverStuckByMeaning }
+    ensures safe { SafeWithoutFaults }
+{}
+
+/// A program means the same whatever the numbers of its nodes are, and whatever the places are of its nodes, patterns and
+/// items at which nothing can fault or end the input.
+pub fn other_places()
+    ensures { OtherPlacesDontCount }
 {}

@@ -1,4 +1,4 @@
-ghost use Rattle.lq_model.specs.Examples.{QuotientExample, RemainderExample, ProductExample, ComparisonExample, OrderExample, InputExample, ShadowingExample, HidingExample, CallExample, PartialExample, RecursionExample, DepthExample, LocalExample, LoopExample, AliasExample, MatchExample, TupleExample, LogicExample, DivisorExample, BoundsExample, LengthExample, CaseExample, AssertionExample, UnreachedExample, StepsExample, FirstStepExample, ParameterExample, StoreExample};
+ghost use Rattle.lq_model.specs.Examples.{QuotientExample, RemainderExample, ProductExample, ComparisonExample, OrderExample, InputExample, ShadowingExample, HidingExample, CallExample, PartialExample, RecursionExample, DepthExample, LocalExample, LoopExample, AliasExample, MatchExample, TupleExample, LogicExample, DivisorExample, BoundsExample, LengthExample, CaseExample, AssertionExample, UnreachedExample, StepsExample, FirstStepExample, ParameterExample, StoreExample, OperandsExample, ComparedExample, MadeExample, FetchedExample, StoredExample, PartsExample, AppliedExample, OwnNameExample};
 
 /// Small programs, one or more for each group of forms: what their first steps give, and what they mean.
 pub fn examples()
@@ -30,4 +30,12 @@ pub fn examples()
     ensures first_step { FirstStepExample }
     ensures parameter { ParameterExample }
     ensures store { StoreExample }
+    ensures operands { OperandsExample }
+    ensures compared { ComparedExample }
+    ensures made { MadeExample }
+    ensures fetched { FetchedExample }
+    ensures stored { StoredExample }
+    ensures parts { PartsExample }
+    ensures applied { AppliedExample }
+    ensures own_name { OwnNameExample }
 {}

@@ -16,4 +16,7 @@ pub mod Tree
 pub mod TreeView
 pub mod TypeTree
 pub mod TypeView
+pub mod Signatures
+pub mod Types
+pub mod TypingRules
 pub use Rattle.lq_name.specs.NameTable

@@ -1,0 +1,4 @@
+pub mod Typing
+pub mod Laws
+pub mod Programs
+pub mod Examples
