@@ -1,0 +1,15 @@
+pub mod Alikes
+pub mod Patterns
+pub mod Running
+pub mod Pure
+pub mod Parts
+pub mod Keeps
+pub mod Calls
+pub mod Programs
+pub mod Flat
+pub mod FlatKeeps
+pub mod FlatPrograms
+pub mod Avoiding
+pub mod Clears
+pub mod ClearPrograms
+pub mod OnePass

@@ -1,0 +1,36 @@
+-- What the nodes of an arena are.
+use Rattle.std.specs.Prelude.{ℕ, ◌+◌, ◌<◌, ◌≤◌, ◌^◌, List, Option, Some, None, take, drop, map, length, All, slice_index_or}
+use Rattle.lq_unify.specs.declared.arena.Head.{Head}
+use Rattle.lq_unify.specs.declared.arena.Node.{Node}
+use Rattle.lq_unify.specs.declared.arena.Node.TheVariants.{Open, Made}
+use Rattle.lq_unify.specs.declared.arena.Arena.{Arena}
+
+-- a head with the nodes that are its parts
+pub record Form : Type 0 where
+  pub head : Head
+  pub parts : List ℕ
+
+-- the form with other nodes for its parts
+abbrev pub renamed : (ℕ → ℕ) → Form → Form
+renamed to f = record { head = f.head; parts = map to f.parts }
+
+abbrev pub form_of : List ℕ → Node → Option Form
+form_of parts Open = None
+form_of parts (Made h first count) = Some (record { head = h; parts = take count (drop first parts) })
+
+abbrev pub node_at : List Node → ℕ → Node
+node_at nodes i = slice_index_or nodes i Open
+
+-- the form of a node; none where it is open
+abbrev pub form_at : Arena → ℕ → Option Form
+form_at a i = form_of a.parts.items (node_at a.nodes.items i)
+
+abbrev pub FitsIn : List ℕ → Node → Type 0
+FitsIn parts Open = Unit {0}
+FitsIn parts (Made h first count) = first + count ≤ length parts
+
+-- every part is a node
+pub record IsArena (a : Arena) : Type 0 where
+  pub fits : (i : ℕ) → FitsIn a.parts.items (node_at a.nodes.items i)
+  pub inside : All (λ p. p < length a.nodes.items) a.parts.items
+  pub small : length a.nodes.items < 2 ^ 32

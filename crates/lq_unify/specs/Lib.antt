@@ -1,0 +1,12 @@
+-- Definitions that the contracts cite.
+pub mod Simple
+pub mod Forms
+pub mod Solution
+pub mod Classes
+pub mod Value
+pub mod Visits
+pub mod Solved
+pub mod Variables
+pub mod Later
+pub mod Copies
+pub mod Growing
