@@ -13,3 +13,4 @@ pub mod Replacing
 pub mod Uses
 pub mod Extending
 pub mod Longer
+pub mod Adding

@@ -1,5 +1,5 @@
 -- What the nodes of an arena are.
-use Rattle.std.specs.Prelude.{ℕ, ◌+◌, ◌<◌, ◌≤◌, ◌^◌, List, Option, Some, None, take, drop, map, length, All, slice_index_or}
+use Rattle.std.specs.Prelude.{◌≡◌, ℕ, ◌+◌, ◌<◌, ◌≤◌, ◌^◌, List, Option, Some, None, take, drop, map, length, All, slice_index_or}
 use Rattle.lq_unify.specs.declared.arena.Head.{Head}
 use Rattle.lq_unify.specs.declared.arena.Node.{Node}
 use Rattle.lq_unify.specs.declared.arena.Node.TheVariants.{Open, Made}
@@ -34,3 +34,17 @@ pub record IsArena (a : Arena) : Type 0 where
   pub fits : (i : ℕ) → FitsIn a.parts.items (node_at a.nodes.items i)
   pub inside : All (λ p. p < length a.nodes.items) a.parts.items
   pub small : length a.nodes.items < 2 ^ 32
+
+-- one node more than before, with this number and form; the others have the forms that they had
+pub record HasAdded (old new : Arena) (node : ℕ) (form : Option Form) : Type 0 where
+  pub arena : IsArena new
+  pub next : node ≡ length old.nodes.items
+  pub count : length new.nodes.items ≡ node + 1
+  pub formed : form_at new node ≡ form
+  pub others : (i : ℕ) → i < node → form_at new i ≡ form_at old i
+
+-- as many nodes as before, with the same forms
+pub record HasKept (old new : Arena) : Type 0 where
+  pub arena : IsArena new
+  pub count : length new.nodes.items ≡ length old.nodes.items
+  pub forms : (i : ℕ) → form_at new i ≡ form_at old i

@@ -9,6 +9,6 @@ mod merge;
 mod order;
 mod solving;
 
-pub use arena::{Arena, Equation, Head, Node};
+pub use arena::{Arena, Equation, Head, MOST_NODES, Node};
 pub use laws::{known_classes_grow, types_extend_to_copies, uses_are_instances};
 pub use solving::{Solution, first_failing, solve};
