@@ -33,10 +33,16 @@ pub(crate) fn merge(
 ) -> Result<bool, AllocError>
     requires arena { IsArena arena.now }
     requires nodes { AreNodes (length arena.now.nodes.items) equations.now }
-    requires state { IsState (form_at arena.now) (length arena.now.nodes.items) parents.old shapes.old found.old.items }
+    requires state { IsState (form_at arena.now) (length arena.now.nodes.items) parents.old shapes.old
+        found.old.items }
     requires followed { AreFollowed (form_at arena.now) parents.old found.old.items }
-    ensures known { IfOk result (λ yes. yes ≡ true → (before : List Equation) → IsKnown (form_at arena.now) (length arena.now.nodes.items) parents.old shapes.old found.old.items before → IsKnown (form_at arena.now) (length arena.now.nodes.items) parents.new shapes.new found.new.items (before ++ equations.now)) }
-    ensures clash { IfOk result (λ yes. yes ≡ false → (before : List Equation) → IsKnown (form_at arena.now) (length arena.now.nodes.items) parents.old shapes.old found.old.items before → HasNoSolution (form_at arena.now) (before ++ equations.now)) }
+    ensures known { IfOk result (λ yes. yes ≡ true → (before : List Equation) → IsKnown (form_at arena.now)
+        (length arena.now.nodes.items) parents.old shapes.old found.old.items before → IsKnown (form_at
+        arena.now) (length arena.now.nodes.items) parents.new shapes.new found.new.items (before ++
+        equations.now)) }
+    ensures clash { IfOk result (λ yes. yes ≡ false → (before : List Equation) → IsKnown (form_at arena.now)
+        (length arena.now.nodes.items) parents.old shapes.old found.old.items before → HasNoSolution
+        (form_at arena.now) (before ++ equations.now)) }
 {
     let followed = found.len();
     for equation in equations {

@@ -36,9 +36,12 @@ fn scan(
     requires table { IsTable (form_at arena.now) (length arena.now.nodes.items) parents.now shapes.now }
     requires marks { length marks.now ≡ length arena.now.nodes.items }
     requires inside { visit.class < length arena.now.nodes.items }
-    requires before { AreDone parents.now marks.now (inner (form_at arena.now) shapes.now visit.class) visit.next }
-    ensures some { IfSome result (λ found. IsNextVisit (form_at arena.now) (length arena.now.nodes.items) parents.now shapes.now marks.now visit found) }
-    ensures none { IfNone result (AreDone parents.now marks.now (inner (form_at arena.now) shapes.now visit.class) (length (inner (form_at arena.now) shapes.now visit.class))) }
+    requires before { AreDone parents.now marks.now (inner (form_at arena.now) shapes.now visit.class)
+        visit.next }
+    ensures some { IfSome result (λ found. IsNextVisit (form_at arena.now) (length arena.now.nodes.items)
+        parents.now shapes.now marks.now visit found) }
+    ensures none { IfNone result (AreDone parents.now marks.now (inner (form_at arena.now) shapes.now
+        visit.class) (length (inner (form_at arena.now) shapes.now visit.class))) }
 {
     if let Node::Made(_, first, count) = arena.nodes[shapes[visit.class as usize] as usize] {
         for at in visit.next..count {
@@ -64,13 +67,19 @@ fn step(
 ) -> Result<bool, AllocError>
     requires arena { IsArena arena.now }
     requires table { IsTable (form_at arena.now) (length arena.now.nodes.items) parents.now shapes.now }
-    requires walk { IsWalk (form_at arena.now) (length arena.now.nodes.items) parents.now shapes.now marks.old (stack.old.items ++ visit ∷ []) }
-    requires marked { IsMarked (form_at arena.now) (length arena.now.nodes.items) parents.now shapes.now marks.old (length order.old.items) }
-    ensures walk { IfOk result (λ yes. yes ≡ true → IsWalk (form_at arena.now) (length arena.now.nodes.items) parents.now shapes.now marks.new stack.new.items) }
-    ensures marked { IfOk result (λ yes. yes ≡ true → IsMarked (form_at arena.now) (length arena.now.nodes.items) parents.now shapes.now marks.new (length order.new.items)) }
+    requires walk { IsWalk (form_at arena.now) (length arena.now.nodes.items) parents.now shapes.now
+        marks.old (stack.old.items ++ visit ∷ []) }
+    requires marked { IsMarked (form_at arena.now) (length arena.now.nodes.items) parents.now shapes.now
+        marks.old (length order.old.items) }
+    ensures walk { IfOk result (λ yes. yes ≡ true → IsWalk (form_at arena.now) (length
+        arena.now.nodes.items) parents.now shapes.now marks.new stack.new.items) }
+    ensures marked { IfOk result (λ yes. yes ≡ true → IsMarked (form_at arena.now) (length
+        arena.now.nodes.items) parents.now shapes.now marks.new (length order.new.items)) }
     ensures seen { OnOk result (StaysSeen marks.old marks.new) }
-    ensures shorter { IfOk result (λ yes. yes ≡ true → 2 * fresh marks.new + length stack.new.items < 2 * fresh marks.old + length stack.old.items + 1) }
-    ensures cycle { IfOk result (λ yes. yes ≡ false → (types : ℕ → Simple) → Fits (form_at arena.now) types → AreShared parents.now types → ⊥) }
+    ensures shorter { IfOk result (λ yes. yes ≡ true → 2 * fresh marks.new + length stack.new.items < 2 *
+        fresh marks.old + length stack.old.items + 1) }
+    ensures cycle { IfOk result (λ yes. yes ≡ false → (types : ℕ → Simple) → Fits (form_at arena.now) types
+        → AreShared parents.now types → ⊥) }
 {
     match scan(arena, parents, shapes, marks, visit) {
         None => {
@@ -108,13 +117,17 @@ fn walk(
 ) -> Result<bool, AllocError>
     requires arena { IsArena arena.now }
     requires table { IsTable (form_at arena.now) (length arena.now.nodes.items) parents.now shapes.now }
-    requires walk { IsWalk (form_at arena.now) (length arena.now.nodes.items) parents.now shapes.now marks.old stack.old.items }
-    requires marked { IsMarked (form_at arena.now) (length arena.now.nodes.items) parents.now shapes.now marks.old (length order.old.items) }
+    requires walk { IsWalk (form_at arena.now) (length arena.now.nodes.items) parents.now shapes.now
+        marks.old stack.old.items }
+    requires marked { IsMarked (form_at arena.now) (length arena.now.nodes.items) parents.now shapes.now
+        marks.old (length order.old.items) }
     ensures empty { IfOk result (λ yes. yes ≡ true → stack.new.items ≡ []) }
     ensures calm { IfOk result (λ yes. yes ≡ true → AreCalm marks.new) }
-    ensures marked { IfOk result (λ yes. yes ≡ true → IsMarked (form_at arena.now) (length arena.now.nodes.items) parents.now shapes.now marks.new (length order.new.items)) }
+    ensures marked { IfOk result (λ yes. yes ≡ true → IsMarked (form_at arena.now) (length
+        arena.now.nodes.items) parents.now shapes.now marks.new (length order.new.items)) }
     ensures seen { OnOk result (StaysSeen marks.old marks.new) }
-    ensures cycle { IfOk result (λ yes. yes ≡ false → (types : ℕ → Simple) → Fits (form_at arena.now) types → AreShared parents.now types → ⊥) }
+    ensures cycle { IfOk result (λ yes. yes ≡ false → (types : ℕ → Simple) → Fits (form_at arena.now) types
+        → AreShared parents.now types → ⊥) }
 {
     'visits: while let Some(visit) = stack.pop() {
         if !step(arena, parents, shapes, marks, order, stack, visit)? {
@@ -138,14 +151,17 @@ fn start(
     requires table { IsTable (form_at arena.now) (length arena.now.nodes.items) parents.now shapes.now }
     requires inside { class < length arena.now.nodes.items }
     requires calm { AreCalm marks.old }
-    requires marked { IsMarked (form_at arena.now) (length arena.now.nodes.items) parents.now shapes.now marks.old (length order.old.items) }
+    requires marked { IsMarked (form_at arena.now) (length arena.now.nodes.items) parents.now shapes.now
+        marks.old (length order.old.items) }
     requires empty { stack.old.items ≡ [] }
     ensures calm { IfOk result (λ yes. yes ≡ true → AreCalm marks.new) }
-    ensures marked { IfOk result (λ yes. yes ≡ true → IsMarked (form_at arena.now) (length arena.now.nodes.items) parents.now shapes.now marks.new (length order.new.items)) }
+    ensures marked { IfOk result (λ yes. yes ≡ true → IsMarked (form_at arena.now) (length
+        arena.now.nodes.items) parents.now shapes.now marks.new (length order.new.items)) }
     ensures empty { IfOk result (λ yes. yes ≡ true → stack.new.items ≡ []) }
     ensures seen { OnOk result (StaysSeen marks.old marks.new) }
     ensures here { OnOk result (up parents.now class ≡ class → mark_at marks.new class ≢ Mark.Fresh) }
-    ensures cycle { IfOk result (λ yes. yes ≡ false → (types : ℕ → Simple) → Fits (form_at arena.now) types → AreShared parents.now types → ⊥) }
+    ensures cycle { IfOk result (λ yes. yes ≡ false → (types : ℕ → Simple) → Fits (form_at arena.now) types
+        → AreShared parents.now types → ⊥) }
 {
     if parents[class as usize] != class {
         return Ok(true);
@@ -175,8 +191,10 @@ fn walk_all(
     requires marks { length marks.old ≡ length arena.now.nodes.items }
     requires none { order.old.items ≡ [] }
     requires empty { stack.old.items ≡ [] }
-    ensures ranked { IfOk result (λ yes. yes ≡ true → IsRanked (form_at arena.now) parents.now shapes.now (length order.new.items + 1)) }
-    ensures cycle { IfOk result (λ yes. yes ≡ false → (types : ℕ → Simple) → Fits (form_at arena.now) types → AreShared parents.now types → ⊥) }
+    ensures ranked { IfOk result (λ yes. yes ≡ true → IsRanked (form_at arena.now) parents.now shapes.now
+        (length order.new.items + 1)) }
+    ensures cycle { IfOk result (λ yes. yes ≡ false → (types : ℕ → Simple) → Fits (form_at arena.now) types
+        → AreShared parents.now types → ⊥) }
 {
     for class in 0..arena.nodes.len() {
         if !start(arena, parents, shapes, marks, order, stack, class as u32)? {
@@ -195,8 +213,10 @@ pub(crate) fn order(
 ) -> Result<Option<Vec<u32>>, AllocError>
     requires arena { IsArena arena.now }
     requires table { IsTable (form_at arena.now) (length arena.now.nodes.items) parents.now shapes.now }
-    ensures ranked { IfOk result (λ found. IfSome found (λ order. IsRanked (form_at arena.now) parents.now shapes.now (length order.items + 1))) }
-    ensures cycle { IfOk result (λ found. IfNone found ((types : ℕ → Simple) → Fits (form_at arena.now) types → AreShared parents.now types → ⊥)) }
+    ensures ranked { IfOk result (λ found. IfSome found (λ order. IsRanked (form_at arena.now) parents.now
+        shapes.now (length order.items + 1))) }
+    ensures cycle { IfOk result (λ found. IfNone found ((types : ℕ → Simple) → Fits (form_at arena.now)
+        types → AreShared parents.now types → ⊥)) }
 {
     let mut marks = fresh_marks(alloc, arena.nodes.len())?;
     let mut order = Vec::new(alloc);

@@ -33,7 +33,8 @@ fn solve_in(
     requires shapes_length { length shapes.old ≡ length arena.now.nodes.items }
     requires parents { (i : ℕ) → up parents.old i ≡ i }
     requires shapes { (i : ℕ) → up shapes.old i ≡ i }
-    ensures some { IfOk result (λ found. IfSome found (λ order. IsSolved (form_at arena.now) (length arena.now.nodes.items) parents.new shapes.new equations.now (length order.items + 1))) }
+    ensures some { IfOk result (λ found. IfSome found (λ order. IsSolved (form_at arena.now) (length
+        arena.now.nodes.items) parents.new shapes.new equations.now (length order.items + 1))) }
     ensures none { IfOk result (λ found. IfNone found (HasNoSolution (form_at arena.now) equations.now)) }
 {
     let mut found = Vec::new(alloc);
@@ -52,7 +53,8 @@ pub fn solve(
 ) -> Result<Option<Solution>, AllocError>
     requires arena { IsArena arena.now }
     requires nodes { AreNodes (length arena.now.nodes.items) equations.now }
-    ensures principal { IfOk result (λ found. IfSome found (λ s. IsPrincipal (form_at arena.now) equations.now (types_of arena.now s))) }
+    ensures principal { IfOk result (λ found. IfSome found (λ s. IsPrincipal (form_at arena.now)
+        equations.now (types_of arena.now s))) }
     ensures none { IfOk result (λ found. IfNone found (HasNoSolution (form_at arena.now) equations.now)) }
 {
     let mut parents = apart(alloc, arena.nodes.len())?;
