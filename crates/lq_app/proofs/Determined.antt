@@ -10,9 +10,11 @@ use Rattle.lq_app.specs.declared.status.Status.{Status}
 use Rattle.lq_app.specs.declared.status.Status.TheVariants.{Good, Rejected, Undecided, Refused, Usage, File, SinkFault, Memory}
 use Rattle.lq_app.specs.Ends.{Ends, WritesAll}
 use Rattle.lq_app.specs.Command.{file_named, usage_line}
-use Rattle.lq_app.specs.Judgement.{IsUngathered, IsPastNumber, IsJudgement, IsByNumber, Agree, IsOneJudgement, HasSmallDemands}
-use Rattle.lq_app.proofs.Judged.{decided_is}
-use Rattle.lq_app.specs.Report.{Visit, IsHanded, IsFileFault, IsVerdict, IsDue, IsByNumberHere, SameReport, IsDetermined}
+use Rattle.lq_sound.specs.SameTree.{AreTheTextsTrees}
+use Rattle.lq_straight.specs.Demands.{ValidIsSafe}
+use Rattle.lq_app.specs.Judgement.{IsAccepted, IsSafeText, IsUngathered, IsPastNumber, IsJudgement, IsByNumber, Agree, IsOneJudgement, HasSmallDemands}
+use Rattle.lq_app.proofs.Judged.{decided_is, safe_text}
+use Rattle.lq_app.specs.Report.{Visit, IsHanded, IsFileFault, IsVerdict, IsDue, WasHanded, IsByNumberHere, SameReport, IsDetermined, IsOrFault, MayStop, IsExact}
 
 -- what is held under the name that was named
 same_name : (words : List (List ℕ)) (name other : List ℕ) → file_named words ≡ Some name → file_named words ≡ Some other → name ≡ other
@@ -128,23 +130,23 @@ Either words v s t r q = SameDue s t r q ⊎ (IsByNumberHere words v s r ⊎ IsB
 usage_with : (words : List (List ℕ)) (v : Visit) (t : Status) (r q : List ℕ) → file_named words ≡ None → r ≡ usage_line → IsDue words v t q → SameDue Usage t r q
 usage_with words v Usage r q none is b = (refl, is ∙ sym b.2)
 usage_with words v File r q none is b = absurd (let some = b.1 in cc)
-usage_with words v Good r q none is b = absurd (let some = b.2 in cc)
-usage_with words v Refused r q none is b = absurd (let some = b.2 in cc)
-usage_with words v Rejected r q none is b = absurd (let some = b.2 in cc)
-usage_with words v Undecided r q none is b = absurd (let some = b.2 in cc)
+usage_with words v Good r q none is b = absurd (let some = b.1.1 in cc)
+usage_with words v Refused r q none is b = absurd (let some = b.1.1 in cc)
+usage_with words v Rejected r q none is b = absurd (let some = b.1.1 in cc)
+usage_with words v Undecided r q none is b = absurd (let some = b.1.1 in cc)
 usage_with words v SinkFault r q none is b = absurd b
 usage_with words v Memory r q none is b = absurd b
 
 -- a verdict on a text that was handed over
-judged_with : IsOneJudgement → (words : List (List ℕ)) (v : Visit) (held : Files) (s : Status) (name text : List ℕ) (t : Status) (r q : List ℕ) → v.files ≡ Some held → v.failures_now < 2 ^ 64 - 1
-    → file_named words ≡ Some name → IsHanded v name text → IsVerdict text s r → IsDue words v t q → Either words v s t r q
-judged_with law words v held s name text t r q told low named handed verdict due = by_status t due
+judged_with : IsOneJudgement → (words : List (List ℕ)) (v : Visit) (held : Files) (s : Status) (text : List ℕ) (t : Status) (r q : List ℕ) → v.files ≡ Some held → v.failures_now < 2 ^ 64 - 1
+    → WasHanded words v text → IsVerdict text s r → IsDue words v t q → Either words v s t r q
+judged_with law words v held s text t r q told low handed verdict due = by_status t due
   where
-    text_is : (other there : List ℕ) → file_named words ≡ Some other → IsHanded v other there → there ≡ text
-    text_is other there also h = same_text v held name there text told (subst (λ (n : List ℕ). IsHanded v n there) (same_name words other name also named) h) handed
+    text_is : (there : List ℕ) → WasHanded words v there → there ≡ text
+    text_is there h = same_text v held handed.0 there text told (subst (λ (n : List ℕ). IsHanded v n there) (same_name words h.0 handed.0 h.1 handed.1) h.2) handed.2
 
     here : (u : Status) (w : List ℕ) → ByNumber text u w → IsByNumberHere words v u w
-    here u w n = (n.0, (name, text, named, handed, n.1))
+    here u w n = (n.0, (text, handed, n.1))
 
     with_verdict : (u : Status) → IsVerdict text u q → Either words v s u r q
     with_verdict u also =
@@ -152,11 +154,11 @@ judged_with law words v held s name text t r q told low named handed verdict due
 
     by_status : (u : Status) → IsDue words v u q → Either words v s u r q
     by_status Usage b = absurd (let none = b.0 in cc)
-    by_status File b = absurd (fault_or_handed v held name text q told low (subst (λ (n : List ℕ). IsFileFault v n q) (same_name words b.0 name b.1 named) b.2) handed)
-    by_status Good b = with_verdict Good (subst (λ (l : List ℕ). IsVerdict l Good q) (text_is b.0 b.1 b.2 b.3) b.4)
-    by_status Refused b = with_verdict Refused (subst (λ (l : List ℕ). IsVerdict l Refused q) (text_is b.0 b.1 b.2 b.3) b.4)
-    by_status Rejected b = with_verdict Rejected (subst (λ (l : List ℕ). IsVerdict l Rejected q) (text_is b.0 b.1 b.2 b.3) b.4)
-    by_status Undecided b = with_verdict Undecided (subst (λ (l : List ℕ). IsVerdict l Undecided q) (text_is b.0 b.1 b.2 b.3) b.4)
+    by_status File b = absurd (fault_or_handed v held handed.0 text q told low (subst (λ (n : List ℕ). IsFileFault v n q) (same_name words b.0 handed.0 b.1 handed.1) b.2) handed.2)
+    by_status Good b = with_verdict Good (subst (λ (l : List ℕ). IsVerdict l Good q) (text_is b.0 b.1) b.2)
+    by_status Refused b = with_verdict Refused (subst (λ (l : List ℕ). IsVerdict l Refused q) (text_is b.0 b.1) b.2)
+    by_status Rejected b = with_verdict Rejected (subst (λ (l : List ℕ). IsVerdict l Rejected q) (text_is b.0 b.1) b.2)
+    by_status Undecided b = with_verdict Undecided (subst (λ (l : List ℕ). IsVerdict l Undecided q) (text_is b.0 b.1) b.2)
     by_status SinkFault b = absurd b
     by_status Memory b = absurd b
 
@@ -164,32 +166,28 @@ fault_with : (words : List (List ℕ)) (v : Visit) (held : Files) (name : List �
     → file_named words ≡ Some name → IsFileFault v name r → IsDue words v t q → SameDue File t r q
 fault_with words v held name t r q told low named fault due = by_status t due
   where
-    handed_is : (other text : List ℕ) → file_named words ≡ Some other → IsHanded v other text → ⊥
-    handed_is other text also h = fault_or_handed v held name text r told low fault (subst (λ (n : List ℕ). IsHanded v n text) (same_name words other name also named) h)
+    handed_is : (text : List ℕ) → WasHanded words v text → ⊥
+    handed_is text h = fault_or_handed v held name text r told low fault (subst (λ (n : List ℕ). IsHanded v n text) (same_name words h.0 name h.1 named) h.2)
 
     by_status : (u : Status) → IsDue words v u q → SameDue File u r q
     by_status Usage b = absurd (let none = b.0 in cc)
     by_status File b = (refl, faults v held name r q told low fault (subst (λ (n : List ℕ). IsFileFault v n q) (same_name words b.0 name b.1 named) b.2))
-    by_status Good b = absurd (handed_is b.0 b.1 b.2 b.3)
-    by_status Refused b = absurd (handed_is b.0 b.1 b.2 b.3)
-    by_status Rejected b = absurd (handed_is b.0 b.1 b.2 b.3)
-    by_status Undecided b = absurd (handed_is b.0 b.1 b.2 b.3)
+    by_status Good b = absurd (handed_is b.0 b.1)
+    by_status Refused b = absurd (handed_is b.0 b.1)
+    by_status Rejected b = absurd (handed_is b.0 b.1)
+    by_status Undecided b = absurd (handed_is b.0 b.1)
     by_status SinkFault b = absurd b
     by_status Memory b = absurd b
 
 pub determined : IsOneJudgement → IsDetermined
 determined law words v held Usage t r q told low a b = inl (usage_with words v t r q a.0 a.2 b)
 determined law words v held File t r q told low a b = inl (fault_with words v held a.0 t r q told low a.1 a.2 b)
-determined law words v held Good t r q told low a b = judged_with law words v held Good a.0 a.1 t r q told low a.2 a.3 a.4 b
-determined law words v held Refused t r q told low a b = judged_with law words v held Refused a.0 a.1 t r q told low a.2 a.3 a.4 b
-determined law words v held Rejected t r q told low a b = judged_with law words v held Rejected a.0 a.1 t r q told low a.2 a.3 a.4 b
-determined law words v held Undecided t r q told low a b = judged_with law words v held Undecided a.0 a.1 t r q told low a.2 a.3 a.4 b
+determined law words v held Good t r q told low a b = judged_with law words v held Good a.0 t r q told low a.1 a.2 b
+determined law words v held Refused t r q told low a b = judged_with law words v held Refused a.0 t r q told low a.1 a.2 b
+determined law words v held Rejected t r q told low a b = judged_with law words v held Rejected a.0 t r q told low a.1 a.2 b
+determined law words v held Undecided t r q told low a b = judged_with law words v held Undecided a.0 t r q told low a.1 a.2 b
 determined law words v held SinkFault t r q told low a b = absurd a
 determined law words v held Memory t r q told low a b = absurd a
-
--- some report is due by which the text is undecided by a number
-abbrev pub MayStop : List (List ℕ) → Visit → Type 0
-MayStop words v = (report : List ℕ) × IsByNumberHere words v Undecided report
 
 may_stop : (words : List (List ℕ)) (v : Visit) (s : Status) (r : List ℕ) → IsByNumberHere words v s r → MayStop words v
 may_stop words v s r is = (r, (refl, is.1))
@@ -204,49 +202,46 @@ written law words v held status due report old new all told low is =
     ⊎_elim (λ same. inl same) (λ stop. inr (inr (inr stop))) (due_or_number words v status due all.0 report (determined law words v held status due all.0 report told low all.1 is))
 
 -- At most a fault of the sink, want of memory or a number in solving comes in place of what is due.
-pub exact : IsOneJudgement → (words : List (List ℕ)) (v : Visit) (held : Files) (old new : Option (List ℕ)) (status due : Status) (report : List ℕ) → Ends (IsDue words v) old new status → v.files ≡ Some held → v.failures_now < 2 ^ 64 - 1 → IsDue words v due report
-    → (status ≡ due) ⊎ ((status ≡ SinkFault) ⊎ ((status ≡ Memory) ⊎ MayStop words v))
-exact law words v held old new Memory due report ends told low is = inr (inr (inl refl))
-exact law words v held old new SinkFault due report ends told low is = inr (inl refl)
-exact law words v held old new Good due report ends told low is = written law words v held Good due report old new ends told low is
-exact law words v held old new Rejected due report ends told low is = written law words v held Rejected due report old new ends told low is
-exact law words v held old new Undecided due report ends told low is = written law words v held Undecided due report old new ends told low is
-exact law words v held old new Refused due report ends told low is = written law words v held Refused due report old new ends told low is
-exact law words v held old new Usage due report ends told low is = written law words v held Usage due report old new ends told low is
-exact law words v held old new File due report ends told low is = written law words v held File due report old new ends told low is
+pub exact : IsOneJudgement → (words : List (List ℕ)) (v : Visit) (old new : Option (List ℕ)) (status : Status) → Ends (IsDue words v) old new status → IsExact words v status
+exact law words v old new Memory ends held due report told low is = inr (inr (inl refl))
+exact law words v old new SinkFault ends held due report told low is = inr (inl refl)
+exact law words v old new Good ends held due report told low is = written law words v held Good due report old new ends told low is
+exact law words v old new Rejected ends held due report told low is = written law words v held Rejected due report old new ends told low is
+exact law words v old new Undecided ends held due report told low is = written law words v held Undecided due report old new ends told low is
+exact law words v old new Refused ends held due report told low is = written law words v held Refused due report old new ends told low is
+exact law words v old new Usage ends held due report told low is = written law words v held Usage due report old new ends told low is
+exact law words v old new File ends held due report told low is = written law words v held File due report old new ends told low is
 
 -- Other words than a command are answered by the usage line.
-pub usage_due : (words : List (List ℕ)) (v : Visit) (old new : Option (List ℕ)) (status : Status) → Ends (IsDue words v) old new status → file_named words ≡ None → (status ≡ Usage) ⊎ ((status ≡ SinkFault) ⊎ (status ≡ Memory))
+pub usage_due : (words : List (List ℕ)) (v : Visit) (old new : Option (List ℕ)) (status : Status) → Ends (IsDue words v) old new status → file_named words ≡ None → IsOrFault Usage status
 usage_due words v old new Usage ends none = inl refl
 usage_due words v old new Memory ends none = inr (inr refl)
 usage_due words v old new SinkFault ends none = inr (inl refl)
 usage_due words v old new File ends none = absurd (let some = ends.1.1 in cc)
-usage_due words v old new Good ends none = absurd (let some = ends.1.2 in cc)
-usage_due words v old new Refused ends none = absurd (let some = ends.1.2 in cc)
-usage_due words v old new Rejected ends none = absurd (let some = ends.1.2 in cc)
-usage_due words v old new Undecided ends none = absurd (let some = ends.1.2 in cc)
+usage_due words v old new Good ends none = absurd (let some = ends.1.1.1 in cc)
+usage_due words v old new Refused ends none = absurd (let some = ends.1.1.1 in cc)
+usage_due words v old new Rejected ends none = absurd (let some = ends.1.1.1 in cc)
+usage_due words v old new Undecided ends none = absurd (let some = ends.1.1.1 in cc)
 
 -- A failure of the folder is answered as a fault of the file.
-pub failure_due : (words : List (List ℕ)) (v : Visit) (old new : Option (List ℕ)) (status : Status) → Ends (IsDue words v) old new status → v.failures < v.failures_now → (status ≡ File) ⊎ ((status ≡ SinkFault) ⊎ (status ≡ Memory))
+pub failure_due : (words : List (List ℕ)) (v : Visit) (old new : Option (List ℕ)) (status : Status) → Ends (IsDue words v) old new status → v.failures < v.failures_now → IsOrFault File status
 failure_due words v old new File ends rose = inl refl
 failure_due words v old new Memory ends rose = inr (inr refl)
 failure_due words v old new SinkFault ends rose = inr (inl refl)
 failure_due words v old new Usage ends rose = absurd (omega (arith, ends.1.1.failures))
-failure_due words v old new Good ends rose = absurd (omega (arith, ends.1.3.calm))
-failure_due words v old new Refused ends rose = absurd (omega (arith, ends.1.3.calm))
-failure_due words v old new Rejected ends rose = absurd (omega (arith, ends.1.3.calm))
-failure_due words v old new Undecided ends rose = absurd (omega (arith, ends.1.3.calm))
+failure_due words v old new Good ends rose = absurd (omega (arith, ends.1.1.2.calm))
+failure_due words v old new Refused ends rose = absurd (omega (arith, ends.1.1.2.calm))
+failure_due words v old new Rejected ends rose = absurd (omega (arith, ends.1.1.2.calm))
+failure_due words v old new Undecided ends rose = absurd (omega (arith, ends.1.1.2.calm))
+
+-- what was written at a status is due at it
+pub due_at : (words : List (List ℕ)) (v : Visit) (old new : Option (List ℕ)) (status other : Status) → Ends (IsDue words v) old new status → status ≡ other → Ends (IsDue words v) old new other
+due_at words v old new status other ends is = subst (Ends (IsDue words v) old new) is ends
 
 -- A text whose constants are small is undecided only by a comparison that can't be gathered.
-pub decided_here : (words : List (List ℕ)) (v : Visit) (old new : Option (List ℕ)) (status : Status) → Ends (IsDue words v) old new status → status ≡ Undecided
-    → (name text report : List ℕ) × (file_named words ≡ Some name) × IsHanded v name text × (HasSmallDemands text → IsUngathered text report)
-decided_here words v old new Undecided ends is =
-    let due = ends.1 in
-    (due.0, due.1, ends.0, due.2, due.3, λ small. decided_is due.1 ends.0 small due.4)
-decided_here words v old new Good ends is = absurd cc
-decided_here words v old new Rejected ends is = absurd cc
-decided_here words v old new Refused ends is = absurd cc
-decided_here words v old new Usage ends is = absurd cc
-decided_here words v old new File ends is = absurd cc
-decided_here words v old new SinkFault ends is = absurd cc
-decided_here words v old new Memory ends is = absurd cc
+pub decided_here : (words : List (List ℕ)) (v : Visit) (old new : Option (List ℕ)) → Ends (IsDue words v) old new Undecided → (text report : List ℕ) × WasHanded words v text × (HasSmallDemands text → IsUngathered text report)
+decided_here words v old new ends = (ends.1.0, ends.0, ends.1.1, λ small. decided_is ends.1.0 ends.0 small ends.1.2)
+
+-- What is accepted is safe.
+pub safe_here : ValidIsSafe → AreTheTextsTrees → (words : List (List ℕ)) (v : Visit) (old new : Option (List ℕ)) → Ends (IsDue words v) old new Good → (text : List ℕ) × WasHanded words v text × ((is : IsAccepted text) × IsSafeText is.of)
+safe_here safe trees words v old new ends = (ends.1.0, ends.1.1, (ends.1.2.0.0, safe_text safe trees ends.1.0 ends.1.2.0.0))

@@ -1,113 +1,44 @@
 -- Two judgements that are due agree.
 use Rattle.std.specs.Prelude.{slice_get, codes, false}
-use Rattle.std.proofs.Common.{◌≡◌, ◌⊎◌, inl, inr, ⊎_elim, ℕ, zero, suc, ◌<◌, ◌^◌, ◌++◌, List, [], ◌∷◌, take, length, All, Some, Result, Ok, Err, sym, ap, subst, ◌∙◌, arith}
+use Rattle.std.proofs.Common.{◌≡◌, ◌⊎◌, inl, inr, ⊎_elim, ℕ, zero, suc, ◌<◌, ◌^◌, ◌++◌, List, [], ◌∷◌, take, All, Some, Result, Ok, Err, refl, sym, ap, subst, ◌∙◌, map, arith}
 use Rattle.std.proofs.lemmas.Bool.{cases_lt}
-use Rattle.std.proofs.lemmas.List.{length-map}
+use Rattle.std.proofs.lemmas.List.{append-nil}
 use Rattle.std.proofs.lemmas.List.Elements.{All-head, All-tail}
 use Rattle.lq_name.specs.declared.name.Binder.{Binder}
 use Rattle.lq_pred.specs.Formula.{Formula}
+use Rattle.lq_pred.specs.Sum.{Sum as Term}
 use Rattle.lq_pred.specs.Points.{Point}
 use Rattle.lq_pred.specs.Comparison.{CanGather}
 use Rattle.lq_pred.specs.Reading.{reading_of, AllFitIn}
 use Rattle.lq_pred.specs.Literals.{negative, literals_of}
 use Rattle.lq_pred.specs.Implication.{Implication, IsValid, terms_in}
 use Rattle.lq_demand.specs.Answer.{CanBeGathered, sizes_of, IsFirstFailing, IsFirstUngathered}
-use Rattle.lq_action.specs.Value as value
-use Rattle.lq_action.specs.Value.{Value}
-use Rattle.lq_grammar.specs.Grammar.{start_of}
-use Rattle.lq_grammar.specs.Levels as levels
-use Rattle.lq_grammar.specs.Levels.{IsShallow}
-use Rattle.lq_grammar.specs.Reading.{IsText}
-use Rattle.lq_grammar.specs.declared.kind.Kind.{Kind}
-use Rattle.lq_grammar.specs.declared.symbol.Event.{Event}
-use Rattle.lq_lex.specs.Places.{place_at}
-use Rattle.lq_lex.specs.Reading.{IsTokens, HasOneReading}
-use Rattle.lq_lex.specs.declared.error.LexError.{LexError}
-use Rattle.lq_lex.specs.declared.error.LexError.TheVariants.{BadByte, OpenComment, LiteralPast}
-use Rattle.lq_lex.specs.declared.token.Token.{Token}
-use Rattle.lq_name.specs.declared.place.Place.{Place}
-use Rattle.lq_name.specs.declared.place.TextKind.TheVariants as kind
-use Rattle.lq_parse.specs.declared.error.ParseError.TheVariants.{Syntax, TooDeep}
-use Rattle.lq_parse.specs.Terminals.{kind_of, kinds_of}
-use Rattle.lq_parse.specs.Texts.{place_of, IsSyntax, IsTooDeep}
-use Rattle.lq_parse.specs.Trees.{IsRead, with_names}
-use Rattle.lq_straight.specs.Forms as form
-use Rattle.lq_straight.specs.Forms.{Found, items_in}
-use Rattle.lq_straight.specs.Names.{first_names}
-use Rattle.lq_tree.specs.Items.{ItemTree}
+use Rattle.lq_report.specs.Refusals.{code_of, refusal_line}
 use Rattle.lq_straight.specs.declared.item.NameAt.{NameAt}
 use Rattle.lq_straight.specs.declared.item.Item.{Item}
 use Rattle.lq_straight.specs.declared.item.Assertion.{Assertion}
-use Rattle.lq_straight.specs.Scope.{Resolves, IsFirstUnknown, IsOneScope, IsOneUnknown, IsUnknownOrResolved}
 use Rattle.lq_straight.specs.Demands.{goal_of, implications_of, assertions_of}
 use Rattle.lq_app.specs.declared.verdict.Judgement.{Judgement}
 use Rattle.lq_app.specs.declared.verdict.Refusal.{Refusal}
 use Rattle.lq_app.specs.declared.verdict.Judgement.TheVariants.{Accepted, Rejected, Undecided}
 use Rattle.lq_app.specs.declared.verdict.Refusal.TheVariants.{Code, Memory}
-use Rattle.lq_app.specs.Program.{Program, names_in, IsFaulty, IsStopped, IsTooDeepAt}
-use Rattle.lq_app.specs.Judgement.{IsReadAs, Bound, demands, IsAccepted, ShowsPoint, IsRejected, IsUngathered, IsPastNumber, HasUnknown, Cause, bad_byte, open_comment, literal_past, stopped, too_deep, unbuilt_form, unknown_name, refusal_of, IsRefused, IsJudgement, HasSmallDemands, DifferInPoints, IsOneJudgement, head_lines}
-use Rattle.lq_app.specs.Refusals.{token_refusal, tree_refusal, form_refusal, name_refusal}
-use Rattle.lq_app.specs.Texts.{formula_text}
+use Rattle.lq_sound.specs.SameTree.{AreTheTextsTrees}
+use Rattle.lq_straight.specs.Demands.{ValidIsSafe}
+use Rattle.lq_straight.specs.Forms as form
+use Rattle.lq_straight.specs.Forms.{items_in}
+use Rattle.lq_straight.specs.Scope.{Resolves}
+use Rattle.lq_app.specs.Stages.{Parsed, Recognised, Scoped}
+use Rattle.lq_app.specs.Judgement.{Bound, trees_of, names_of, items_of, demands, IsAccepted, IsSafeText, ShowsPoint, IsRejected, IsUngathered, IsPastNumber, IsRefused, IsJudgement, HasSmallDemands, PointValue, at_number, point_lines, RejectAlike, ExplainAlike, IsOneJudgement, head_lines}
+use Rattle.lq_app.specs.Texts.{fraction_text, term_text, formula_text}
 use Rattle.lq_app.proofs.Asserted.{goal_at, goal_literals, goal_fits}
+use Rattle.lq_app.proofs.Staged.{Laws, one_program}
 
--- the laws of reading and binding
-pub record Laws : Type 0 where
-  pub lexing : (text : List ℕ) → HasOneReading kind.Program text
-  pub tree : (text : List ℕ) (names : List (List ℕ)) (tokens : List Token) (v w : Value) → IsRead kind.Program text names tokens v → IsRead kind.Program text names tokens w → v ≡ w
-  pub stop : (ks : List Kind) (es : List Event) (at : ℕ) → IsText (start_of kind.Program) ks es → levels.IsSyntax (start_of kind.Program) 250 ks at → ⊥
-  pub deep : (ks : List Kind) (at : ℕ) → IsShallow (start_of kind.Program) 250 ks (length ks) → levels.IsTooDeep (start_of kind.Program) 250 ks at → ⊥
-  pub one : (ks : List Kind) (at to : ℕ) → levels.IsSyntax (start_of kind.Program) 250 ks at → levels.IsTooDeep (start_of kind.Program) 250 ks to → ⊥
-  pub stops : (ks : List Kind) (at to : ℕ) → levels.IsSyntax (start_of kind.Program) 250 ks at → levels.IsSyntax (start_of kind.Program) 250 ks to → at ≡ to
-  pub depths : (ks : List Kind) (at to : ℕ) → levels.IsTooDeep (start_of kind.Program) 250 ks at → levels.IsTooDeep (start_of kind.Program) 250 ks to → at ≡ to
-  pub scope : IsOneScope
-  pub unknown : IsOneUnknown
-  pub either : IsUnknownOrResolved
+-- a text is one program
+bound_once : Laws → (text : List ℕ) (a b : Bound text) → a.program ≡ b.program
+bound_once laws text a b = let same = one_program laws text (Ok a.program) (Ok b.program) a.is b.is in cc
 
--- a text has one list of tokens
-tokens_once : Laws → (text : List ℕ) (ts us : List Token) → IsTokens kind.Program text ts → IsTokens kind.Program text us → ts ≡ us
-tokens_once laws text ts us a b = (laws.lexing text).tokens ts us a b
-
-abbrev trees_in : Value → List ItemTree
-trees_in (value.items trees) = trees
-trees_in _ = []
-
-names_once : Laws → (text : List ℕ) (a b : Program text) → names_in a ≡ names_in b
-names_once laws text a b = ap (λ (ts : List Token). with_names text ts first_names) (tokens_once laws text a.tokens b.tokens a.are_tokens b.are_tokens)
-
-trees_once : Laws → (text : List ℕ) (a b : Program text) → a.trees ≡ b.trees
-trees_once laws text a b =
-    let same = tokens_once laws text a.tokens b.tokens a.are_tokens b.are_tokens in
-    let read = subst (λ (ts : List Token). IsRead kind.Program text (with_names text ts first_names) ts (value.items a.trees)) same a.read in
-    (let same : value.items a.trees ≡ value.items b.trees = laws.tree text (names_in b) b.tokens (value.items a.trees) (value.items b.trees) read b.read in ap trees_in same)
-
--- what a program is recognised as
-found_once : Laws → (text : List ℕ) (a b : Program text) (f g : Found (List (Item NameAt))) → items_in a.trees ≡ f → items_in b.trees ≡ g → f ≡ g
-found_once laws text a b f g is also = sym is ∙ ap items_in (trees_once laws text a b) ∙ also
-
-abbrev items_found : Found (List (Item NameAt)) → List (Item NameAt)
-items_found (form.is l) = l
-items_found (form.unbuilt p) = []
-
-abbrev place_found : Place → Found (List (Item NameAt)) → Place
-place_found other (form.is l) = other
-place_found other (form.unbuilt p) = p
-
-program_items_once : Laws → (text : List ℕ) (a b : Program text) (l m : List (Item NameAt)) → items_in a.trees ≡ form.is l → items_in b.trees ≡ form.is m → l ≡ m
-program_items_once laws text a b l m e f = ap items_found (found_once laws text a b (form.is l) (form.is m) e f)
-
--- a text is bound in one way
-read_once : Laws → (text : List ℕ) (names others : List (List ℕ)) (items also : List (Item NameAt)) → IsReadAs text names items → IsReadAs text others also → (names ≡ others) × (items ≡ also)
-read_once laws text names others items also a b = (
-  sym a.named ∙ names_once laws text a.program b.program ∙ b.named,
-  program_items_once laws text a.program b.program items also a.recognised b.recognised,
-)
-
-items_once : Laws → (text : List ℕ) (a b : Bound text) → a.items ≡ b.items
-items_once laws text a b = (read_once laws text a.names b.names a.items b.items a.bound.read b.bound.read).1
-
-scoped_once : Laws → (text : List ℕ) (a b : Bound text) → a.scoped ≡ b.scoped
-scoped_once laws text a b =
-    laws.scope b.items a.scoped b.scoped (subst (λ (l : List (Item NameAt)). Resolves l a.scoped) (items_once laws text a b) a.bound.resolves) b.bound.resolves
+scoped_once : Laws → (text : List ℕ) (a b : Bound text) → a.program.scoped ≡ b.program.scoped
+scoped_once laws text a b = ap (λ (p : Scoped). p.scoped) (bound_once laws text a b)
 
 -- what holds of all holds of one, and of one of the first
 all_at : {A : Type 0} (P : A → Type 0) (xs : List A) (k : ℕ) (x : A) → All P xs → slice_get xs k ≡ Some x → P x
@@ -167,34 +98,49 @@ one_assertion scoped others k m a b e f is also =
     let there : slice_get (assertions_of others) m ≡ Some a = subst (λ (n : ℕ). slice_get (assertions_of others) n ≡ Some a) f (subst (λ (l : List (Item Binder)). slice_get (assertions_of l) k ≡ Some a) e is) in
     cc
 
+-- the lines on a point, each with its value
+valued : (names : List (List ℕ)) (items : List (Item NameAt)) (p : Point) (ts : List Term) (lines : List ℕ) → ShowsPoint names items p ts lines
+    → (ls : List (List ℕ × PointValue)) × (lines ≡ point_lines ls) × (map (λ l. l.0) ls ≡ map (term_text names items) ts)
+valued names items p [] lines shows = ([], shows, refl)
+valued names items p (t ∷ ts) lines shows =
+    let rest = valued names items p ts shows.2 shows.5 in (
+      (term_text names items t, at_number shows.0 shows.1) ∷ rest.0,
+      shows.4 ∙ ap (λ (l : List ℕ). term_text names items t ++ codes " = " ++ fraction_text shows.0 shows.1 ++ codes "\n" ++ l) rest.1,
+      ap (λ (l : List (List ℕ)). term_text names items t ∷ l) rest.2,
+    )
+
+abbrev shown_terms : Scoped → Implication → List (List ℕ)
+shown_terms p i = map (term_text (names_of p) (items_of p)) (terms_in i)
+
 -- two rejections show the same demand
-rejected_once : Laws → (text r q : List ℕ) → IsRejected text r → IsRejected text q → DifferInPoints r q
+rejected_once : Laws → (text r q : List ℕ) → IsRejected text r → IsRejected text q → RejectAlike r q
 rejected_once laws text r q a b =
+    let program = bound_once laws text a.of b.of in
     let scoped = scoped_once laws text a.of b.of in
     let first = subst (λ (l : List (Item Binder)). IsFirstFailing (implications_of l) a.number a.point) scoped a.first in
     let number = one_failing (demands b.of) a.number b.number a.point b.point first b.first in
-    let assertion = one_assertion a.of.scoped b.of.scoped a.number b.number a.assertion b.assertion scoped number a.asserted b.asserted in
-    let read = read_once laws text a.of.names b.of.names a.of.items b.of.items a.of.bound.read b.of.bound.read in
+    let assertion = one_assertion a.of.program.scoped b.of.program.scoped a.number b.number a.assertion b.assertion scoped number a.asserted b.asserted in
     let failing = failing_once (demands a.of) (demands b.of) a.number b.number a.point b.point a.first b.first (ap implications_of scoped) number in
     let head : head_lines (codes "rejected\n") b.number b.assertion.place ≡ head_lines (codes "rejected\n") a.number a.assertion.place =
     ap (λ (n : ℕ). head_lines (codes "rejected\n") n b.assertion.place) (sym number) ∙ ap (λ (s : Assertion Binder). head_lines (codes "rejected\n") a.number s.place) (sym assertion) in
-    record {
-      number = a.number;
-      place = a.assertion.place;
-      names = b.of.names;
-      items = b.of.items;
-      terms = terms_in b.first.failing;
-      point = a.point;
-      lines = a.lines;
-      shows = subst (λ (l : List (List ℕ)). ShowsPoint l b.of.items a.point (terms_in b.first.failing) a.lines) read.0
-          (subst (λ (l : List (Item NameAt)). ShowsPoint a.of.names l a.point (terms_in b.first.failing) a.lines) read.1
-          (subst (λ (i : Implication). ShowsPoint a.of.names a.of.items a.point (terms_in i) a.lines) failing a.shows));
-      written = a.written;
-      other_point = b.point;
-      other_lines = b.lines;
-      other_shows = b.shows;
-      other_written = b.written ∙ ap (λ (l : List ℕ). l ++ b.lines) head;
-    }
+    let front = head_lines (codes "rejected\n") a.number a.assertion.place in
+    let one = valued (names_of a.of.program) (items_of a.of.program) a.point (terms_in a.first.failing) a.lines a.shows in
+    let two = valued (names_of b.of.program) (items_of b.of.program) b.point (terms_in b.first.failing) b.lines b.shows in (
+      a.number,
+      a.assertion.place,
+      record {
+        lines = one.0;
+        other_lines = two.0;
+        same = one.2 ∙ ap (λ (p : Scoped). shown_terms p a.first.failing) program ∙ ap (shown_terms b.of.program) failing ∙ sym two.2;
+        back = [];
+        written = a.written ∙ ap (λ (l : List ℕ). front ++ l) one.1 ∙ sym (append-nil (front ++ point_lines one.0));
+        other_written = b.written ∙ ap (λ (l : List ℕ). l ++ b.lines) head ∙ ap (λ (l : List ℕ). front ++ l) two.1 ∙ sym (append-nil (front ++ point_lines two.0));
+      },
+    )
+
+-- no explanations are one
+explained_once : (e d : List ℕ) → e ≡ [] → d ≡ [] → ExplainAlike e d
+explained_once e d is also = ([], record { lines = []; other_lines = []; same = refl; back = []; written = is; other_written = also })
 
 -- the formula of a first implication that can't be gathered
 one_formula : (list : List Implication) (k m : ℕ) (p q : Formula) → k ≡ m → IsFirstUngathered list k p → IsFirstUngathered list m q → p ≡ q
@@ -204,136 +150,37 @@ one_formula list k m p q e f g =
     let same : f.ungathered ≡ g.ungathered = cc in
     sym f.is_goal ∙ ap (λ (i : Implication). i.goal) same ∙ g.is_goal
 
-abbrev ungathered_text : List (List ℕ) → List (Item NameAt) → ℕ → Assertion Binder → Formula → List ℕ
-ungathered_text names items number assertion formula =
-    head_lines (codes "undecided\n") number assertion.place ++ codes "number past in " ++ formula_text names items formula ++ codes "\n"
+abbrev ungathered_text : Scoped → ℕ → Assertion Binder → Formula → List ℕ
+ungathered_text p number assertion formula =
+    head_lines (codes "undecided\n") number assertion.place ++ codes "number past in " ++ formula_text (names_of p) (items_of p) formula ++ codes "\n"
 
 -- two judgements on a comparison that can't be gathered are one
 ungathered_once : Laws → (text r q : List ℕ) → IsUngathered text r → IsUngathered text q → r ≡ q
 ungathered_once laws text r q a b =
-    let read = read_once laws text a.of.names b.of.names a.of.items b.of.items a.of.bound.read b.of.bound.read in
+    let program = bound_once laws text a.of b.of in
     let scoped = scoped_once laws text a.of b.of in
     let first = subst (λ (l : List (Item Binder)). IsFirstUngathered (implications_of l) a.number a.formula) scoped a.first in
-    let number = one_ungathered b.of.scoped a.number b.number a.formula b.formula first b.first in
-    let assertion = one_assertion a.of.scoped b.of.scoped a.number b.number a.assertion b.assertion scoped number a.asserted b.asserted in
+    let number = one_ungathered b.of.program.scoped a.number b.number a.formula b.formula first b.first in
+    let assertion = one_assertion a.of.program.scoped b.of.program.scoped a.number b.number a.assertion b.assertion scoped number a.asserted b.asserted in
     let formula = one_formula (demands b.of) a.number b.number a.formula b.formula number first b.first in
     a.written
-    ∙ ap (λ (l : List (List ℕ)). ungathered_text l a.of.items a.number a.assertion a.formula) read.0
-    ∙ ap (λ (l : List (Item NameAt)). ungathered_text b.of.names l a.number a.assertion a.formula) read.1
-    ∙ ap (λ (n : ℕ). ungathered_text b.of.names b.of.items n a.assertion a.formula) number
-    ∙ ap (λ (s : Assertion Binder). ungathered_text b.of.names b.of.items b.number s a.formula) assertion
-    ∙ ap (ungathered_text b.of.names b.of.items b.number b.assertion) formula
+    ∙ ap (λ (p : Scoped). ungathered_text p a.number a.assertion a.formula) program
+    ∙ ap (λ (n : ℕ). ungathered_text b.of.program n a.assertion a.formula) number
+    ∙ ap (λ (s : Assertion Binder). ungathered_text b.of.program b.number s a.formula) assertion
+    ∙ ap (ungathered_text b.of.program b.number b.assertion) formula
     ∙ sym b.written
-
--- what a text is: it has a fault, it stops, it nests too deeply, or it is a program
-program_or_fault : Laws → (text : List ℕ) (e : LexError) (ts : List Token) → IsTokens kind.Program text ts → IsFaulty text e → ⊥
-program_or_fault laws text e ts is fault = (laws.lexing text).either ts e is fault
-
-program_or_stop : Laws → (text : List ℕ) (place : Place) → Program text → IsStopped text place → ⊥
-program_or_stop laws text place p s =
-    let same = tokens_once laws text s.tokens p.tokens s.are_tokens p.are_tokens in
-    let stop = subst (λ (ts : List Token). IsSyntax kind.Program text ts (place_at kind.Program text (length text)) place) same s.stop in
-    laws.stop (kinds_of text p.tokens) p.read.makes.events stop.0 p.read.makes.reading stop.1
-
-program_or_deep : Laws → (text : List ℕ) (place : Place) → Program text → IsTooDeepAt text place → ⊥
-program_or_deep laws text place p s =
-    let same = tokens_once laws text s.tokens p.tokens s.are_tokens p.are_tokens in
-    let deep = subst (λ (ts : List Token). IsTooDeep kind.Program text ts (place_at kind.Program text (length text)) place) same s.deep in
-    laws.deep (kinds_of text p.tokens) deep.0 (rw (length-map p.tokens (kind_of text)) p.read.shallow) deep.1
-
-stop_or_deep : Laws → (text : List ℕ) (p q : Place) → IsStopped text p → IsTooDeepAt text q → ⊥
-stop_or_deep laws text p q s d =
-    let same = tokens_once laws text d.tokens s.tokens d.are_tokens s.are_tokens in
-    let deep = subst (λ (ts : List Token). IsTooDeep kind.Program text ts (place_at kind.Program text (length text)) q) same d.deep in
-    laws.one (kinds_of text s.tokens) s.stop.0 deep.0 s.stop.1 deep.1
-
-stops_once : Laws → (text : List ℕ) (p q : Place) → IsStopped text p → IsStopped text q → p ≡ q
-stops_once laws text p q a b =
-    let same = tokens_once laws text a.tokens b.tokens a.are_tokens b.are_tokens in
-    let stop = subst (λ (ts : List Token). IsSyntax kind.Program text ts (place_at kind.Program text (length text)) p) same a.stop in
-    stop.2 ∙ ap (place_of b.tokens (place_at kind.Program text (length text))) (laws.stops (kinds_of text b.tokens) stop.0 b.stop.0 stop.1 b.stop.1) ∙ sym b.stop.2
-
-depths_once : Laws → (text : List ℕ) (p q : Place) → IsTooDeepAt text p → IsTooDeepAt text q → p ≡ q
-depths_once laws text p q a b =
-    let same = tokens_once laws text a.tokens b.tokens a.are_tokens b.are_tokens in
-    let deep = subst (λ (ts : List Token). IsTooDeep kind.Program text ts (place_at kind.Program text (length text)) p) same a.deep in
-    deep.2 ∙ ap (place_of b.tokens (place_at kind.Program text (length text))) (laws.depths (kinds_of text b.tokens) deep.0 b.deep.0 deep.1 b.deep.1) ∙ sym b.deep.2
-
-bound_or_cause : Laws → (text : List ℕ) → Bound text → Cause text → ⊥
-bound_or_cause laws text p (bad_byte place c) = program_or_fault laws text (BadByte place) p.bound.read.program.tokens p.bound.read.program.are_tokens c
-bound_or_cause laws text p (open_comment place c) = program_or_fault laws text (OpenComment place) p.bound.read.program.tokens p.bound.read.program.are_tokens c
-bound_or_cause laws text p (literal_past place c) = program_or_fault laws text (LiteralPast place) p.bound.read.program.tokens p.bound.read.program.are_tokens c
-bound_or_cause laws text p (stopped place c) = program_or_stop laws text place p.bound.read.program c
-bound_or_cause laws text p (too_deep place c) = program_or_deep laws text place p.bound.read.program c
-bound_or_cause laws text p (unbuilt_form place c) = absurd (let same = found_once laws text p.bound.read.program c.program (form.is p.items) (form.unbuilt place) p.bound.read.recognised c.first in cc)
-bound_or_cause laws text p (unknown_name x c) =
-    let same = (read_once laws text c.names p.names c.items p.items c.read p.bound.read).1 in
-    laws.either p.items p.scoped x (subst (λ (l : List (Item NameAt)). IsFirstUnknown l x) same c.first) p.bound.resolves
 
 -- a text is refused, or is bound
 bound_or_refused : Laws → (text r : List ℕ) (c : ℕ) → Bound text → IsRefused text c r → ⊥
-bound_or_refused laws text r c p refused = bound_or_cause laws text p refused.0
-
-unknown_once : Laws → (text : List ℕ) (x y : NameAt) (a : HasUnknown text x) (b : HasUnknown text y) → name_refusal a.names x ≡ name_refusal b.names y
-unknown_once laws text x y a b =
-    let read = read_once laws text a.names b.names a.items b.items a.read b.read in
-    let one = laws.unknown b.items x y (subst (λ (l : List (Item NameAt)). IsFirstUnknown l x) read.1 a.first) b.first in
-    ap (λ (l : List (List ℕ)). name_refusal l x) read.0 ∙ ap (name_refusal b.names) one
-
-one_cause : Laws → (text : List ℕ) (c d : Cause text) → refusal_of c ≡ refusal_of d
-one_cause laws text (bad_byte p a) (bad_byte q b) = ap token_refusal ((laws.lexing text).faults (BadByte p) (BadByte q) a b)
-one_cause laws text (bad_byte p a) (open_comment q b) = absurd (let same = (laws.lexing text).faults (BadByte p) (OpenComment q) a b in cc)
-one_cause laws text (bad_byte p a) (literal_past q b) = absurd (let same = (laws.lexing text).faults (BadByte p) (LiteralPast q) a b in cc)
-one_cause laws text (bad_byte p a) (stopped q b) = absurd (program_or_fault laws text (BadByte p) b.tokens b.are_tokens a)
-one_cause laws text (bad_byte p a) (too_deep q b) = absurd (program_or_fault laws text (BadByte p) b.tokens b.are_tokens a)
-one_cause laws text (bad_byte p a) (unbuilt_form q b) = absurd (program_or_fault laws text (BadByte p) b.program.tokens b.program.are_tokens a)
-one_cause laws text (bad_byte p a) (unknown_name q b) = absurd (program_or_fault laws text (BadByte p) b.read.program.tokens b.read.program.are_tokens a)
-one_cause laws text (open_comment p a) (bad_byte q b) = absurd (let same = (laws.lexing text).faults (OpenComment p) (BadByte q) a b in cc)
-one_cause laws text (open_comment p a) (open_comment q b) = ap token_refusal ((laws.lexing text).faults (OpenComment p) (OpenComment q) a b)
-one_cause laws text (open_comment p a) (literal_past q b) = absurd (let same = (laws.lexing text).faults (OpenComment p) (LiteralPast q) a b in cc)
-one_cause laws text (open_comment p a) (stopped q b) = absurd (program_or_fault laws text (OpenComment p) b.tokens b.are_tokens a)
-one_cause laws text (open_comment p a) (too_deep q b) = absurd (program_or_fault laws text (OpenComment p) b.tokens b.are_tokens a)
-one_cause laws text (open_comment p a) (unbuilt_form q b) = absurd (program_or_fault laws text (OpenComment p) b.program.tokens b.program.are_tokens a)
-one_cause laws text (open_comment p a) (unknown_name q b) = absurd (program_or_fault laws text (OpenComment p) b.read.program.tokens b.read.program.are_tokens a)
-one_cause laws text (literal_past p a) (bad_byte q b) = absurd (let same = (laws.lexing text).faults (LiteralPast p) (BadByte q) a b in cc)
-one_cause laws text (literal_past p a) (open_comment q b) = absurd (let same = (laws.lexing text).faults (LiteralPast p) (OpenComment q) a b in cc)
-one_cause laws text (literal_past p a) (literal_past q b) = ap token_refusal ((laws.lexing text).faults (LiteralPast p) (LiteralPast q) a b)
-one_cause laws text (literal_past p a) (stopped q b) = absurd (program_or_fault laws text (LiteralPast p) b.tokens b.are_tokens a)
-one_cause laws text (literal_past p a) (too_deep q b) = absurd (program_or_fault laws text (LiteralPast p) b.tokens b.are_tokens a)
-one_cause laws text (literal_past p a) (unbuilt_form q b) = absurd (program_or_fault laws text (LiteralPast p) b.program.tokens b.program.are_tokens a)
-one_cause laws text (literal_past p a) (unknown_name q b) = absurd (program_or_fault laws text (LiteralPast p) b.read.program.tokens b.read.program.are_tokens a)
-one_cause laws text (stopped p a) (bad_byte q b) = absurd (program_or_fault laws text (BadByte q) a.tokens a.are_tokens b)
-one_cause laws text (stopped p a) (open_comment q b) = absurd (program_or_fault laws text (OpenComment q) a.tokens a.are_tokens b)
-one_cause laws text (stopped p a) (literal_past q b) = absurd (program_or_fault laws text (LiteralPast q) a.tokens a.are_tokens b)
-one_cause laws text (stopped p a) (stopped q b) = ap (λ (n : Place). tree_refusal (Syntax n)) (stops_once laws text p q a b)
-one_cause laws text (stopped p a) (too_deep q b) = absurd (stop_or_deep laws text p q a b)
-one_cause laws text (stopped p a) (unbuilt_form q b) = absurd (program_or_stop laws text p b.program a)
-one_cause laws text (stopped p a) (unknown_name q b) = absurd (program_or_stop laws text p b.read.program a)
-one_cause laws text (too_deep p a) (bad_byte q b) = absurd (program_or_fault laws text (BadByte q) a.tokens a.are_tokens b)
-one_cause laws text (too_deep p a) (open_comment q b) = absurd (program_or_fault laws text (OpenComment q) a.tokens a.are_tokens b)
-one_cause laws text (too_deep p a) (literal_past q b) = absurd (program_or_fault laws text (LiteralPast q) a.tokens a.are_tokens b)
-one_cause laws text (too_deep p a) (stopped q b) = absurd (stop_or_deep laws text q p b a)
-one_cause laws text (too_deep p a) (too_deep q b) = ap (λ (n : Place). tree_refusal (TooDeep n)) (depths_once laws text p q a b)
-one_cause laws text (too_deep p a) (unbuilt_form q b) = absurd (program_or_deep laws text p b.program a)
-one_cause laws text (too_deep p a) (unknown_name q b) = absurd (program_or_deep laws text p b.read.program a)
-one_cause laws text (unbuilt_form p a) (bad_byte q b) = absurd (program_or_fault laws text (BadByte q) a.program.tokens a.program.are_tokens b)
-one_cause laws text (unbuilt_form p a) (open_comment q b) = absurd (program_or_fault laws text (OpenComment q) a.program.tokens a.program.are_tokens b)
-one_cause laws text (unbuilt_form p a) (literal_past q b) = absurd (program_or_fault laws text (LiteralPast q) a.program.tokens a.program.are_tokens b)
-one_cause laws text (unbuilt_form p a) (stopped q b) = absurd (program_or_stop laws text q a.program b)
-one_cause laws text (unbuilt_form p a) (too_deep q b) = absurd (program_or_deep laws text q a.program b)
-one_cause laws text (unbuilt_form p a) (unbuilt_form q b) = ap form_refusal (ap (place_found p) (found_once laws text a.program b.program (form.unbuilt p) (form.unbuilt q) a.first b.first))
-one_cause laws text (unbuilt_form p a) (unknown_name q b) = absurd (let same = found_once laws text a.program b.read.program (form.unbuilt p) (form.is b.items) a.first b.read.recognised in cc)
-one_cause laws text (unknown_name p a) (bad_byte q b) = absurd (program_or_fault laws text (BadByte q) a.read.program.tokens a.read.program.are_tokens b)
-one_cause laws text (unknown_name p a) (open_comment q b) = absurd (program_or_fault laws text (OpenComment q) a.read.program.tokens a.read.program.are_tokens b)
-one_cause laws text (unknown_name p a) (literal_past q b) = absurd (program_or_fault laws text (LiteralPast q) a.read.program.tokens a.read.program.are_tokens b)
-one_cause laws text (unknown_name p a) (stopped q b) = absurd (program_or_stop laws text q a.read.program b)
-one_cause laws text (unknown_name p a) (too_deep q b) = absurd (program_or_deep laws text q a.read.program b)
-one_cause laws text (unknown_name p a) (unbuilt_form q b) = absurd (let same = found_once laws text a.read.program b.program (form.is a.items) (form.unbuilt q) a.read.recognised b.first in cc)
-one_cause laws text (unknown_name p a) (unknown_name q b) = unknown_once laws text p q a b
+bound_or_refused laws text r c p refused = let same = one_program laws text (Ok p.program) (Err refused.0) p.is refused.1 in cc
 
 -- two refusals are one
 one_refusal : Laws → (text : List ℕ) (c d : ℕ) (r q : List ℕ) → IsRefused text c r → IsRefused text d q → Code c r ≡ Code d q
-one_refusal laws text c d r q a b = a.1 ∙ one_cause laws text a.0 b.0 ∙ sym b.1
+one_refusal laws text c d r q a b =
+    let same : a.0 ≡ b.0 = (let e = one_program laws text (Err a.0) (Err b.0) a.1 b.1 in cc) in
+    let code : c ≡ d = a.2 ∙ ap code_of same ∙ sym b.2 in
+    let line : r ≡ q = a.3 ∙ ap refusal_line same ∙ sym b.3 in
+    ap (λ (n : ℕ). Code n r) code ∙ ap (Code d) line
 
 accepted_or_rejected : Laws → (text r : List ℕ) → IsAccepted text → IsRejected text r → ⊥
 accepted_or_rejected laws text r a b =
@@ -343,7 +190,7 @@ accepted_or_rejected laws text r a b =
 -- where all literals can be gathered nothing is ungathered
 gathered_here : Laws → (text r : List ℕ) (p : Bound text) → All CanBeGathered (demands p) → IsUngathered text r → ⊥
 gathered_here laws text r p all b =
-    gathered_or_not b.of.scoped b.number b.formula b.first (subst (λ (l : List (Item Binder)). All CanBeGathered (implications_of l)) (scoped_once laws text p b.of) all)
+    gathered_or_not b.of.program.scoped b.number b.formula b.first (subst (λ (l : List (Item Binder)). All CanBeGathered (implications_of l)) (scoped_once laws text p b.of) all)
 
 pub judged_once : Laws → IsOneJudgement
 judged_once laws text (Ok (Undecided c)) b (inr n) is = inr (inl n)
@@ -351,7 +198,7 @@ judged_once laws text a (Ok (Undecided c)) is (inr n) = inr (inr n)
 judged_once laws text (Ok (Accepted t)) (Ok (Accepted u)) a b = inl (ap (λ (l : List ℕ). Ok (Accepted l)) (a.1 ∙ sym b.1))
 judged_once laws text (Ok (Accepted t)) (Ok (Rejected f e)) a b = absurd (accepted_or_rejected laws text f a.0 b.0)
 judged_once laws text (Ok (Rejected f e)) (Ok (Accepted t)) a b = absurd (accepted_or_rejected laws text f b.0 a.0)
-judged_once laws text (Ok (Rejected f e)) (Ok (Rejected g d)) a b = inl (rejected_once laws text f g a.0 b.0, a.1 ∙ sym b.1)
+judged_once laws text (Ok (Rejected f e)) (Ok (Rejected g d)) a b = inl (rejected_once laws text f g a.0 b.0, explained_once e d a.1 b.1)
 judged_once laws text (Ok (Undecided c)) (Ok (Undecided d)) (inl a) (inl b) = inl (ap (λ (l : List ℕ). Ok (Undecided l)) (ungathered_once laws text c d a b))
 judged_once laws text (Ok (Undecided c)) (Ok (Accepted t)) (inl a) b = absurd (gathered_here laws text c b.0.of b.0.gathered a)
 judged_once laws text (Ok (Undecided c)) (Ok (Rejected f e)) (inl a) b = absurd (gathered_here laws text c b.0.of b.0.first.gathered a)
@@ -378,3 +225,21 @@ decided_is text cause small (inr is) =
     let low = all_at (λ (i : Implication). sizes_of i < 2 ^ 126) (demands is.of) is.number is.first.large (small is.of) is.first.at in
     let high = is.first.sized in
     absurd (omega arith)
+
+-- a bound program's items are those of its trees, and its names are bound
+bound_is : (text : List ℕ) (b : Bound text) → (items_in (trees_of b.program) ≡ form.is (items_of b.program)) × Resolves (items_of b.program) b.program.scoped
+bound_is text b =
+    let read = b.is in
+    let trees = read.1 in
+    let found = subst (λ (p : Parsed). items_in p.trees ≡ form.is read.0.items) (sym trees.2.0) trees.2.1 in (
+      subst (λ (r : Recognised). items_in r.parsed.trees ≡ form.is r.items) (sym read.2.0) found,
+      subst (λ (r : Recognised). Resolves r.items b.program.scoped) (sym read.2.0) read.2.1,
+    )
+
+-- what is accepted is safe
+pub safe_text : ValidIsSafe → AreTheTextsTrees → (text : List ℕ) (a : IsAccepted text) → IsSafeText a.of
+safe_text safe trees text a =
+    let is = bound_is text a.of in (
+      trees (trees_of a.of.program) (items_of a.of.program) a.of.program.scoped is.0 is.1,
+      safe (items_of a.of.program) a.of.program.scoped is.1 a.valid,
+    )

@@ -1,7 +1,7 @@
--- The refusals of texts.
-use Rattle.std.proofs.Common.{◌≡◌, ◌⊎◌, inl, inr, ℕ, suc, List, [], ◌∷◌, length, Err, refl, ap, subst, ◌∙◌}
+-- Texts that are not judged, and the lines on refusals.
+use Rattle.std.proofs.Common.{◌≡◌, ◌⊎◌, inl, inr, ℕ, suc, ◌<◌, List, [], ◌∷◌, length, Some, None, Result, Err, refl, sym, ap, subst, ◌∙◌, arith}
 use Rattle.lq_lex.specs.Places.{place_at}
-use Rattle.lq_lex.specs.Reading.{IsTokens}
+use Rattle.lq_lex.specs.Reading.{IsTokens, HasFault}
 use Rattle.lq_lex.specs.declared.error.LexError.{LexError}
 use Rattle.lq_lex.specs.declared.error.LexError.TheVariants as lexing
 use Rattle.lq_lex.specs.declared.token.Token.{Token}
@@ -10,56 +10,53 @@ use Rattle.lq_name.specs.declared.place.TextKind.TheVariants as kind
 use Rattle.lq_parse.specs.Texts.{IsSyntax, IsTooDeep}
 use Rattle.lq_parse.specs.declared.error.ParseError.{ParseError}
 use Rattle.lq_parse.specs.declared.error.ParseError.TheVariants as parsing
+use Rattle.lq_report.specs.Refusals.{HasName, code_of, refusal_line}
+use Rattle.lq_report.specs.Stages.{Then}
+use Rattle.lq_report.specs.declared.refused.Refused.{Refused}
+use Rattle.lq_report.specs.declared.refused.Refused.TheVariants.{At}
 use Rattle.lq_straight.specs.Forms as form
 use Rattle.lq_straight.specs.Forms.{Found, then_found, item_in, items_in}
 use Rattle.lq_straight.specs.declared.item.Item.{Item}
 use Rattle.lq_straight.specs.declared.item.NameAt.{NameAt}
 use Rattle.lq_tree.specs.Items.{ItemTree}
+use Rattle.lq_app.specs.declared.stages.NotJudged.{NotJudged}
+use Rattle.lq_app.specs.declared.stages.NotJudged.TheVariants as not_judged
 use Rattle.lq_app.specs.declared.verdict.Refusal.{Refusal}
 use Rattle.lq_app.specs.declared.verdict.Refusal.TheVariants as refusal
-use Rattle.lq_app.specs.Program.{IsProgramOf, IsFaulty}
-use Rattle.lq_app.specs.Judgement.{Cause, bad_byte, open_comment, literal_past, stopped, too_deep, unbuilt_form, unknown_name, refusal_of, IsJudgement}
+use Rattle.lq_app.specs.NotJudged.{IsOf, IsBy}
+use Rattle.lq_app.specs.Stages.{fault_refusal, stop_refusal, ParsesTo, RecognisesTo, ResolvesTo}
+use Rattle.lq_app.specs.Judgement.{IsJudgement}
 use Rattle.lq_app.specs.Report.{IsVerdict}
 use Rattle.lq_app.specs.declared.status.Status.TheVariants.{Refused as RefusedStatus}
-use Rattle.lq_app.specs.Refusals.{token_refusal, tree_refusal, form_refusal}
 
--- a refusal with a cause is due
-pub caused : (text : List ℕ) (c : Cause text) (r : Refusal) → r ≡ refusal_of c → IsJudgement text (Err r)
-caused text c (refusal.Code code report) is = (c, is)
-caused text (bad_byte p e) refusal.Memory is = absurd cc
-caused text (open_comment p e) refusal.Memory is = absurd cc
-caused text (literal_past p e) refusal.Memory is = absurd cc
-caused text (stopped p e) refusal.Memory is = absurd cc
-caused text (too_deep p e) refusal.Memory is = absurd cc
-caused text (unbuilt_form p e) refusal.Memory is = absurd cc
-caused text (unknown_name x e) refusal.Memory is = absurd cc
-
-pub no_tokens_due : (text : List ℕ) (e : LexError) (r : Refusal) → (e ≡ lexing.Memory) ⊎ IsFaulty text e → (r ≡ refusal.Memory) ⊎ (r ≡ token_refusal e) → (r ≡ refusal.Memory) ⊎ IsJudgement text (Err r)
-no_tokens_due text e r fault (inl memory) = inl memory
-no_tokens_due text (lexing.BadByte p) r (inr fault) (inr is) = inr (caused text (bad_byte p fault) r is)
-no_tokens_due text (lexing.OpenComment p) r (inr fault) (inr is) = inr (caused text (open_comment p fault) r is)
-no_tokens_due text (lexing.LiteralPast p) r (inr fault) (inr is) = inr (caused text (literal_past p fault) r is)
-no_tokens_due text lexing.Memory r fault (inr is) = inl is
-no_tokens_due text (lexing.BadByte p) r (inl memory) (inr is) = absurd cc
-no_tokens_due text (lexing.OpenComment p) r (inl memory) (inr is) = absurd cc
-no_tokens_due text (lexing.LiteralPast p) r (inl memory) (inr is) = absurd cc
+-- a text with a first fault is refused for it
+pub no_tokens_due : (text : List ℕ) (e : LexError) (n : NotJudged) → (e ≡ lexing.Memory) ⊎ HasFault kind.Program text e → IsOf (fault_refusal e) n → IsBy (ParsesTo text) n
+no_tokens_due text e not_judged.Memory why is = tt
+no_tokens_due text e (not_judged.Refused r) (inr fault) is = inl (e, fault, is)
+no_tokens_due text e (not_judged.Refused r) (inl memory) is = absurd (let wrong : None ≡ Some r = ap fault_refusal (sym memory) ∙ is in cc)
 
 -- why an error of parsing comes
-pub record Refused (text : List ℕ) (tokens : List Token) (end_ : Place) (e : ParseError) : Type 0 where
+pub record WhyParse (text : List ℕ) (tokens : List Token) (end_ : Place) (e : ParseError) : Type 0 where
   pub are_tokens : IsTokens kind.Program text tokens
   pub last : end_ ≡ place_at kind.Program text (length text)
   pub syntax : (p : Place) → e ≡ parsing.Syntax p → IsSyntax kind.Program text tokens end_ p
   pub deep : (p : Place) → e ≡ parsing.TooDeep p → IsTooDeep kind.Program text tokens end_ p
 
-pub no_program_due : (text : List ℕ) (tokens : List Token) (end_ : Place) (e : ParseError) (r : Refusal) → Refused text tokens end_ e → (r ≡ refusal.Memory) ⊎ (r ≡ tree_refusal e) → (r ≡ refusal.Memory) ⊎ IsJudgement text (Err r)
-no_program_due text tokens end_ e r why (inl memory) = inl memory
-no_program_due text tokens end_ (parsing.Syntax p) r why (inr is) =
+-- tokens that are no program are refused where they stop
+pub no_program_due : (text : List ℕ) (tokens : List Token) (end_ : Place) (e : ParseError) (n : NotJudged) → WhyParse text tokens end_ e → IsOf (stop_refusal e) n → IsBy (ParsesTo text) n
+no_program_due text tokens end_ e not_judged.Memory why is = tt
+no_program_due text tokens end_ (parsing.Syntax p) (not_judged.Refused r) why is =
     let stop = subst (λ (q : Place). IsSyntax kind.Program text tokens q p) why.last (why.syntax p refl) in
-    inr (caused text (stopped p (record { tokens = tokens; are_tokens = why.are_tokens; stop = stop })) r is)
-no_program_due text tokens end_ (parsing.TooDeep p) r why (inr is) =
+    inr (tokens, why.are_tokens, (parsing.Syntax p, stop, is))
+no_program_due text tokens end_ (parsing.TooDeep p) (not_judged.Refused r) why is =
     let deep = subst (λ (q : Place). IsTooDeep kind.Program text tokens q p) why.last (why.deep p refl) in
-    inr (caused text (too_deep p (record { tokens = tokens; are_tokens = why.are_tokens; deep = deep })) r is)
-no_program_due text tokens end_ parsing.Memory r why (inr is) = inl is
+    inr (tokens, why.are_tokens, (parsing.TooDeep p, deep, is))
+no_program_due text tokens end_ parsing.Memory (not_judged.Refused r) why is = absurd (let wrong : None ≡ Some r = is in cc)
+
+-- what an earlier stage refuses is refused
+pub still_by : {A B C : Type 0} (R : A → Result B Refused → Type 0) (S : B → Result C Refused → Type 0) (a : A) (n : NotJudged) → IsBy (R a) n → IsBy (Then R S a) n
+still_by {A} {B} {C} R S a not_judged.Memory is = tt
+still_by {A} {B} {C} R S a (not_judged.Refused r) is = inl is
 
 -- what a choice after another comes from
 then_is : {A B : Type 0} (f : Found A) (g : A → Found B) (b : B) → then_found f g ≡ form.is b → (a : A) × (f ≡ form.is a) × (g a ≡ form.is b)
@@ -81,14 +78,40 @@ items_count (t ∷ ts) l e =
     let same : first.0 ∷ rest.0 ≡ l = ap (λ (f : Found (List (Item NameAt))). found_items f) rest.2 in
     subst (λ (m : List (Item NameAt)). length m ≡ length (t ∷ ts)) same (ap suc count)
 
--- the first node that isn't judged is the cause of a refusal
-pub no_form_due : (text : List ℕ) (trees : List ItemTree) (names : List (List ℕ)) (place : Place) (r : Refusal) → IsProgramOf text trees names → items_in trees ≡ form.unbuilt place
-    → (r ≡ refusal.Memory) ⊎ (r ≡ form_refusal place) → (r ≡ refusal.Memory) ⊎ IsJudgement text (Err r)
-no_form_due text trees names place r of found (inl memory) = inl memory
-no_form_due text trees names place r of found (inr is) =
-    inr (caused text (unbuilt_form place (record { program = of.program; first = ap items_in of.same ∙ found })) r is)
+-- each refusal has a code with a name
+at_named : (r : Refused) (code : ℕ) (p : Place) → 0 < code → code < 18 → At code p ≡ r → HasName r
+at_named r code p low high is = subst HasName is (low, high)
+
+fault_named : (e : LexError) (r : Refused) → fault_refusal e ≡ Some r → HasName r
+fault_named (lexing.BadByte p) r is = at_named r 1 p (omega arith) (omega arith) cc
+fault_named (lexing.OpenComment p) r is = at_named r 2 p (omega arith) (omega arith) cc
+fault_named (lexing.LiteralPast p) r is = at_named r 3 p (omega arith) (omega arith) cc
+fault_named lexing.Memory r is = absurd cc
+
+stop_named : (e : ParseError) (r : Refused) → stop_refusal e ≡ Some r → HasName r
+stop_named (parsing.Syntax p) r is = at_named r 4 p (omega arith) (omega arith) cc
+stop_named (parsing.TooDeep p) r is = at_named r 5 p (omega arith) (omega arith) cc
+stop_named parsing.Memory r is = absurd cc
+
+parse_named : (text : List ℕ) (r : Refused) → ParsesTo text (Err r) → HasName r
+parse_named text r (inl fault) = fault_named fault.0 r fault.2
+parse_named text r (inr stop) = stop_named stop.2.0 r stop.2.2
+
+form_named : (text : List ℕ) (r : Refused) → RecognisesTo text (Err r) → HasName r
+form_named text r (inl is) = parse_named text r is
+form_named text r (inr is) = at_named r 17 is.2.0 (omega arith) (omega arith) (sym is.2.2)
+
+pub named : (text : List ℕ) (r : Refused) → ResolvesTo text (Err r) → HasName r
+named text r (inl is) = form_named text r is
+named text r (inr is) = subst HasName (sym is.2.2) (omega arith, omega arith)
+
+-- a refusal with its line is due
+pub refused_due : (text : List ℕ) (r : Refused) (answer : Refusal) → ResolvesTo text (Err r) → (answer ≡ refusal.Memory) ⊎ (answer ≡ refusal.Code (code_of r) (refusal_line r))
+    → (answer ≡ refusal.Memory) ⊎ IsJudgement text (Err answer)
+refused_due text r answer by (inl memory) = inl memory
+refused_due text r answer by (inr is) = inr (subst (λ (f : Refusal). IsJudgement text (Err f)) (sym is) (r, by, refl, refl))
 
 -- a refusal that came is due
 pub refused_is : (text : List ℕ) (e : Refusal) (code : ℕ) (line : List ℕ) → e ≡ refusal.Code code line → (e ≡ refusal.Memory) ⊎ IsJudgement text (Err e) → IsVerdict text RefusedStatus line
-refused_is text e code line form (inl memory) = absurd cc
-refused_is text e code line form (inr due) = (code, subst (λ (f : Refusal). IsJudgement text (Err f)) form due)
+refused_is text e code line is (inl memory) = absurd cc
+refused_is text e code line is (inr due) = (code, subst (λ (f : Refusal). IsJudgement text (Err f)) is due)

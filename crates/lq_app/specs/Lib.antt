@@ -1,7 +1,7 @@
-pub mod Program
 pub mod Texts
 pub mod Steps
-pub mod Refusals
+pub mod Stages
+pub mod NotJudged
 pub mod Judgement
 pub mod Command
 pub mod Report

@@ -8,9 +8,9 @@ use Rattle.lq_num.specs.declared.past.NumOp.TheVariants.{Add, Sub, Mul, Div, Neg
 use Rattle.lq_num.specs.declared.past.NumberPast.{NumberPast}
 use Rattle.lq_name.specs.declared.operation.CompareOp.{CompareOp}
 use Rattle.lq_name.specs.declared.operation.CompareOp.TheVariants.{Eq, Ne, Lt, Le, Gt, Ge}
-use Rattle.lq_pred.specs.declared.symbol.Symbol.TheVariants.{Bound}
-use Rattle.lq_pred.specs.Sum.{Sum as Term, whole, var, add, sub}
-use Rattle.lq_pred.specs.Formula.{Formula, compare}
+use Rattle.lq_pred.specs.declared.symbol.Symbol.TheVariants.{Value, Bound, Position}
+use Rattle.lq_pred.specs.Sum.{Sum as Term, whole, var, neg, add, sub, mul, div, rem, len, measure}
+use Rattle.lq_pred.specs.Formula.{Formula, truth, falsity, flag, compare, objects, negation, conjunction, disjunction, equivalence}
 use Rattle.lq_straight.specs.declared.item.NameAt.{NameAt}
 use Rattle.lq_straight.specs.declared.item.Item.{Item}
 use Rattle.lq_straight.specs.declared.item.ItemNode.{ItemNode}
@@ -54,13 +54,20 @@ item_name names items k (Some i) = node_name names items k i.node
 abbrev pub binder_name : List (List ℕ) → List (Item NameAt) → ℕ → List ℕ
 binder_name names items k = item_name names items k (slice_get items k)
 
--- a term over binders; no other terms stand in straight-line programs
+-- A term over binders. The forms with no text stand in no straight-line program.
 abbrev pub term_text : List (List ℕ) → List (Item NameAt) → Term → List ℕ
 term_text names items (whole n) = signed_decimal n
 term_text names items (var (Bound x)) = binder_name names items x.0
 term_text names items (add a b) = term_text names items a ++ codes " + " ++ term_text names items b
 term_text names items (sub a b) = term_text names items a ++ codes " - " ++ term_text names items b
-term_text names items t = []
+term_text names items (var Value) = []
+term_text names items (var (Position k)) = []
+term_text names items (neg a) = []
+term_text names items (mul a b) = []
+term_text names items (div a b) = []
+term_text names items (rem a b) = []
+term_text names items (len a) = []
+term_text names items (measure m a) = []
 
 abbrev pub compare_text : CompareOp → List ℕ
 compare_text Eq = codes " = "
@@ -70,7 +77,14 @@ compare_text Le = codes " <= "
 compare_text Gt = codes " > "
 compare_text Ge = codes " >= "
 
--- a comparison; no other formulas stand in straight-line programs
+-- A comparison. The forms with no text stand in no straight-line program.
 abbrev pub formula_text : List (List ℕ) → List (Item NameAt) → Formula → List ℕ
 formula_text names items (compare o a b) = term_text names items a ++ compare_text o ++ term_text names items b
-formula_text names items p = []
+formula_text names items truth = []
+formula_text names items falsity = []
+formula_text names items (flag x) = []
+formula_text names items (objects a b) = []
+formula_text names items (negation p) = []
+formula_text names items (conjunction p q) = []
+formula_text names items (disjunction p q) = []
+formula_text names items (equivalence p q) = []

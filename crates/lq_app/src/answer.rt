@@ -1,6 +1,7 @@
+// What is due, status and report.
 ghost use Rattle.std.specs.Prelude.{◌≡◌, ◌⊎◌, ◌≤◌, ℕ, List, length, Err, IfOk, codes};
 ghost use Rattle.lq_app.specs.Judgement.{IsJudgement};
-ghost use Rattle.lq_app.specs.Report.{visit, IsVerdict, IsDue};
+ghost use Rattle.lq_app.specs.Report.{visit, most_bytes, IsVerdict, IsDue};
 
 use crate::report::{file_report, usage_report};
 use crate::{Judgement, Refusal, Status, Words, judge};
@@ -41,7 +42,8 @@ fn with_report(status: Status, report: TextBuf) -> Answer
 
 // The answer to a refusal.
 fn refused(refusal: Refusal) -> Result<Answer, AllocError>
-    ensures { (text : List ℕ) → (refusal ≡ Refusal.Memory) ⊎ IsJudgement text (Err refusal) → IfOk result (λ r. IsVerdict text r.status r.report) }
+    ensures { (text : List ℕ) → (refusal ≡ Refusal.Memory) ⊎ IsJudgement text (Err refusal)
+        → IfOk result (λ r. IsVerdict text r.status r.report) }
 {
     match refusal {
         Refusal::Code(_, line) => Ok(with_report(Status::Refused, line)),
@@ -51,7 +53,7 @@ fn refused(refusal: Refusal) -> Result<Answer, AllocError>
 
 // The verdict on a text.
 fn verdict_on(alloc: Global, text: &[u8]) -> Result<Answer, AllocError>
-    requires { length text.now ≤ 1048576 }
+    requires { length text.now ≤ most_bytes }
     ensures { IfOk result (λ r. IsVerdict text.now r.status r.report) }
 {
     match judge(alloc, text, &[], &[], PIVOTS) {
@@ -68,7 +70,8 @@ pub(crate) fn answer_to<F: Folder>(
     words: &Words,
     folder: &mut F,
 ) -> Result<Answer, AllocError>
-    ensures { IfOk result (λ r. IsDue words.now (visit F.files F.absents F.failures folder.old folder.new) r.status r.report) }
+    ensures { IfOk result (λ r. IsDue words.now
+        (visit F.files F.absents F.failures folder.old folder.new) r.status r.report) }
 {
     let Some(name) = words.file() else {
         return Ok(Answer {

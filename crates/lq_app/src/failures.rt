@@ -7,13 +7,13 @@ ghost use Rattle.lq_straight.specs.Scope.{AreOrdinals};
 ghost use Rattle.lq_app.specs.Texts.{frac_text, past_text, term_text, formula_text};
 ghost use Rattle.lq_app.specs.Judgement.{head_lines, ShowsPoint};
 
-use crate::report::push_place;
 use crate::texts::{Naming, push_fraction, push_past, push_pred, push_term};
 use itoa::Buffer;
 use lq_name::{Place, TextBuf};
 use lq_num::{Frac, NumberPast};
 use lq_point::Point;
 use lq_pred::{Pred, Term};
+use lq_report::push_place;
 use std::alloc::{AllocError, Global};
 
 // A report that begins with this line and the line on a demand, counted from 0, whose assertion stands at this place.
@@ -45,7 +45,8 @@ fn push_value(
 ) -> Result<(), AllocError>
     requires { AreOrdinals names.now.items.now names.now.ordinals.now }
     ensures { OnOk result (line.new.items ≡ line.old.items
-        ++ (term_text names.now.table.now names.now.items.now (sum_of term.now) ++ codes " = " ++ frac_text number.now ++ codes "\n")) }
+        ++ (term_text names.now.table.now names.now.items.now (sum_of term.now) ++ codes " = "
+        ++ frac_text number.now ++ codes "\n")) }
 {
     push_term(line, names, term)?;
     line.extend_from_slice(b" = ")?;
@@ -58,7 +59,8 @@ fn push_value(
 fn push_point(line: &mut Vec<u8>, names: &Naming, point: &Point) -> Result<(), AllocError>
     requires { AreOrdinals names.now.items.now names.now.ordinals.now }
     ensures { OnOk result ((lines : List ℕ) × (line.new.items ≡ line.old.items ++ lines)
-        × ShowsPoint names.now.table.now names.now.items.now (as_point point.now) (table_of (values_of point.now)) lines) }
+        × ShowsPoint names.now.table.now names.now.items.now (as_point point.now) (table_of
+        (values_of point.now)) lines) }
 {
     let values = point.values();
     let table = values.table();
@@ -79,7 +81,8 @@ pub(crate) fn rejected_report(
     requires number { number < 2 ^ 32 }
     requires ordinals { AreOrdinals names.now.items.now names.now.ordinals.now }
     ensures { IfOk result (λ r. (lines : List ℕ) × (r ≡ head_lines (codes "rejected\n") number place ++ lines)
-        × ShowsPoint names.now.table.now names.now.items.now (as_point point.now) (table_of (values_of point.now)) lines) }
+        × ShowsPoint names.now.table.now names.now.items.now (as_point point.now) (table_of
+        (values_of point.now)) lines) }
 {
     let mut report = report_head(alloc, b"rejected\n", number, place)?;
     push_point(&mut report, names, point)?;
@@ -97,7 +100,8 @@ pub(crate) fn ungathered_report(
     requires number { number < 2 ^ 32 }
     requires ordinals { AreOrdinals names.now.items.now names.now.ordinals.now }
     ensures { IfOk result (λ r. r ≡ head_lines (codes "undecided\n") number place
-        ++ codes "number past in " ++ formula_text names.now.table.now names.now.items.now (formula_of pred.now) ++ codes "\n") }
+        ++ codes "number past in "
+        ++ formula_text names.now.table.now names.now.items.now (formula_of pred.now) ++ codes "\n") }
 {
     let mut report = report_head(alloc, b"undecided\n", number, place)?;
     report.extend_from_slice(b"number past in ")?;

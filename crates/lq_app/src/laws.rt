@@ -6,7 +6,8 @@ use lq_lex::one_reading;
 use lq_parse::{one_answer, one_tree};
 use lq_straight::one_scope;
 
-/// Two judgements on a text that are due agree, but for the point that a rejection shows, unless one is undecided by a number.
+/// Two judgements on a text that are due agree, but for the values in the lines on a point, unless one is undecided by a
+/// number.
 pub fn one_judgement()
     ensures { IsOneJudgement }
 {

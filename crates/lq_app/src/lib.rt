@@ -7,6 +7,7 @@ mod laws;
 mod report;
 mod run;
 mod send;
+mod stages;
 mod status;
 mod steps;
 mod texts;

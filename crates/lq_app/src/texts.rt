@@ -55,7 +55,8 @@ fn push_operation(
     sign: &[u8],
     right: &Frac,
 ) -> Result<(), AllocError>
-    ensures { OnOk result (line.new.items ≡ line.old.items ++ (frac_text left.now ++ sign.now ++ frac_text right.now)) }
+    ensures { OnOk result (line.new.items ≡ line.old.items ++ (frac_text left.now ++ sign.now
+        ++ frac_text right.now)) }
 {
     push_fraction(line, left)?;
     line.extend_from_slice(sign)?;
@@ -93,13 +94,13 @@ fn push_with_ordinal(line: &mut Vec<u8>, name: &[u8], ordinal: usize) -> Result<
 }
 
 // The text of a name.
-pub(crate) fn text_of(table: &NameTable, name: Name) -> &[u8]
+pub(crate) fn text_of(table: &NameTable, name: Name) -> &str
     ensures { result.now ≡ text_in table.now name.0 }
 {
     if name.0 < table.len() {
-        table.text(name).as_bytes()
+        table.text(name)
     } else {
-        b""
+        ""
     }
 }
 
@@ -117,7 +118,8 @@ fn ordinal_at(ordinals: &[usize], number: usize) -> Option<usize>
 
 fn push_name(line: &mut Vec<u8>, names: &Naming, binder: Binder) -> Result<(), AllocError>
     requires { AreOrdinals names.now.items.now names.now.ordinals.now }
-    ensures { OnOk result (line.new.items ≡ line.old.items ++ binder_name names.now.table.now names.now.items.now binder.0) }
+    ensures { OnOk result (line.new.items ≡ line.old.items
+        ++ binder_name names.now.table.now names.now.items.now binder.0) }
 {
     let number = binder.0 as usize;
     let Some(item) = item_at(names.items, number) else {
@@ -129,14 +131,15 @@ fn push_name(line: &mut Vec<u8>, names: &Naming, binder: Binder) -> Result<(), A
             let Some(ordinal) = ordinal_at(names.ordinals, number) else {
                 unreachable!()
             };
-            push_with_ordinal(line, text_of(names.table, x.name), ordinal)
+            push_with_ordinal(line, text_of(names.table, x.name).as_bytes(), ordinal)
         }
     }
 }
 
 pub(crate) fn push_term(line: &mut Vec<u8>, names: &Naming, term: &Term) -> Result<(), AllocError>
     requires { AreOrdinals names.now.items.now names.now.ordinals.now }
-    ensures { OnOk result (line.new.items ≡ line.old.items ++ term_text names.now.table.now names.now.items.now (sum_of term.now)) }
+    ensures { OnOk result (line.new.items ≡ line.old.items
+        ++ term_text names.now.table.now names.now.items.now (sum_of term.now)) }
 {
     match term {
         Term::Whole(n) => push_whole(line, *n),
@@ -151,7 +154,10 @@ pub(crate) fn push_term(line: &mut Vec<u8>, names: &Naming, term: &Term) -> Resu
             line.extend_from_slice(b" - ")?;
             push_term(line, names, b)
         }
-        _ => Ok(()),
+        // These stand in no straight-line program.
+        Term::Var(Symbol::Value) | Term::Var(Symbol::Position(_)) => Ok(()),
+        Term::Neg(_) | Term::Mul(_, _) | Term::Div(_, _) | Term::Mod(_, _) => Ok(()),
+        Term::Length(_) | Term::Measure(_, _) => Ok(()),
     }
 }
 
@@ -170,7 +176,8 @@ fn sign_of(op: CompareOp) -> &'static [u8]
 
 pub(crate) fn push_pred(line: &mut Vec<u8>, names: &Naming, pred: &Pred) -> Result<(), AllocError>
     requires { AreOrdinals names.now.items.now names.now.ordinals.now }
-    ensures { OnOk result (line.new.items ≡ line.old.items ++ formula_text names.now.table.now names.now.items.now (formula_of pred.now)) }
+    ensures { OnOk result (line.new.items ≡ line.old.items
+        ++ formula_text names.now.table.now names.now.items.now (formula_of pred.now)) }
 {
     match pred {
         Pred::Compare(op, a, b) => {
@@ -178,6 +185,8 @@ pub(crate) fn push_pred(line: &mut Vec<u8>, names: &Naming, pred: &Pred) -> Resu
             line.extend_from_slice(sign_of(*op))?;
             push_term(line, names, b)
         }
-        _ => Ok(()),
+        // These stand in no straight-line program.
+        Pred::True | Pred::False | Pred::Flag(_) | Pred::Same(_, _) => Ok(()),
+        Pred::Not(_) | Pred::And(_, _) | Pred::Or(_, _) | Pred::Iff(_, _) => Ok(()),
     }
 }

@@ -1,3 +1,4 @@
+// The judgement on a text.
 ghost use Rattle.std.specs.Prelude.{◌≡◌, ◌⊎◌, ◌≤◌, ◌<◌, ◌^◌, ℕ, List, [], length, slice_get, Some, Result, Ok, Err, IfOk, IfErr};
 ghost use Rattle.lq_app.specs.declared.verdict.Judgement.{Judgement};
 ghost use Rattle.lq_app.specs.declared.verdict.Refusal.{Refusal};
@@ -13,29 +14,24 @@ ghost use Rattle.lq_straight.specs.declared.item.Item.{Item};
 ghost use Rattle.lq_straight.specs.declared.item.NameAt.{NameAt};
 ghost use Rattle.lq_straight.specs.Uses.{AreSmall};
 ghost use Rattle.lq_straight.specs.Demands.{implications_of, assertions_of};
-ghost use Rattle.lq_tree.specs.Texts.{program_view};
-ghost use Rattle.lq_app.specs.Program.{IsProgramOf};
-ghost use Rattle.lq_app.specs.Judgement.{IsBoundAs, IsAccepted, IsRejected, IsUngathered, IsReadAs, IsJudgement, Agree, IsByNumber, HasSmallDemands};
-ghost use Rattle.lq_app.specs.Refusals.{refusal_at, token_refusal, tree_refusal};
+ghost use Rattle.lq_report.specs.Refusals.{HasName, code_of, refusal_line};
+ghost use Rattle.lq_app.specs.Stages.{ResolvesTo, IsBoundAs};
+ghost use Rattle.lq_app.specs.NotJudged.{IsBy};
+ghost use Rattle.lq_app.specs.Judgement.{IsAccepted, IsSafeText, IsRejected, IsUngathered, IsJudgement, Agree, IsByNumber, HasSmallDemands};
 
 use crate::failures::{past_report, rejected_report, ungathered_report};
 use crate::laws::one_judgement;
-use crate::report::{refused_report, unknown_report};
+use crate::stages::{NotJudged, scoped_of, source_of};
 use crate::steps::lines_of;
 use crate::texts::Naming;
 use lq_demand::{Asked, ask};
-use lq_lex::{LexError, lex};
-use lq_name::{Binder, NameTable, Place, TextBuf, TextKind};
+use lq_name::{Binder, NameTable, Place, TextBuf};
 use lq_num::NumberPast;
-use lq_parse::{ParseError, parse_program};
 use lq_point::Point;
 use lq_pred::{Pred, Stop};
+use lq_report::{Refused, refusal_text};
 use lq_sound::{bound_trees_are_the_texts, valid_programs_are_safe};
-use lq_straight::{
-    Assertion, FormError, Item, ItemNode, NameAt, ScopeError, name_table, ordinals, recognise,
-    resolve,
-};
-use lq_tree::Program;
+use lq_straight::{Assertion, Item, ItemNode, NameAt, ordinals};
 use std::alloc::{AllocError, Global};
 use thiserror::Error;
 
@@ -87,114 +83,60 @@ pub fn judge(
     requires measures { measures.now ≡ [] }
     requires quals { quals.now ≡ [] }
     // An accepted program is safe.
-    ensures accepted { (types : List ℕ) → result ≡ Ok (Judgement.Accepted types) → IsAccepted program.now }
+    ensures accepted { (types : List ℕ) → result ≡ Ok (Judgement.Accepted types)
+        → (is : IsAccepted program.now) × IsSafeText is.of }
     // The first demand that isn't valid is reported, with a point at which it fails.
-    ensures rejected { (failure explained : List ℕ) → result ≡ Ok (Judgement.Rejected failure explained) → IsRejected program.now failure }
+    ensures rejected { (failure explained : List ℕ) → result ≡ Ok (Judgement.Rejected failure explained)
+        → IsRejected program.now failure }
     // Nothing is undecided in solving where the constants are small.
-    ensures decided { (cause : List ℕ) → result ≡ Ok (Judgement.Undecided cause) → HasSmallDemands program.now → IsUngathered program.now cause }
+    ensures decided { (cause : List ℕ) → result ≡ Ok (Judgement.Undecided cause)
+        → HasSmallDemands program.now → IsUngathered program.now cause }
     // Each answer has its cause.
     ensures judged { (result ≡ Err Refusal.Memory) ⊎ IsJudgement program.now result }
     // Only want of memory, or a number in solving, comes in place of the judgement that is due.
     ensures exact { (due : Result Judgement Refusal) → IsJudgement program.now due
-        → (result ≡ Err Refusal.Memory) ⊎ (Agree result due ⊎ (IsByNumber program.now result ⊎ IsByNumber program.now due)) }
+        → (result ≡ Err Refusal.Memory)
+        ⊎ (Agree result due ⊎ (IsByNumber program.now result ⊎ IsByNumber program.now due)) }
 {
     one_judgement();
-    judge_program(alloc, program)
+    valid_programs_are_safe();
+    bound_trees_are_the_texts();
+    reported(alloc, program)
 }
 
-// A program with the table of its names.
-#[derive(Drop)]
-struct Parsed {
-    program: Program,
-    names: NameTable,
-}
-
-// The items of a program with the table of its names.
-#[derive(Drop)]
-struct Source {
-    items: Vec<Item<NameAt>>,
-    names: NameTable,
-}
-
-// A refusal at a place.
-fn refused(alloc: Global, code: u8, name: &[u8], place: Place) -> Refusal
-    ensures { (result ≡ Refusal.Memory) ⊎ (result ≡ refusal_at code name.now place) }
+// A refusal with the line that reports it.
+fn refusal_of(alloc: Global, refused: &Refused) -> Refusal
+    requires { HasName refused.now }
+    ensures { (result ≡ Refusal.Memory)
+        ⊎ (result ≡ Refusal.Code (code_of refused.now) (refusal_line refused.now)) }
 {
-    match refused_report(alloc, code, name, place) {
-        Ok(report) => Refusal::Code(code, report),
+    match refusal_text(alloc, refused) {
+        Ok(line) => Refusal::Code(refused.code(), line),
         Err(AllocError) => Refusal::Memory,
     }
 }
 
-fn no_tokens(alloc: Global, error: LexError) -> Refusal
-    ensures { (result ≡ Refusal.Memory) ⊎ (result ≡ token_refusal error) }
-{
-    match error {
-        LexError::BadByte(place) => refused(alloc, 1, b"BadByte", place),
-        LexError::OpenComment(place) => refused(alloc, 2, b"OpenComment", place),
-        LexError::LiteralPast(place) => refused(alloc, 3, b"LiteralPast", place),
-        LexError::Memory => Refusal::Memory,
-    }
-}
-
-fn no_program(alloc: Global, error: ParseError) -> Refusal
-    ensures { (result ≡ Refusal.Memory) ⊎ (result ≡ tree_refusal error) }
-{
-    match error {
-        ParseError::Syntax(place) => refused(alloc, 4, b"Syntax", place),
-        ParseError::TooDeep(place) => refused(alloc, 5, b"TooDeep", place),
-        ParseError::Memory => Refusal::Memory,
-    }
-}
-
-// The tree of the text.
-fn program_of(alloc: Global, text: &[u8]) -> Result<Parsed, Refusal>
-    requires { length text.now ≤ 2 ^ 24 }
-    ensures ok { IfOk result (λ s. IsProgramOf text.now (program_view s.program) s.names) }
-    ensures count { IfOk result (λ s. length (program_view s.program) < 2 ^ 32) }
-    ensures refused { IfErr result (λ e. (e ≡ Refusal.Memory) ⊎ IsJudgement text.now (Err e)) }
-{
-    let tokens = match lex(alloc, text, TextKind::Program) {
-        Ok(tokens) => tokens,
-        Err(error) => return Err(no_tokens(alloc, error)),
-    };
-    let mut names = name_table(alloc)?;
-    match parse_program(alloc, &tokens, text, &mut names) {
-        Ok(program) => Ok(Parsed { program, names }),
-        Err(error) => Err(no_program(alloc, error)),
-    }
-}
-
-// The items of the text, where all of its forms are judged.
-fn items_of(alloc: Global, text: &[u8]) -> Result<Source, Refusal>
-    requires { length text.now ≤ 2 ^ 24 }
-    ensures ok { IfOk result (λ s. IsReadAs text.now s.names s.items.items) }
-    ensures small { IfOk result (λ s. AreSmall s.items.items) }
-    ensures count { IfOk result (λ s. length s.items.items < 2 ^ 32) }
-    ensures refused { IfErr result (λ e. (e ≡ Refusal.Memory) ⊎ IsJudgement text.now (Err e)) }
-{
-    let parsed = program_of(alloc, text)?;
-    match recognise(alloc, &parsed.program) {
-        Ok(items) => Ok(Source {
-            items,
-            names: parsed.names,
-        }),
-        Err(FormError::Unbuilt(place)) => Err(refused(alloc, 17, b"Unbuilt", place)),
-        Err(FormError::Memory) => Err(Refusal::Memory),
-    }
-}
-
-fn judge_program(alloc: Global, text: &[u8]) -> Result<Judgement, Refusal>
+// Judges the text, and reports what it is refused for.
+fn reported(alloc: Global, text: &[u8]) -> Result<Judgement, Refusal>
     requires { length text.now ≤ 2 ^ 24 }
     ensures { (result ≡ Err Refusal.Memory) ⊎ IsJudgement text.now result }
 {
-    let source = items_of(alloc, text)?;
-    match resolve(alloc, &source.items) {
+    match judge_program(alloc, text) {
+        Ok(judgement) => Ok(judgement),
+        Err(NotJudged::Refused(refused)) => Err(refusal_of(alloc, &refused)),
+        Err(NotJudged::Memory) => Err(Refusal::Memory),
+    }
+}
+
+fn judge_program(alloc: Global, text: &[u8]) -> Result<Judgement, NotJudged>
+    requires { length text.now ≤ 2 ^ 24 }
+    ensures ok { IfOk result (λ j. IsJudgement text.now (Ok j)) }
+    ensures refused { IfErr result (λ e. IsBy (ResolvesTo text.now) e) }
+{
+    let source = source_of(alloc, text)?;
+    match scoped_of(alloc, &source.names, &source.items) {
         Ok(scoped) => Ok(judge_bound(alloc, &source.names, &source.items, &scoped)?),
-        Err(ScopeError::Unknown(x)) => {
-            Err(Refusal::Code(6, unknown_report(alloc, &source.names, x)?))
-        }
-        Err(ScopeError::Memory) => Err(Refusal::Memory),
+        Err(error) => Err(error),
     }
 }
 
@@ -221,7 +163,8 @@ fn place_of_demand(
     number: usize,
 ) -> Result<Place, AllocError>
     requires { (i : Implication) × (slice_get (implications_of items.now) number ≡ Some i) }
-    ensures { IfOk result (λ p. (a : Assertion Binder) × (slice_get (assertions_of items.now) number ≡ Some a) × (a.place ≡ p)) }
+    ensures { IfOk result (λ p. (a : Assertion Binder)
+        × (slice_get (assertions_of items.now) number ≡ Some a) × (a.place ≡ p)) }
 {
     let assertions = assertions_of(alloc, items)?;
     Ok(assertions[number].place)
@@ -239,7 +182,8 @@ fn rejected(
     requires items { length items.now < 2 ^ 32 }
     requires count { length scoped.now ≡ length items.now }
     requires fails { FailsAt (implications_of scoped.now) number point.now }
-    ensures { (text : List ℕ) → IsBoundAs text table.now items.now scoped.now → IfOk result (λ j. IsJudgement text (Ok j)) }
+    ensures { (text : List ℕ) → IsBoundAs text table.now items.now scoped.now
+        → IfOk result (λ j. IsJudgement text (Ok j)) }
 {
     let place = place_of_demand(alloc, scoped, number)?;
     let numbers = ordinals(alloc, items)?;
@@ -265,7 +209,8 @@ fn ungathered(
     requires items { length items.now < 2 ^ 32 }
     requires count { length scoped.now ≡ length items.now }
     requires first { IsFirstUngathered (implications_of scoped.now) number (formula_of pred.now) }
-    ensures { (text : List ℕ) → IsBoundAs text table.now items.now scoped.now → IfOk result (λ j. IsJudgement text (Ok j)) }
+    ensures { (text : List ℕ) → IsBoundAs text table.now items.now scoped.now
+        → IfOk result (λ j. IsJudgement text (Ok j)) }
 {
     let place = place_of_demand(alloc, scoped, number)?;
     let numbers = ordinals(alloc, items)?;
@@ -288,7 +233,9 @@ fn past_number(
     requires count { length scoped.now < 2 ^ 32 }
     requires first { IsFirstLarge (implications_of scoped.now) number }
     requires past { IsPast past.now }
-    ensures { (text : List ℕ) (names : List (List ℕ)) (items : List (Item NameAt)) → IsBoundAs text names items scoped.now → IfOk result (λ j. IsJudgement text (Ok j)) }
+    ensures { (text : List ℕ) (names : List (List ℕ)) (items : List (Item NameAt))
+        → IsBoundAs text names items scoped.now
+        → IfOk result (λ j. IsJudgement text (Ok j)) }
 {
     let place = place_of_demand(alloc, scoped, number)?;
     let report = past_report(alloc, number, place, past)?;
@@ -305,10 +252,9 @@ fn judge_bound(
     requires items { length items.now < 2 ^ 32 }
     requires count { length scoped.now ≡ length items.now }
     requires small { AreSmall scoped.now }
-    ensures { (text : List ℕ) → IsBoundAs text table.now items.now scoped.now → IfOk result (λ j. IsJudgement text (Ok j)) }
+    ensures { (text : List ℕ) → IsBoundAs text table.now items.now scoped.now
+        → IfOk result (λ j. IsJudgement text (Ok j)) }
 {
-    valid_programs_are_safe();
-    bound_trees_are_the_texts();
     let lines = lines_of(alloc, scoped)?;
     match ask(alloc, &lines)? {
         Asked::Valid => Ok(Judgement::Accepted(TextBuf::from_bytes(Vec::new(alloc)))),

@@ -5,19 +5,17 @@ use Rattle.lq_demand.specs.declared.asking.Asked.{Asked}
 use Rattle.lq_demand.specs.declared.asking.Asked.TheVariants.{Stops}
 use Rattle.lq_demand.specs.Answer.{CanBeGathered, IsFirstLarge}
 use Rattle.lq_demand.specs.AskedView.{FailsAt}
+use Rattle.lq_app.specs.Stages.{scoped_with}
 use Rattle.lq_app.proofs.verdict.judge_bound.Goals as goal
 
 pub returns-in-Valid : goal.returns-in-Valid
 returns-in-Valid c = λ text bound.
     let is = ap (λ (a : Asked). Ok a) c.in-Valid.is in
-    let same = c.in_ok-lines.ensures.demands in
-    let valid = subst (λ (l : List Implication). All IsValid l) same (c.in_ok-ask.ensures.valid is) in (
+    let same = c.in_ok-lines.ensures.demands in (
       record {
-        of = record { names = c.args.table.now; items = c.args.items.now; scoped = c.args.scoped.now; bound = bound };
+        of = record { program = scoped_with bound.0 c.args.table.now c.args.items.now c.args.scoped.now; is = bound.1 };
         gathered = subst (λ (l : List Implication). All CanBeGathered l) same (c.in_ok-ask.ensures.gathered is);
-        valid = valid;
-        same = c.bound_trees_are_the_texts.ensures bound.read.program.trees c.args.items.now c.args.scoped.now bound.read.recognised bound.resolves;
-        safe = c.valid_programs_are_safe.ensures c.args.items.now c.args.scoped.now bound.resolves valid;
+        valid = subst (λ (l : List Implication). All IsValid l) same (c.in_ok-ask.ensures.valid is);
       },
       c.from_bytes.ensures ∙ c.new.ensures.items,
     )

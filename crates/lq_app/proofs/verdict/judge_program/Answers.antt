@@ -1,32 +1,19 @@
-use Rattle.std.proofs.Common.{ℕ, List, Err, inr, sym, ap, subst, ◌∙◌}
+use Rattle.std.proofs.Common.{List, sym, subst, ◌∙◌}
 use Rattle.lq_name.specs.declared.name.Binder.{Binder}
-use Rattle.lq_straight.specs.Scope.{Resolves, IsFirstUnknown}
 use Rattle.lq_straight.specs.declared.item.Item.{Item}
 use Rattle.lq_straight.specs.declared.item.NameAt.{NameAt}
-use Rattle.lq_straight.specs.declared.scope.ScopeError.{ScopeError}
-use Rattle.lq_app.specs.declared.verdict.Refusal.TheVariants.{Code}
-use Rattle.lq_app.specs.Judgement.{IsReadAs, HasUnknown, unknown_name}
+use Rattle.lq_app.specs.Stages.{IsReadAs, IsBoundAs}
 use Rattle.lq_app.proofs.verdict.judge_program.Goals as goal
 
-pub returns-in-Ok : goal.returns-in-Ok
-returns-in-Ok c =
-    let source = c.in_ok-source.ensures.ok in
-    let items = sym c.deref-in-Ok.ensures.value in
-    let named = subst (λ (l : List (Item NameAt)). Resolves l c.in-Ok.scoped.items) (c.deref.ensures.value ∙ items) c.in-Ok.ensures.found in
-    inr (c.in_ok-judge_bound-in-Ok.ensures c.args.text.now (record {
-      read = subst (λ (l : List (Item NameAt)). IsReadAs c.args.text.now c.in_ok-source.source.names l) items source;
-      resolves = subst (λ (l : List (Item Binder)). Resolves c.deref-in-Ok.result.now l) (sym c.deref-in-Ok-2.ensures.value) named;
-    }))
+pub returns-in-Ok-clause-ok : goal.returns-in-Ok-clause-ok
+returns-in-Ok-clause-ok c =
+    let text = c.args.text.now in
+    let names = c.in_ok-source.source.names in
+    let read = subst (λ (l : List (Item NameAt)). IsReadAs text names l) (sym c.deref.ensures.value) c.in_ok-source.ensures.ok in
+    let bound = c.in-Ok.ensures.ok text read in
+    let items = subst (λ (l : List (Item NameAt)). IsBoundAs text names l c.in-Ok.scoped.items) (c.deref.ensures.value ∙ sym c.deref-in-Ok.ensures.value) bound in
+    c.in_ok-judge_bound-in-Ok.ensures text (subst (λ (l : List (Item Binder)). IsBoundAs text names c.deref-in-Ok.result.now l) (sym c.deref-in-Ok-2.ensures.value) items)
 
-pub returns-in-Err-Unknown : goal.returns-in-Err-Unknown
-returns-in-Err-Unknown c =
-    let source = c.in_ok-source.ensures.ok in
-    let x = c.in-Err-Unknown.x in
-    let first = c.in-Err-Unknown.ensures.unknown x (ap (λ (e : ScopeError). Err e) c.in-Err-Unknown.field-0-is) in
-    let h : HasUnknown c.args.text.now x = record {
-      names = c.in_ok-source.source.names;
-      items = c.in_ok-source.source.items.items;
-      read = source;
-      first = subst (λ (l : List (Item NameAt)). IsFirstUnknown l x) c.deref.ensures.value first;
-    } in
-    inr (unknown_name x h, ap (λ (l : List ℕ). Code 6 l) c.in_ok-unknown_report-in-Err-Unknown.ensures)
+pub returns-clause-refused : goal.returns-clause-refused
+returns-clause-refused c =
+    c.in-Err.ensures.refused c.args.text.now (subst (λ (l : List (Item NameAt)). IsReadAs c.args.text.now c.in_ok-source.source.names l) (sym c.deref.ensures.value) c.in_ok-source.ensures.ok)

@@ -3,6 +3,7 @@ use Rattle.std.proofs.Common.{◌++◌, inr, [], sym, ap, ◌∙◌, arith}
 use Rattle.lq_name.specs.declared.place.Place.{Place}
 use Rattle.lq_app.specs.Texts.{past_text}
 use Rattle.lq_app.specs.Judgement.{head_lines}
+use Rattle.lq_app.specs.Stages.{scoped_with}
 use Rattle.lq_app.proofs.Asserted.{below}
 use Rattle.lq_app.proofs.verdict.past_number.Goals as goal
 
@@ -15,7 +16,7 @@ pub returns : goal.returns
 returns c = λ text names items bound.
     let at = c.in_ok-place.ensures in
     inr (record {
-      of = record { names = names; items = items; scoped = c.args.scoped.now; bound = bound };
+      of = record { program = scoped_with bound.0 names items c.args.scoped.now; is = bound.1 };
       number = c.args.number;
       first = c.requires.first;
       past = c.args.past.now;

@@ -4,6 +4,7 @@ use Rattle.lq_name.specs.declared.place.Place.{Place}
 use Rattle.lq_pred.specs.Sum.{Sum as Term}
 use Rattle.lq_point.specs.Values.{as_point}
 use Rattle.lq_app.specs.Judgement.{head_lines, ShowsPoint}
+use Rattle.lq_app.specs.Stages.{scoped_with}
 use Rattle.lq_app.proofs.Asserted.{below}
 use Rattle.lq_app.proofs.verdict.rejected.Goals as goal
 
@@ -19,7 +20,7 @@ returns c = λ text bound.
     let report = c.in_ok-report.ensures in
     let at = c.in_ok-place.ensures in (
       record {
-        of = record { names = c.args.table.now; items = c.args.items.now; scoped = c.args.scoped.now; bound = bound };
+        of = record { program = scoped_with bound.0 c.args.table.now c.args.items.now c.args.scoped.now; is = bound.1 };
         number = c.args.number;
         point = as_point c.args.point.now;
         first = c.requires.fails.first;

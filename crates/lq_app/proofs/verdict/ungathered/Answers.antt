@@ -4,6 +4,7 @@ use Rattle.lq_name.specs.declared.place.Place.{Place}
 use Rattle.lq_pred.specs.PredView.{formula_of}
 use Rattle.lq_app.specs.Texts.{formula_text}
 use Rattle.lq_app.specs.Judgement.{head_lines}
+use Rattle.lq_app.specs.Stages.{scoped_with}
 use Rattle.lq_app.proofs.Asserted.{below}
 use Rattle.lq_app.proofs.verdict.ungathered.Goals as goal
 
@@ -18,7 +19,7 @@ pub returns : goal.returns
 returns c = λ text bound.
     let at = c.in_ok-place.ensures in
     inl (record {
-      of = record { names = c.args.table.now; items = c.args.items.now; scoped = c.args.scoped.now; bound = bound };
+      of = record { program = scoped_with bound.0 c.args.table.now c.args.items.now c.args.scoped.now; is = bound.1 };
       number = c.args.number;
       formula = formula_of c.args.pred.now;
       first = c.requires.first;

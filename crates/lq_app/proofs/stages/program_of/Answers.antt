@@ -1,31 +1,18 @@
-use Rattle.std.proofs.Common.{ℕ, List, Err, refl, sym, ap, subst, ◌∙◌}
-use Rattle.lq_action.specs.Value.{items}
+use Rattle.std.proofs.Common.{Err, ap, ◌∙◌}
 use Rattle.lq_lex.specs.Reading.{tokens_of, end_place_of}
-use Rattle.lq_name.specs.declared.place.TextKind.TheVariants.{Program}
-use Rattle.lq_parse.specs.Trees.{IsRead, with_names}
+use Rattle.lq_parse.specs.Trees.{with_names}
 use Rattle.lq_parse.specs.declared.error.ParseError.{ParseError}
-use Rattle.lq_tree.specs.Texts.{program_view}
 use Rattle.lq_app.proofs.Refusing.{no_tokens_due, no_program_due}
-use Rattle.lq_app.proofs.verdict.program_of.Goals as goal
+use Rattle.lq_app.proofs.stages.program_of.Goals as goal
 
 pub returns-in-Err-clause-refused : goal.returns-in-Err-clause-refused
 returns-in-Err-clause-refused c = no_tokens_due c.args.text.now c.in-Err.error c.no_tokens.result c.in-Err.ensures.refused c.no_tokens.ensures
 
 pub returns-in-Ok-parse_program-clause-ok : goal.returns-in-Ok-parse_program-clause-ok
 returns-in-Ok-parse_program-clause-ok c =
-    let text = c.args.text.now in
     let tokens = tokens_of c.in-Ok.tokens in
-    let names = c.in-Ok-parse_program.ensures.names ∙ ap (with_names text tokens) c.in_ok-names.ensures in
-    record {
-      program = record {
-        tokens = tokens;
-        are_tokens = c.in-Ok.ensures.found;
-        trees = program_view c.in-Ok-parse_program.program;
-        read = subst (λ (l : List (List ℕ)). IsRead Program text l tokens (items (program_view c.in-Ok-parse_program.program))) names c.in-Ok-parse_program.ensures.ok;
-      };
-      same = refl;
-      named = sym names;
-    }
+    let names = c.in-Ok-parse_program.ensures.names ∙ ap (with_names c.args.text.now tokens) c.in_ok-names.ensures in
+    (tokens, c.in-Ok.ensures.found, (names, c.in-Ok-parse_program.ensures.ok))
 
 pub returns-clause-refused : goal.returns-clause-refused
 returns-clause-refused c = no_program_due c.args.text.now (tokens_of c.in-Ok.tokens) (end_place_of c.in-Ok.tokens) c.in-Err-parse_program.error c.no_program.result

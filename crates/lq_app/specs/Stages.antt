@@ -1,0 +1,108 @@
+-- The stages in which a text is judged: its tokens, its trees, its straight-line items, and these with their names bound.
+use Rattle.std.specs.Prelude.{◌≡◌, ℕ, List, length, Option, Some, None, Result, Ok, Err}
+use Rattle.lq_action.specs.Value as value
+use Rattle.lq_lex.specs.Places.{place_at}
+use Rattle.lq_lex.specs.Reading.{IsTokens, HasFault}
+use Rattle.lq_lex.specs.declared.error.LexError.{LexError}
+use Rattle.lq_lex.specs.declared.error.LexError.TheVariants as lexing
+use Rattle.lq_lex.specs.declared.token.Token.{Token}
+use Rattle.lq_name.specs.declared.name.Binder.{Binder}
+use Rattle.lq_name.specs.declared.place.Place.{Place}
+use Rattle.lq_name.specs.declared.place.TextKind.TheVariants as kind
+use Rattle.lq_parse.specs.Texts.{IsSyntax, IsTooDeep}
+use Rattle.lq_parse.specs.Trees.{IsRead, with_names}
+use Rattle.lq_parse.specs.declared.error.ParseError.{ParseError}
+use Rattle.lq_parse.specs.declared.error.ParseError.TheVariants as parsing
+use Rattle.lq_report.specs.Stages.{Then}
+use Rattle.lq_report.specs.declared.refused.Refused.{Refused}
+use Rattle.lq_report.specs.declared.refused.Refused.TheVariants.{At, Named}
+use Rattle.lq_straight.specs.declared.item.NameAt.{NameAt}
+use Rattle.lq_straight.specs.declared.item.Item.{Item}
+use Rattle.lq_straight.specs.Forms.{is, unbuilt, items_in}
+use Rattle.lq_straight.specs.Names.{first_names, text_in}
+use Rattle.lq_straight.specs.Scope.{Resolves, IsFirstUnknown}
+use Rattle.lq_tree.specs.Items.{ItemTree}
+
+-- a text's trees, and the texts of its names in the order of their numbers
+pub record Parsed : Type 0 where
+  pub trees : List ItemTree
+  pub names : List (List ℕ)
+
+-- the same with its straight-line items
+pub record Recognised : Type 0 where
+  pub parsed : Parsed
+  pub items : List (Item NameAt)
+
+-- the same with these with their names bound
+pub record Scoped : Type 0 where
+  pub read : Recognised
+  pub scoped : List (Item Binder)
+
+-- how a first fault is refused
+abbrev pub fault_refusal : LexError → Option Refused
+fault_refusal (lexing.BadByte place) = Some (At 1 place)
+fault_refusal (lexing.OpenComment place) = Some (At 2 place)
+fault_refusal (lexing.LiteralPast place) = Some (At 3 place)
+fault_refusal lexing.Memory = None
+
+-- the text's tokens, or its first fault
+abbrev pub IsLexed : List ℕ → Result (List Token) Refused → Type 0
+IsLexed text (Ok tokens) = IsTokens kind.Program text tokens
+IsLexed text (Err r) = (e : LexError) × HasFault kind.Program text e × (fault_refusal e ≡ Some r)
+
+-- how tokens that are no program are refused
+abbrev pub stop_refusal : ParseError → Option Refused
+stop_refusal (parsing.Syntax place) = Some (At 4 place)
+stop_refusal (parsing.TooDeep place) = Some (At 5 place)
+stop_refusal parsing.Memory = None
+
+-- the tokens stop being a program here, or the first of them that nests too deeply stands here
+abbrev pub IsStop : List ℕ → List Token → ParseError → Type 0
+IsStop text tokens (parsing.Syntax place) = IsSyntax kind.Program text tokens (place_at kind.Program text (length text)) place
+IsStop text tokens (parsing.TooDeep place) = IsTooDeep kind.Program text tokens (place_at kind.Program text (length text)) place
+IsStop text tokens parsing.Memory = ⊥
+
+-- the trees that the tokens are, or where they are none
+abbrev pub IsParsed : List ℕ → List Token → Result Parsed Refused → Type 0
+IsParsed text tokens (Ok p) = (p.names ≡ with_names text tokens first_names) × IsRead kind.Program text p.names tokens (value.items p.trees)
+IsParsed text tokens (Err r) = (e : ParseError) × IsStop text tokens e × (stop_refusal e ≡ Some r)
+
+-- the items that the trees are, or the first form that isn't judged yet
+abbrev pub IsRecognised : Parsed → Result Recognised Refused → Type 0
+IsRecognised p (Ok r) = (r.parsed ≡ p) × (items_in p.trees ≡ is r.items)
+IsRecognised p (Err r) = (place : Place) × (items_in p.trees ≡ unbuilt place) × (r ≡ At 17 place)
+
+-- the items with their names bound, or the first name with no definition before its use
+abbrev pub IsResolved : Recognised → Result Scoped Refused → Type 0
+IsResolved r (Ok s) = (s.read ≡ r) × Resolves r.items s.scoped
+IsResolved r (Err e) = (x : NameAt) × IsFirstUnknown r.items x × (e ≡ Named 6 x.place (text_in r.parsed.names x.name.0))
+
+-- the text up to its trees, up to its items, and up to their names
+abbrev pub ParsesTo : List ℕ → Result Parsed Refused → Type 0
+ParsesTo text = Then IsLexed (IsParsed text) text
+
+abbrev pub RecognisesTo : List ℕ → Result Recognised Refused → Type 0
+RecognisesTo = Then ParsesTo IsRecognised
+
+abbrev pub ResolvesTo : List ℕ → Result Scoped Refused → Type 0
+ResolvesTo = Then RecognisesTo IsResolved
+
+-- the trees with the texts of these names
+abbrev pub parsed_with : List ItemTree → List (List ℕ) → Parsed
+parsed_with trees names = record { trees = trees; names = names }
+
+-- the same with these items
+abbrev pub recognised_with : List ItemTree → List (List ℕ) → List (Item NameAt) → Recognised
+recognised_with trees names items = record { parsed = parsed_with trees names; items = items }
+
+-- the same with these bound
+abbrev pub scoped_with : List ItemTree → List (List ℕ) → List (Item NameAt) → List (Item Binder) → Scoped
+scoped_with trees names items scoped = record { read = recognised_with trees names items; scoped = scoped }
+
+-- the text is a program of these items and names
+abbrev pub IsReadAs : List ℕ → List (List ℕ) → List (Item NameAt) → Type 0
+IsReadAs text names items = (trees : List ItemTree) × RecognisesTo text (Ok (recognised_with trees names items))
+
+-- the same with its names bound
+abbrev pub IsBoundAs : List ℕ → List (List ℕ) → List (Item NameAt) → List (Item Binder) → Type 0
+IsBoundAs text names items scoped = (trees : List ItemTree) × ResolvesTo text (Ok (scoped_with trees names items scoped))

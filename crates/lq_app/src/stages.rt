@@ -1,0 +1,128 @@
+// The stages in which a text is judged: its tokens, its trees, its straight-line items, and these with their names bound.
+ghost use Rattle.std.specs.Prelude.{◌≡◌, ◌≤◌, ◌<◌, ◌^◌, ℕ, List, length, Ok, IfOk, IfErr};
+ghost use Rattle.lq_app.specs.declared.stages.NotJudged.TheVariants.{Memory};
+ghost use Rattle.lq_straight.specs.Uses.{AreSmall};
+ghost use Rattle.lq_tree.specs.Texts.{program_view};
+ghost use Rattle.lq_app.specs.Stages.{fault_refusal, stop_refusal, parsed_with, ParsesTo, RecognisesTo, ResolvesTo, IsReadAs, IsBoundAs};
+ghost use Rattle.lq_app.specs.NotJudged.{IsOf, IsBy};
+
+use crate::texts::text_of;
+use lq_lex::{LexError, lex};
+use lq_name::{Binder, NameTable, NameText, TextKind};
+use lq_parse::{ParseError, parse_program};
+use lq_report::Refused;
+use lq_straight::{FormError, Item, NameAt, ScopeError, name_table, recognise, resolve};
+use lq_tree::Program;
+use std::alloc::{AllocError, Global};
+
+// Why a text is not judged.
+#[derive(Drop)]
+pub(crate) enum NotJudged {
+    Refused(Refused),
+    Memory,
+}
+
+impl From<AllocError> for NotJudged {
+    ghost from_gives = { λ _ e. e ≡ Memory };
+
+    fn from(_: AllocError) -> Self {
+        NotJudged::Memory
+    }
+}
+
+// A program with the table of its names.
+#[derive(Drop)]
+pub(crate) struct Parsed {
+    pub(crate) program: Program,
+    pub(crate) names: NameTable,
+}
+
+// The items of a program with the table of its names.
+#[derive(Drop)]
+pub(crate) struct Source {
+    pub(crate) items: Vec<Item<NameAt>>,
+    pub(crate) names: NameTable,
+}
+
+fn no_tokens(error: LexError) -> NotJudged
+    ensures { IsOf (fault_refusal error) result }
+{
+    match error {
+        LexError::BadByte(place) => NotJudged::Refused(Refused::At(1, place)),
+        LexError::OpenComment(place) => NotJudged::Refused(Refused::At(2, place)),
+        LexError::LiteralPast(place) => NotJudged::Refused(Refused::At(3, place)),
+        LexError::Memory => NotJudged::Memory,
+    }
+}
+
+fn no_program(error: ParseError) -> NotJudged
+    ensures { IsOf (stop_refusal error) result }
+{
+    match error {
+        ParseError::Syntax(place) => NotJudged::Refused(Refused::At(4, place)),
+        ParseError::TooDeep(place) => NotJudged::Refused(Refused::At(5, place)),
+        ParseError::Memory => NotJudged::Memory,
+    }
+}
+
+// The tree of the text.
+fn program_of(alloc: Global, text: &[u8]) -> Result<Parsed, NotJudged>
+    requires { length text.now ≤ 2 ^ 24 }
+    ensures ok { IfOk result (λ p. ParsesTo text.now (Ok (parsed_with (program_view p.program) p.names))) }
+    ensures count { IfOk result (λ p. length (program_view p.program) < 2 ^ 32) }
+    ensures refused { IfErr result (λ e. IsBy (ParsesTo text.now) e) }
+{
+    let tokens = match lex(alloc, text, TextKind::Program) {
+        Ok(tokens) => tokens,
+        Err(error) => return Err(no_tokens(error)),
+    };
+    let mut names = name_table(alloc)?;
+    match parse_program(alloc, &tokens, text, &mut names) {
+        Ok(program) => Ok(Parsed { program, names }),
+        Err(error) => Err(no_program(error)),
+    }
+}
+
+// The items of the text, where all of its forms are judged.
+pub(crate) fn source_of(alloc: Global, text: &[u8]) -> Result<Source, NotJudged>
+    requires { length text.now ≤ 2 ^ 24 }
+    ensures ok { IfOk result (λ s. IsReadAs text.now s.names s.items.items) }
+    ensures small { IfOk result (λ s. AreSmall s.items.items) }
+    ensures count { IfOk result (λ s. length s.items.items < 2 ^ 32) }
+    ensures refused { IfErr result (λ e. IsBy (RecognisesTo text.now) e) }
+{
+    let parsed = program_of(alloc, text)?;
+    match recognise(alloc, &parsed.program) {
+        Ok(items) => Ok(Source {
+            items,
+            names: parsed.names,
+        }),
+        Err(FormError::Unbuilt(place)) => Err(NotJudged::Refused(Refused::At(17, place))),
+        Err(FormError::Memory) => Err(NotJudged::Memory),
+    }
+}
+
+// The items with their names bound.
+pub(crate) fn scoped_of(
+    alloc: Global,
+    names: &NameTable,
+    items: &[Item<NameAt>],
+) -> Result<Vec<Item<Binder>>, NotJudged>
+    requires count { length items.now < 2 ^ 32 }
+    requires small { AreSmall items.now }
+    ensures ok { (text : List ℕ) → IsReadAs text names.now items.now
+        → IfOk result (λ scoped. IsBoundAs text names.now items.now scoped.items) }
+    ensures small { IfOk result (λ scoped. AreSmall scoped.items) }
+    ensures count { IfOk result (λ scoped. length scoped.items ≡ length items.now) }
+    ensures refused { (text : List ℕ) → IsReadAs text names.now items.now
+        → IfErr result (λ e. IsBy (ResolvesTo text) e) }
+{
+    match resolve(alloc, items) {
+        Ok(scoped) => Ok(scoped),
+        Err(ScopeError::Unknown(x)) => {
+            let name = NameText::new(alloc, text_of(names, x.name))?;
+            Err(NotJudged::Refused(Refused::Named(6, x.place, name)))
+        }
+        Err(ScopeError::Memory) => Err(NotJudged::Memory),
+    }
+}
