@@ -10,8 +10,6 @@ mod lines;
 mod solution;
 mod solve;
 mod stage;
-#[cfg(test)]
-mod tests;
 
 pub use asking::{Asked, ask};
 pub use lines::{Line, Lines};

@@ -10,5 +10,3 @@ mod table;
 
 pub use table::DistanceTable;
 
-#[cfg(test)]
-mod tests;

@@ -237,6 +237,3 @@ impl Frac {
         Some(Frac { numer, denom })
     }
 }
-
-#[cfg(test)]
-mod tests;

@@ -10,4 +10,3 @@ pub mod Walks
 pub mod Earlier
 pub mod Covers
 pub mod Literal
-pub mod Fitting

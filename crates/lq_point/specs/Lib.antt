@@ -4,4 +4,3 @@ pub mod Function
 pub mod Nearest
 pub mod Arguments
 pub mod Agreeing
-pub mod Askable

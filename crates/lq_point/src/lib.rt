@@ -2,8 +2,6 @@
 #![tactic(auto)]
 
 mod agreeing;
-#[cfg(test)]
-mod askable;
 mod conditions;
 mod error;
 mod evaluating;
@@ -11,8 +9,6 @@ mod holding;
 mod laws;
 mod pairs;
 mod point;
-#[cfg(test)]
-mod tests;
 mod values;
 
 pub use error::PointError;

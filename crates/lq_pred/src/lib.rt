@@ -11,8 +11,6 @@ mod pred;
 mod symbol;
 mod table;
 mod term;
-#[cfg(test)]
-mod tests;
 mod tightening;
 
 pub use error::GatherError;

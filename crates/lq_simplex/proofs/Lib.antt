@@ -9,5 +9,4 @@ pub mod Signs
 pub mod Explaining
 pub mod Readings
 pub mod Tables
-pub mod Rows
 pub mod Resting

@@ -1,8 +1,7 @@
 -- The parts of a row: their signs, their divisors and their multiples.
-use Rattle.std.specs.Prelude.{◌≡◌, ◌≢◌, ◌*ℤ◌, All, neg_ℤ, ℕ, ℤ, pos, Bool, true, false, [], ◌∷◌}
+use Rattle.std.specs.Prelude.{◌≡◌, ◌≢◌, ◌*ℤ◌, neg_ℤ, ℕ, ℤ, pos, Bool, true, false, [], ◌∷◌}
 use Rattle.std.specs.Int.{◌∣◌}
-use Rattle.lq_linear.specs.Row.{AscendsFrom}
-use Rattle.lq_simplex.specs.Systems.{Parts, TermsBelow, DividesAll}
+use Rattle.lq_simplex.specs.Systems.{Parts, DividesAll}
 
 -- each number that divides all coefficients divides this one
 abbrev pub IsGreatest : ℕ → Parts → Type 0
@@ -25,12 +24,6 @@ IsDivided by [] [] = Unit {0}
 IsDivided by [] (new ∷ news) = ⊥
 IsDivided by (old ∷ olds) [] = ⊥
 IsDivided by (old ∷ olds) (new ∷ news) = (new.0 ≡ old.0) × (old.1 ≡ new.1 *ℤ by) × IsDivided by olds news
-
--- the parts of a row over the terms below n
-pub record IsRowBelow (n : ℕ) (parts : Parts) : Type 0 where
-  pub ascending : AscendsFrom 0 parts
-  pub nonzero : All (λ part. part.1 ≢ pos 0) parts
-  pub below : TermsBelow n parts
 
 -- at each place the same term, and so many times the one coefficient is so many times the other
 abbrev pub Scales : ℤ → ℤ → Parts → Parts → Type 0

@@ -11,6 +11,3 @@ mod stop;
 mod tableau;
 
 pub use tableau::Tableau;
-
-#[cfg(test)]
-mod tests;

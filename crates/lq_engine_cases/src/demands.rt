@@ -1,0 +1,155 @@
+// Cases of demands: `demands assume PREDICATE, demand PREDICATE, ..`.
+ghost use Rattle.std.specs.Prelude.{IsTrue, All, IfOk, OnOk};
+ghost use Rattle.lq_pred.specs.PredView.{formula_of};
+ghost use Rattle.lq_pred.specs.Reading.{reading_of, AllFitIn};
+ghost use Rattle.lq_pred.specs.TermView.{sum_of};
+ghost use Rattle.lq_demand.specs.LinesView.{step_of, steps_of};
+ghost use Rattle.lq_demand.specs.Plain.{IsVariable, IsWhole, IsOneRow, IsPlain, IsPlainAs, IsPlainStep};
+
+use crate::askable::reading_fits;
+use crate::error::CaseError;
+use crate::parsing::Stacks;
+use lq_demand::{Asked, Line, Lines, ask};
+use lq_pred::{CompareOp, Pred, Stop, Term};
+use std::alloc::{AllocError, Global};
+use std::fmt::Write;
+
+fn is_variable(term: &Term) -> bool
+    ensures { IsTrue result → IsVariable (sum_of term.now) }
+{
+    matches!(term, Term::Var(_))
+}
+
+fn is_whole(term: &Term) -> bool
+    ensures { IsTrue result → IsWhole (sum_of term.now) }
+{
+    matches!(term, Term::Whole(_))
+}
+
+/// Whether a term is a number, a variable, or a variable with a number added or taken away.
+fn is_plain(term: &Term) -> bool
+    ensures { IsTrue result → IsPlain (sum_of term.now) }
+{
+    match term {
+        Term::Whole(_) | Term::Var(_) => true,
+        Term::Add(a, b) | Term::Sub(a, b) => is_variable(a) && is_whole(b),
+        Term::Neg(_)
+        | Term::Mul(_, _)
+        | Term::Div(_, _)
+        | Term::Mod(_, _)
+        | Term::Length(_)
+        | Term::Measure(_, _) => false,
+    }
+}
+
+/// Whether a comparison, or its negation where it isn't positive, is read as one row.
+fn is_one_row(positive: bool, op: CompareOp) -> bool
+    ensures { IsTrue result → IsOneRow positive op }
+{
+    match op {
+        CompareOp::Eq => positive,
+        CompareOp::Ne => !positive,
+        CompareOp::Lt | CompareOp::Le | CompareOp::Gt | CompareOp::Ge => true,
+    }
+}
+
+/// Whether a predicate, or its negation, is read as one difference row.
+fn is_plain_as(positive: bool, pred: &Pred) -> bool
+    ensures { IsTrue result → IsPlainAs positive (formula_of pred.now) }
+{
+    match pred {
+        Pred::Compare(op, left, right) => {
+            is_one_row(positive, *op) && is_plain(left) && is_plain(right)
+        }
+        Pred::True
+        | Pred::False
+        | Pred::Flag(_)
+        | Pred::Same(_, _)
+        | Pred::Not(_)
+        | Pred::And(_, _)
+        | Pred::Or(_, _)
+        | Pred::Iff(_, _) => false,
+    }
+}
+
+/// What is known, if it can be asked about.
+fn known(alloc: Global, pred: Pred) -> Result<Line, CaseError>
+    ensures { IfOk result (λ l. IsPlainStep (step_of l)) }
+{
+    if !is_plain_as(true, &pred) {
+        return Err(CaseError::NotACase);
+    }
+    if !reading_fits(alloc, &pred, true)? {
+        return Err(CaseError::Ungathered);
+    }
+    Ok(Line::Assume(pred))
+}
+
+/// What is asked, if it can be.
+fn demanded(pred: Pred) -> Result<Line, CaseError>
+    ensures { IfOk result (λ l. IsPlainStep (step_of l)) }
+{
+    if !is_plain_as(false, &pred) {
+        return Err(CaseError::NotACase);
+    }
+    Ok(Line::Demand(pred))
+}
+
+fn push(lines: &mut Lines, line: Line) -> Result<(), AllocError>
+    requires lines { All IsPlainStep (steps_of lines.old) }
+    requires line { IsPlainStep (step_of line) }
+    ensures { OnOk result (All IsPlainStep (steps_of lines.new)) }
+{
+    lines.push(line)
+}
+
+/// The predicates of the words, each with whether it is assumed, the last one first.
+fn predicates(alloc: Global, words: &[&str]) -> Result<Vec<(bool, Pred)>, CaseError> {
+    let mut stacks = Stacks::new(alloc);
+    let mut found = Vec::new(alloc);
+    for word in words.iter().rev() {
+        match *word {
+            "assume" => found.push((true, stacks.pred()?))?,
+            "demand" => found.push((false, stacks.pred()?))?,
+            _ => stacks.take(word)?,
+        }
+    }
+    if !stacks.is_done() {
+        return Err(CaseError::NotACase);
+    }
+    Ok(found)
+}
+
+/// The list of the words.
+fn lines_of(alloc: Global, words: &[&str]) -> Result<Lines, CaseError>
+    ensures { IfOk result (λ lines. All IsPlainStep (steps_of lines)) }
+{
+    let mut found = predicates(alloc, words)?;
+    let mut lines = Lines::new(alloc)?;
+    while let Some((assumed, pred)) = found.pop() {
+        let line = if assumed {
+            known(alloc, pred)?
+        } else {
+            demanded(pred)?
+        };
+        push(&mut lines, line)?;
+    }
+    Ok(lines)
+}
+
+/// What is found about the demands of a list.
+pub(crate) fn demands(alloc: Global, words: &[&str]) -> Result<String, CaseError> {
+    let mut out = String::new(alloc);
+    let lines = lines_of(alloc, words)?;
+    match ask(alloc, &lines)? {
+        Asked::Valid => out.push_str("valid")?,
+        Asked::Fails(demand, _) => write!(out, "demand {demand} fails")?,
+        Asked::Stops(demand, Stop::Gather(_)) => write!(out, "demand {demand} can't be gathered")?,
+        Asked::Stops(demand, Stop::Number(_)) => {
+            write!(out, "demand {demand} meets a number past 128 bits")?
+        }
+        Asked::Stops(demand, Stop::Pivots(_)) => write!(out, "demand {demand} spends the pivots")?,
+        Asked::Stops(demand, Stop::Memory) => write!(out, "demand {demand} wants memory")?,
+    }
+    Ok(out)
+}

@@ -1,0 +1,145 @@
+// Cases of points: `point asked PREDICATE known HYPOTHESIS .. at NUMBER .. flags v0=yes .. classes v0=1 ..`.
+ghost use Rattle.std.specs.Prelude.{◌≡◌, IfOk, IfSome};
+ghost use Rattle.lq_pred.specs.Implication.{terms_in};
+ghost use Rattle.lq_pred.specs.PredView.{implication_of};
+ghost use Rattle.lq_point.specs.Evaluation.{EvaluatesAll};
+ghost use Rattle.lq_point.specs.Values.{numbers_of, table_of, values_of};
+
+use crate::askable::all_fit;
+use crate::error::{CaseError, given};
+use crate::numbers::fraction;
+use crate::parsing::{Stacks, symbol};
+use crate::words::{cut, words_of};
+use indexmap::IndexMap;
+use lq_num::Frac;
+use lq_point::{Point, PointError, PointValues, gathered_readings_can_be_evaluated, holds};
+use lq_pred::{Closed, Pred, Preds, Symbol, Term, tighten};
+use std::alloc::Global;
+
+/// The implication whose negated goal is what is asked, under what is known.
+fn implication(alloc: Global, words: &[&str]) -> Result<Closed, CaseError> {
+    let mut stacks = Stacks::new(alloc);
+    let mut known = Vec::new(alloc);
+    let mut asked = None;
+    for word in words.iter().rev() {
+        match *word {
+            "known" => known.push(stacks.pred()?)?,
+            "asked" => asked = Some(stacks.pred()?),
+            _ => stacks.take(word)?,
+        }
+    }
+    if !stacks.is_done() {
+        return Err(CaseError::NotACase);
+    }
+    let mut hypotheses = Preds::new(alloc)?;
+    while let Some(pred) = known.pop() {
+        hypotheses.push(pred)?;
+    }
+    let goal = Pred::Not(Box::new(alloc, given(asked)?)?);
+    Ok(Closed { hypotheses, goal })
+}
+
+fn numbers(alloc: Global, text: &str) -> Result<Vec<Frac>, CaseError> {
+    let mut made = Vec::new(alloc);
+    for word in text.split_whitespace() {
+        made.push(given(fraction(word))?)?;
+    }
+    Ok(made)
+}
+
+fn flags(alloc: Global, text: &str) -> Result<IndexMap<Symbol, bool>, CaseError> {
+    let mut made = IndexMap::new(alloc);
+    for word in text.split_whitespace() {
+        let (name, value) = given(word.split_once('='))?;
+        let holds = match value {
+            "yes" => true,
+            "no" => false,
+            _ => return Err(CaseError::NotACase),
+        };
+        made.insert(given(symbol(name))?, holds)?;
+    }
+    Ok(made)
+}
+
+fn classes(alloc: Global, text: &str) -> Result<IndexMap<Term, u64>, CaseError> {
+    let mut made = IndexMap::new(alloc);
+    for word in text.split_whitespace() {
+        let (name, value) = given(word.split_once('='))?;
+        let class = given(value.parse::<u64>().ok())?;
+        made.insert(Term::Var(given(symbol(name))?), class)?;
+    }
+    Ok(made)
+}
+
+/// The values of a point, as they were given.
+#[derive(Drop)]
+struct Values {
+    numbers: Vec<Frac>,
+    flags: IndexMap<Symbol, bool>,
+    classes: IndexMap<Term, u64>,
+}
+
+/// The point of the values, if they are one, over the implication's own table.
+fn point_of(alloc: Global, implication: &Closed, values: Values) -> Result<Option<Point>, CaseError>
+    ensures table { IfOk result (λ made. IfSome made (λ p. table_of (values_of p) ≡ terms_in (implication_of implication.now))) }
+    ensures evaluates { IfOk result (λ made. IfSome made (λ p. EvaluatesAll (table_of (values_of p)) (numbers_of (values_of p)) (implication_of implication.now))) }
+{
+    if !all_fit(alloc, implication)? {
+        return Err(CaseError::Ungathered);
+    }
+    let table = implication.terms(alloc)?;
+    let Values {
+        numbers,
+        flags,
+        classes,
+    } = values;
+    let terms = table.len();
+    if numbers.len() as u64 != terms {
+        return Err(CaseError::NotACase);
+    }
+    let values = PointValues::new(numbers, flags, classes, table);
+    match Point::new(alloc, values, implication) {
+        Ok(made) => Ok(made),
+        Err(PointError::Past(past)) => Err(CaseError::Past(past)),
+        Err(PointError::Memory) => Err(CaseError::Memory),
+    }
+}
+
+/// Whether the negated goal of the implication holds at its point.
+fn negated_goal_holds(alloc: Global, point: &Point, implication: &Closed) -> Result<bool, CaseError>
+    requires table { table_of (values_of point.now) ≡ terms_in (implication_of implication.now) }
+    requires evaluates { EvaluatesAll (table_of (values_of point.now)) (numbers_of (values_of point.now)) (implication_of implication.now) }
+{
+    gathered_readings_can_be_evaluated();
+    let mut table = implication.terms(alloc)?;
+    let _terms = table.len();
+    match tighten(alloc, &implication.goal, false, &mut table) {
+        Ok(nnf) => Ok(holds(point, &nnf)),
+        Err(e) => Err(CaseError::from(e)),
+    }
+}
+
+/// What is found of the values: they are no point, or what is asked holds or fails there.
+pub(crate) fn pointed(alloc: Global, text: &str) -> Result<String, CaseError> {
+    let (front, classes_text) = cut(text, " classes ");
+    let (front, flags_text) = cut(front, " flags ");
+    let (front, numbers_text) = cut(front, " at ");
+    let words = words_of(alloc, front)?;
+    let implication = implication(alloc, given(words.get(1..))?)?;
+    let values = Values {
+        numbers: numbers(alloc, numbers_text)?,
+        flags: flags(alloc, flags_text)?,
+        classes: classes(alloc, classes_text)?,
+    };
+    let found = match point_of(alloc, &implication, values)? {
+        None => "no point",
+        Some(point) => {
+            if negated_goal_holds(alloc, &point, &implication)? {
+                "holds"
+            } else {
+                "fails"
+            }
+        }
+    };
+    Ok(String::from_str(alloc, found)?)
+}
