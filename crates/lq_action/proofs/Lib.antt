@@ -9,3 +9,6 @@ pub mod Nodes
 pub mod Runs
 pub mod Texts
 pub mod Counting
+pub mod Shapes
+pub mod Asserts
+pub mod Running

@@ -1,3 +1,4 @@
+-- The definitions of what readings make.
 pub mod Value
 pub mod Types
 pub mod Patterns
@@ -7,3 +8,6 @@ pub mod Predicates
 pub mod Made
 pub mod Trees
 pub mod Laws
+pub mod Views
+pub mod Tops
+pub mod Making

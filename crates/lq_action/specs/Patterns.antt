@@ -1,18 +1,12 @@
 -- What actions make of patterns and parameters.
 use Rattle.std.specs.Prelude.{ℕ, List, [], ◌∷◌, ◌++◌, Option, Some, None}
+pub use Rattle.lq_name.specs.NameTable.{nil_name, cons_name}
 use Rattle.lq_name.specs.declared.place.Place.{Place}
 use Rattle.lq_tree.specs.Pattern.{Pattern, pattern, PatternForm, any, bind, nothing, tuple_of, build_of}
 use Rattle.lq_tree.specs.PatternView.{patterns_of}
 use Rattle.lq_grammar.specs.declared.symbol.PatternAction.{PatternAction}
 use Rattle.lq_grammar.specs.declared.symbol.PatternAction.TheVariants.{Bind, Any, UnitPattern, NilPattern, ConsPattern, NoPatterns, TwoPatterns, AppendPattern, TuplePattern, TupleHere, BuildPattern, PatternInside}
 use Rattle.lq_action.specs.Value.{Lexeme, Value, mark, named, pattern_read, patterns}
-
--- the numbers of the predeclared constructors of lists, which every name table has at these places
-abbrev pub nil_name : ℕ
-nil_name = 7
-
-abbrev pub cons_name : ℕ
-cons_name = 8
 
 abbrev pub place_of_pattern : Pattern → Place
 place_of_pattern (pattern p f) = p

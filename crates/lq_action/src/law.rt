@@ -1,3 +1,4 @@
+// Laws of what readings make.
 ghost use Rattle.std.specs.Prelude.{◌≡◌, List};
 ghost use Rattle.lq_grammar.specs.declared.kind.Kind.{Kind};
 ghost use Rattle.lq_name.specs.declared.place.TextKind.{TextKind};

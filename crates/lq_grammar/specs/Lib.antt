@@ -1,3 +1,4 @@
+-- The definitions of grammars and readings.
 pub mod Kinds
 pub mod Grammar
 pub mod Reading

@@ -1,3 +1,4 @@
+// Why tokens are no text.
 ghost use Rattle.std.specs.Prelude.{◌≡◌};
 ghost use Rattle.lq_grammar.specs.declared.error.ReadError.TheVariants.{Memory};
 

@@ -1,3 +1,4 @@
+// The kinds of tokens.
 ghost use Rattle.std.specs.Prelude.{◌≡◌};
 ghost use Rattle.lq_grammar.specs.Kinds.{same_kind};
 

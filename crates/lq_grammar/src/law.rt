@@ -1,3 +1,4 @@
+// Laws of readings and levels.
 ghost use Rattle.std.specs.Prelude.{◌≡◌, ◌↔◌, [], ◌∷◌, List, Some, length, take, get_or, ℕ};
 ghost use Rattle.lq_grammar.specs.declared.symbol.Symbol.TheVariants.{Part};
 ghost use Rattle.lq_grammar.specs.declared.kind.Kind.{Kind};

@@ -20,6 +20,3 @@ pub use symbol::{
     Action, BlockAction, EntryAction, Event, ItemAction, OperandAction, PatternAction, PredAction,
     Symbol, TypingAction,
 };
-
-#[cfg(test)]
-mod tests;

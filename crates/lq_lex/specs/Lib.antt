@@ -1,3 +1,4 @@
+-- The definitions of tokens.
 pub mod Bytes
 pub mod Words
 pub mod Comments

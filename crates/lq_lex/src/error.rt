@@ -1,3 +1,4 @@
+// The faults of a text without tokens.
 ghost use Rattle.std.specs.Prelude.{◌≡◌};
 ghost use Rattle.lq_lex.specs.declared.error.LexError.TheVariants.{Memory};
 

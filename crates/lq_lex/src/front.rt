@@ -8,7 +8,7 @@ use crate::bytes::{
 use crate::comments::rest_from;
 use crate::token::TokenKind;
 use crate::words::{is_keyword, symbol_len};
-use lq_name::TextKind;
+use lq_name::{LITERAL_LIMIT, TextKind};
 
 #[derive(Clone, Copy)]
 pub(crate) enum Front {
@@ -62,8 +62,6 @@ fn quote_front(text: &[u8]) -> Front
     }
 }
 
-const LIMIT: u128 = 1 << 127;
-
 // The value of the digits, where it is at most 2^127.
 fn value_of(digits: &[u8]) -> Option<u128>
     ensures { SomeIff result (number_from 0 digits.now ≤ 2 ^ 127) (number_from 0 digits.now) }
@@ -72,7 +70,7 @@ fn value_of(digits: &[u8]) -> Option<u128>
     for b in digits {
         if *b != b'_' {
             let digit = u128::from(b.saturating_sub(b'0'));
-            if value > (LIMIT - digit) / 10 {
+            if value > (LITERAL_LIMIT - digit) / 10 {
                 return None;
             }
             value = value * 10 + digit;

@@ -1,3 +1,4 @@
+// The lexer.
 ghost use Rattle.std.specs.Prelude.{◌≡◌, ◌≤◌, ◌^◌, ℕ, List, length, IfOk, IfErr, ◌⊎◌};
 ghost use Rattle.lq_lex.specs.Places.{place_at};
 ghost use Rattle.lq_lex.specs.Reading.{IsTokens, HasFault, HasOneReading, tokens_of, end_place_of};

@@ -13,6 +13,3 @@ mod words;
 pub use error::LexError;
 pub use lexer::{lex, one_reading};
 pub use token::{Token, TokenKind, Tokens};
-
-#[cfg(test)]
-mod tests;

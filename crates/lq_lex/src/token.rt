@@ -1,3 +1,4 @@
+// Tokens.
 ghost use Rattle.std.specs.Prelude.{◌≡◌, length, slice_get, IsTrue, ◌↔◌, []};
 ghost use Rattle.std.specs.Option.{option_copied};
 

@@ -1,86 +1,85 @@
--- Sets of strings, as lists of texts.
-use Rattle.std.proofs.Common.{◌≡◌, ℕ, ◌<◌, ◌≤◌, ◌^◌, Bool, true, false, List, [], ◌∷◌, ◌++◌, ◌||◌, ◌⊎◌, inl, inr, length, slice_get, take, get_or, Some, cond, if◌then◌else◌, ◌-◌, refl, sym, ap, ◌∙◌, true≢false, arith, length-append, String}
-use Rattle.std.specs.List.{list_any, IsDistinct, find}
-use Rattle.std.specs.Option.{option_map}
+-- The texts of a table and their numbers in its map.
+use Rattle.std.proofs.Common.{◌≡◌, ℕ, ◌+◌, ◌<◌, ◌≤◌, ◌^◌, Bool, true, false, List, [], ◌∷◌, ◌++◌, ◌||◌, ◌⊎◌, inl, inr, length, slice_get, take, get_or, Some, None, cond, if◌then◌else◌, ◌-◌, refl, sym, ap, ◌∙◌, true≢false, arith, length-append, String}
+use Rattle.std.specs.BTreeMap.{BTreeMap, get_by_text}
+use Rattle.std.specs.List.{list_any}
+use Rattle.std.specs.Map.{update}
 use Rattle.std.specs.Str.{bytes_eq}
-use Rattle.std.specs.String.{string_bytes, string_eq}
 use Rattle.std.specs.declared.alloc.Global.{Global}
-use Rattle.std.proofs.lemmas.Map.Keys.{apart_from_distinct}
-use Rattle.std.proofs.lemmas.Option.{slice_get-map, slice_get-get_or}
+use Rattle.std.proofs.Math.Seq.{get_or-append_seam}
 use Rattle.std.proofs.lemmas.Bool.{cases_order}
-use Rattle.std.proofs.lemmas.List.{length-map, length-take, take-append-le}
+use Rattle.std.proofs.lemmas.List.{length-take, take-append-le, get_or_append_left}
+use Rattle.std.proofs.lemmas.List.Folds.{list_any-append, list_any_at}
+use Rattle.std.proofs.lemmas.Option.{slice_get-get_or, slice_get_within, slice_get_read, get_or_from_slice_get}
 use Rattle.std.proofs.lemmas.Slice.Eq.{bytes_eq-Decides}
-use Rattle.indexmap.specs.IndexSet.{insert_key}
-use Rattle.lq_name.specs.NameTable.{predeclared, with_text, texts_of, HasOneNumberEach, IsNameTable}
+use Rattle.lq_name.specs.NameTable.{predeclared, with_text, AreNumbers, HasOneNumberEach, IsNameTable}
 
--- a string stands for its text
-pub any-texts : (k : String Global) (ks : List (String Global)) → list_any (string_eq k) ks ≡ list_any (bytes_eq (string_bytes k)) (texts_of ks)
-any-texts k [] = refl
-any-texts k (x ∷ xs) = ap (λ b. string_eq k x || b) (any-texts k xs)
+-- the texts before the last one
+pub before-last : (ts : List (List ℕ)) (t : List ℕ) (i : ℕ) → i < length ts → slice_get (ts ++ t ∷ []) i ≡ slice_get ts i
+before-last ts t i within =
+    slice_get-get_or (ts ++ t ∷ []) i t (omega (arith, within, length-append ts (t ∷ [])))
+    ∙ ap Some (get_or_append_left ts (t ∷ []) t i within)
+    ∙ sym (slice_get-get_or ts i t within)
 
-pub any-bytes : (t : List ℕ) (ks : List (String Global)) → list_any (λ k. bytes_eq t (string_bytes k)) ks ≡ list_any (bytes_eq t) (texts_of ks)
-any-bytes t [] = refl
-any-bytes t (x ∷ xs) = ap (λ b. bytes_eq t (string_bytes x) || b) (any-bytes t xs)
+pub at-last : (ts : List (List ℕ)) (t : List ℕ) → slice_get (ts ++ t ∷ []) (length ts) ≡ Some t
+at-last ts t =
+    slice_get-get_or (ts ++ t ∷ []) (length ts) t (omega (arith, length-append ts (t ∷ [])))
+    ∙ ap Some (get_or-append_seam ts t [] t)
 
-map-append : (xs : List (String Global)) (k : String Global) → texts_of (xs ++ k ∷ []) ≡ texts_of xs ++ string_bytes k ∷ []
-map-append [] k = refl
-map-append (x ∷ xs) k = ap (λ l. string_bytes x ∷ l) (map-append xs k)
+-- a text that has a number is there
+pub there : (ts : List (List ℕ)) (q : List ℕ) (i : ℕ) → slice_get ts i ≡ Some q → list_any (bytes_eq q) ts ≡ true
+there ts q i at =
+    list_any_at (bytes_eq q) ts i q (slice_get_within ts i q at) ((bytes_eq-Decides q (get_or ts i q)).1 (sym (get_or_from_slice_get ts i q q at)))
 
--- one more key is one more text
-pub texts_of-insert_key : (ks : List (String Global)) (k : String Global) (t : List ℕ) → string_bytes k ≡ t → texts_of (insert_key string_eq ks k) ≡ with_text (texts_of ks) t
-texts_of-insert_key ks k t is = by (list_any (string_eq k) ks) refl ∙ ap (with_text (texts_of ks)) is
+-- a text that is there adds none, and another one goes last
+pub with_text-there : (ts : List (List ℕ)) (t : List ℕ) → list_any (bytes_eq t) ts ≡ true → with_text ts t ≡ ts
+with_text-there ts t is = ap (λ c. if c then ts else ts ++ t ∷ []) is
+
+pub with_text-new : (ts : List (List ℕ)) (t : List ℕ) → list_any (bytes_eq t) ts ≡ false → with_text ts t ≡ ts ++ t ∷ []
+with_text-new ts t is = ap (λ c. if c then ts else ts ++ t ∷ []) is
+
+-- the last text differs from those before it
+apart : (ts : List (List ℕ)) (t : List ℕ) (j : ℕ) → list_any (bytes_eq t) ts ≡ false → j < length ts → slice_get (ts ++ t ∷ []) j ≡ Some t → ⊥
+apart ts t j new within same = true≢false (sym (there ts t j (sym (before-last ts t j within) ∙ same)) ∙ new)
+
+pub one_number_each : (ts : List (List ℕ)) (t : List ℕ) → list_any (bytes_eq t) ts ≡ false → HasOneNumberEach ts → HasOneNumberEach (ts ++ t ∷ [])
+one_number_each ts t new distinct i j within_i within_j same = by (cases_order i (length ts)) (cases_order j (length ts))
   where
-    by : (b : Bool) → list_any (string_eq k) ks ≡ b → texts_of (insert_key string_eq ks k) ≡ with_text (texts_of ks) (string_bytes k)
-    by true e =
-        ap (λ c. texts_of (if c then ks else ks ++ k ∷ [])) e
-        ∙ sym (ap (λ c. if c then texts_of ks else texts_of ks ++ string_bytes k ∷ []) (sym (any-texts k ks) ∙ e))
-    by false e =
-        ap (λ c. texts_of (if c then ks else ks ++ k ∷ [])) e
-        ∙ map-append ks k
-        ∙ sym (ap (λ c. if c then texts_of ks else texts_of ks ++ string_bytes k ∷ []) (sym (any-texts k ks) ∙ e))
+    by : (i ≡ length ts) ⊎ ((i < length ts) ⊎ (length ts < i)) → (j ≡ length ts) ⊎ ((j < length ts) ⊎ (length ts < j)) → i ≡ j
+    by (inl a) (inl b) = a ∙ sym b
+    by (inl a) (inr (inl b)) = absurd (apart ts t j new b (sym same ∙ ap (slice_get (ts ++ t ∷ [])) a ∙ at-last ts t))
+    by (inr (inl a)) (inl b) = absurd (apart ts t i new a (same ∙ ap (slice_get (ts ++ t ∷ [])) b ∙ at-last ts t))
+    by (inr (inl a)) (inr (inl b)) = distinct i j a b (sym (before-last ts t i a) ∙ same ∙ before-last ts t j b)
+    by (inr (inr a)) _ = absurd (omega (arith, a, within_i, length-append ts (t ∷ [])))
+    by _ (inr (inr b)) = absurd (omega (arith, b, within_j, length-append ts (t ∷ [])))
 
--- the text of a key
-pub text-at : (ks : List (String Global)) (i : ℕ) (k : String Global) → slice_get ks i ≡ Some k → slice_get (texts_of ks) i ≡ Some (string_bytes k)
-text-at ks i k at = slice_get-map string_bytes ks i ∙ ap (option_map string_bytes) at
-
--- where no two keys are equal, no text has two numbers
-below : (ks : List (String Global)) (i j : ℕ) → IsDistinct string_eq ks → i < j → j < length ks → slice_get (texts_of ks) i ≡ slice_get (texts_of ks) j → ⊥
-below [] i j distinct before within same = absurd (omega arith)
-below (d ∷ ks) i j distinct before within same =
-    let apart = apart_from_distinct string_eq (d ∷ ks) i j d distinct before within in
-    let at_i = text-at (d ∷ ks) i (get_or (d ∷ ks) i d) (slice_get-get_or (d ∷ ks) i d (omega arith)) in
-    let at_j = text-at (d ∷ ks) j (get_or (d ∷ ks) j d) (slice_get-get_or (d ∷ ks) j d within) in
-    let one = some-same (sym at_i ∙ same ∙ at_j) in
-    true≢false (sym ((bytes_eq-Decides (string_bytes (get_or (d ∷ ks) i d)) (string_bytes (get_or (d ∷ ks) j d))).1 one) ∙ apart)
+-- the map with one more number
+pub more_numbers : (ts : List (List ℕ)) (t : List ℕ) (m n : BTreeMap (String Global) ℕ) → AreNumbers ts m → ((q : List ℕ) → get_by_text n q ≡ update bytes_eq (get_by_text m) t (Some (length ts)) q) → AreNumbers (ts ++ t ∷ []) n
+more_numbers ts t m n table one = record { known = known; others = others }
   where
-    some-same : {a b : List ℕ} → Some a ≡ Some b → a ≡ b
-    some-same e = cc
+    known-by : (q : List ℕ) (k : ℕ) (b : Bool) → bytes_eq t q ≡ b → cond b (Some (length ts)) (get_by_text m q) ≡ Some k → slice_get (ts ++ t ∷ []) k ≡ Some q
+    known-by q k true is at =
+        let number : length ts ≡ k = cc in
+        ap (slice_get (ts ++ t ∷ [])) (sym number) ∙ at-last ts t ∙ ap Some ((bytes_eq-Decides t q).0 is)
+    known-by q k false is at =
+        let old = table.known q k at in
+        before-last ts t k (slice_get_within ts k q old) ∙ old
 
-pub one_number_each : (ks : List (String Global)) → IsDistinct string_eq ks → HasOneNumberEach (texts_of ks)
-one_number_each ks distinct i j within_i within_j same = by (cases_order i j)
-  where
-    by : (i ≡ j) ⊎ ((i < j) ⊎ (j < i)) → i ≡ j
-    by (inl e) = e
-    by (inr (inl h)) = absurd (below ks i j distinct h (rw (← length-map ks string_bytes) within_j) same)
-    by (inr (inr h)) = absurd (below ks j i distinct h (rw (← length-map ks string_bytes) within_i) (sym same))
+    known : (q : List ℕ) (k : ℕ) → get_by_text n q ≡ Some k → slice_get (ts ++ t ∷ []) k ≡ Some q
+    known q k at = known-by q k (bytes_eq t q) refl (sym (one q) ∙ at)
 
--- what a look-up by bytes finds has these bytes
-pub find-text : (t : List ℕ) (ks : List (String Global)) (k : String Global) → Some k ≡ find (λ x. bytes_eq t (string_bytes x)) ks → string_bytes k ≡ t
-find-text t [] k found = cc
-find-text t (x ∷ xs) k found = by (bytes_eq t (string_bytes x)) refl (find-text t xs k)
-  where
-    by : (b : Bool) → bytes_eq t (string_bytes x) ≡ b → (Some k ≡ find (λ y. bytes_eq t (string_bytes y)) xs → string_bytes k ≡ t) → string_bytes k ≡ t
-    by true e rest =
-        let here : Some k ≡ Some x = found ∙ ap (λ c. cond c (Some x) (find (λ y. bytes_eq t (string_bytes y)) xs)) e in
-        let is : k ≡ x = cc in
-        ap string_bytes is ∙ sym ((bytes_eq-Decides t (string_bytes x)).0 e)
-    by false e rest =
-        rest (found ∙ ap (λ c. cond c (Some x) (find (λ y. bytes_eq t (string_bytes y)) xs)) e)
+    last-by : (q : List ℕ) (b : Bool) → bytes_eq q t ≡ b → bytes_eq t q ≡ false → b ≡ false
+    last-by q false _ _ = refl
+    last-by q true is other = absurd (true≢false (sym ((bytes_eq-Decides t q).1 (sym ((bytes_eq-Decides q t).0 is))) ∙ other))
 
--- a text that is there adds none
-pub with_text-known : (t : List ℕ) (ks : List (String Global)) → true ≡ list_any (λ x. bytes_eq t (string_bytes x)) ks → texts_of ks ≡ with_text (texts_of ks) t
-with_text-known t ks known =
-    sym (ap (λ c. if c then texts_of ks else texts_of ks ++ t ∷ []) (sym (known ∙ any-bytes t ks)))
+    others-by : (q : List ℕ) (b : Bool) → bytes_eq t q ≡ b → cond b (Some (length ts)) (get_by_text m q) ≡ None → list_any (bytes_eq q) (ts ++ t ∷ []) ≡ false
+    others-by q true is at = cc
+    others-by q false is at =
+        list_any-append (bytes_eq q) ts (t ∷ [])
+        ∙ ap (λ b. b || (bytes_eq q t || false)) (table.others q at)
+        ∙ ap (λ b. b || false) (last-by q (bytes_eq q t) refl is)
+
+    others : (q : List ℕ) → get_by_text n q ≡ None → list_any (bytes_eq q) (ts ++ t ∷ []) ≡ false
+    others q at = others-by q (bytes_eq t q) refl (sym (one q) ∙ at)
 
 -- one more text keeps a table a table
 pub IsNameTable-with_text : (ts new : List (List ℕ)) (t : List ℕ) → IsNameTable ts → new ≡ with_text ts t → HasOneNumberEach new → length ts < 2 ^ 32 - 1 → IsNameTable new

@@ -1,1 +1,2 @@
+-- The definitions of names.
 pub mod NameTable

@@ -1,6 +1,8 @@
 //! Names, binders, places and owned texts, which every layer speaks of.
 #![tactic(auto)]
 
+mod law;
+mod limits;
 mod name;
 mod name_table;
 mod names;
@@ -8,6 +10,8 @@ mod operation;
 mod place;
 mod text;
 
+pub use law::names_of_lists;
+pub use limits::{LEVEL_LIMIT, LITERAL_LIMIT};
 pub use name::{Binder, Ident, Name};
 pub use name_table::NameTable;
 pub use names::Names;

@@ -1,3 +1,4 @@
+// Names and binders, and what they have in common.
 ghost use Rattle.std.specs.Prelude.{◌≡◌, ℕ};
 
 /// A name of a source text: the number of its text in a name table.

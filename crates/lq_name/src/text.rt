@@ -62,18 +62,3 @@ impl TextBuf {
         &self.bytes
     }
 }
-
-#[cfg(test)]
-mod tests {
-    use super::*;
-    use std::test::Fail;
-
-    #[test]
-    fn holds_bytes(rt: HostRuntime) -> Result<(), Fail> {
-        let name = NameText::new(rt.alloc(), "Map.find")?;
-        assert_eq!(rt; name.as_bytes(), b"Map.find".as_slice());
-        let report = TextBuf::from_bytes([65, 200, 10].to_vec(rt.alloc())?);
-        assert_eq!(rt; report.as_bytes(), [65, 200, 10].as_slice());
-        Ok(())
-    }
-}

@@ -3,7 +3,4 @@ pub mod Answered
 pub mod Lexed
 pub mod Numbered
 pub mod Fits
-pub mod Running
-pub mod Shapes
 pub mod Readings
-pub mod Asserts

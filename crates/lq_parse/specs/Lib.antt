@@ -1,7 +1,6 @@
+-- The definitions of texts and their trees.
 pub mod Terminals
 pub mod Texts
 pub mod Trees
 pub mod Lexemes
-pub mod Views
 pub mod Making
-pub mod Tops

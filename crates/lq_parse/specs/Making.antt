@@ -1,29 +1,12 @@
--- What a builder has made.
-use Rattle.std.specs.Prelude.{◌≡◌, ◌≤◌, ◌+◌, ◌*◌, ℕ, Bool, true, false, List, length, map, Some}
+-- What the tokens of a text make.
+use Rattle.std.specs.Prelude.{◌≡◌, ◌≤◌, ◌+◌, ◌*◌, ℕ, List, length, map, Some}
 use Rattle.lq_grammar.specs.declared.symbol.Event.{Event}
 use Rattle.lq_lex.specs.declared.token.Token.{Token}
-use Rattle.lq_name.specs.declared.name.Name.{Name}
 use Rattle.lq_name.specs.declared.place.TextKind.{TextKind}
-use Rattle.lq_tree.specs.Tree.{Tree, tree, Form, flag}
-use Rattle.lq_tree.specs.TreeView.{form_view}
-use Rattle.lq_tree.specs.declared.expr.Node.{Node}
 use Rattle.lq_action.specs.Trees.{run, nowhere, nothing_made}
 use Rattle.lq_action.specs.Value.{Making}
 use Rattle.lq_parse.specs.Texts.{IsText}
 use Rattle.lq_parse.specs.Trees.{lexeme_of}
-use Rattle.lq_parse.specs.Views.{views}
-use Rattle.lq_parse.specs.declared.builder.Builder.{Builder}
-
-abbrev pub making_view : Builder → Making
-making_view b = record { made = b.made; values = views b.values.items }
-
-abbrev pub parsed_form : Node Name → Form
-parsed_form = form_view Name (λ n. n.0)
-
--- the literal `false`
-abbrev pub is_false : Tree → Bool
-is_false (tree n p (flag false)) = true
-is_false _ = false
 
 -- These tokens are a text of this kind within the limit, and this is what the steps of its reading make.
 pub record Makes (kind : TextKind) (text : List ℕ) (names : List (List ℕ)) (tokens : List Token) (m : Making) : Type 0 where

@@ -1,3 +1,4 @@
+// Why tokens are no text that `lq` takes.
 ghost use Rattle.std.specs.Prelude.{◌≡◌};
 ghost use Rattle.lq_parse.specs.declared.error.ParseError.TheVariants.{Memory};
 

@@ -1,3 +1,4 @@
+// Laws of the answers to tokens.
 ghost use Rattle.std.specs.Prelude.{◌≡◌, List, ℕ, length};
 ghost use Rattle.lq_grammar.specs.Levels.{IsShallow, IsSyntax, IsTooDeep};
 ghost use Rattle.lq_grammar.specs.Reading.{IsText};

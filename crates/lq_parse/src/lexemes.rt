@@ -5,10 +5,10 @@ ghost use Rattle.lq_lex.specs.Reading.{IsTokens, tokens_of};
 ghost use Rattle.lq_name.specs.NameTable.{IsNameTable, with_text};
 ghost use Rattle.lq_parse.specs.Lexemes.{HasNameBytes, NameFits};
 ghost use Rattle.lq_parse.specs.Trees.{lexeme_of, name_of, value_of, with_name, with_names};
-ghost use Rattle.lq_parse.specs.Views.{lexeme_view};
+ghost use Rattle.lq_action.specs.Views.{lexeme_view};
 
 use crate::terminals::bytes_of;
-use crate::values::Lexeme;
+use lq_action::Lexeme;
 use lq_lex::{TokenKind, Tokens};
 use lq_name::{Name, NameTable, TextKind};
 use std::alloc::{AllocError, Global};
@@ -54,7 +54,11 @@ fn value_of(kind: TokenKind) -> u128
 {
     match kind {
         TokenKind::Number(value) => value,
-        _ => 0,
+        TokenKind::Lower => 0,
+        TokenKind::Upper => 0,
+        TokenKind::TypeVar => 0,
+        TokenKind::Keyword => 0,
+        TokenKind::Symbol => 0,
     }
 }
 

@@ -6,20 +6,19 @@ ghost use Rattle.lq_name.specs.declared.place.Place.{Place};
 ghost use Rattle.lq_name.specs.declared.place.TextKind.TheVariants as kind;
 ghost use Rattle.lq_tree.specs.Texts.{program_view, quals_view, measures_view};
 ghost use Rattle.lq_action.specs.Value.{items, qualifiers, measures};
-ghost use Rattle.lq_parse.specs.Making.{Makes, making_view};
+ghost use Rattle.lq_action.specs.Making.{making_view};
+ghost use Rattle.lq_parse.specs.Making.{Makes};
 ghost use Rattle.lq_parse.specs.Texts.{IsSyntax, IsTooDeep};
 ghost use Rattle.lq_parse.specs.Trees.{IsRead, with_names};
 ghost use Rattle.lq_parse.specs.declared.error.ParseError.TheVariants.{Syntax, TooDeep};
 
-use crate::builder::Builder;
-use crate::entries::{pop_measures, pop_qualifiers};
 use crate::error::ParseError;
-use crate::items::pop_items;
 use crate::lexemes::lexemes_of;
-use crate::run::run;
 use crate::steps::steps_of;
-use crate::values::MakeError;
-use lq_action::{few_items, readings_make_texts};
+use lq_action::{
+    Builder, MakeError, few_items, pop_items, pop_measures, pop_qualifiers, readings_make_texts,
+    run,
+};
 use lq_lex::Tokens;
 use lq_name::TextKind;
 use lq_tree::{Measures, NameTable, Program, Quals};

@@ -9,11 +9,8 @@ use crate::error::ParseError;
 use crate::terminals::kinds_of;
 use lq_grammar::{Event, ReadError, read};
 use lq_lex::Tokens;
-use lq_name::{Place, TextKind};
+use lq_name::{LEVEL_LIMIT, Place, TextKind};
 use std::alloc::Global;
-
-// No token of a text has a level above it.
-const LEVEL_LIMIT: usize = 250;
 
 // The place of this token, or the end of the text.
 fn place_of(tokens: &Tokens, at: usize) -> Place

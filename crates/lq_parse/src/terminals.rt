@@ -4,9 +4,9 @@ ghost use Rattle.lq_grammar.specs.declared.kind.Kind.TheVariants as kind;
 ghost use Rattle.lq_lex.specs.Reading.{tokens_of};
 ghost use Rattle.lq_parse.specs.Terminals.{bytes_of, kind_among, operator_words, binding_words, branch_words, heading_words, keyword_kind, symbols, terminal, kind_of, kinds_of};
 
-use crate::numbers::LITERAL_LIMIT;
 use lq_grammar::Kind;
 use lq_lex::{Token, TokenKind, Tokens};
+use lq_name::LITERAL_LIMIT;
 use std::alloc::{AllocError, Global};
 
 // The bytes of a token.

@@ -1,3 +1,4 @@
+-- The definitions of trees.
 pub mod Depth
 pub mod Finding
 pub mod FreeNames

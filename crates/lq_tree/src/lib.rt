@@ -27,6 +27,3 @@ pub use program::Program;
 pub use quals::{Qualifier, Quals};
 pub use simple_type::{Scheme, SimpleType, SimpleTypes};
 pub use type_expr::{TypeExpr, TypeExprs, TypeNode};
-
-#[cfg(test)]
-mod tests;

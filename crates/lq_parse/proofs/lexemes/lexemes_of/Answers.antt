@@ -7,7 +7,7 @@ use Rattle.lq_lex.specs.declared.token.Token.{Token}
 use Rattle.lq_parse.specs.Lexemes.{HasNameBytes, NameFits}
 use Rattle.lq_parse.specs.Terminals.{bytes_of}
 use Rattle.lq_parse.specs.Trees.{with_name, with_names}
-use Rattle.lq_parse.specs.Views.{lexeme_view}
+use Rattle.lq_action.specs.Views.{lexeme_view}
 use Rattle.lq_parse.proofs.Lexed.{tokens_are, one_token, tokens_within}
 use Rattle.lq_parse.proofs.Numbered.{IsLexeme, AreLexemes, more_lexemes, more_names, kept_names, few_names, lexemes_are}
 use Rattle.lq_parse.proofs.Takes.{past_all, map-one}

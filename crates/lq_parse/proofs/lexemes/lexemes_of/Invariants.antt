@@ -3,7 +3,7 @@ use Rattle.std.proofs.Common.{◌≡◌, ◌≤◌, ◌+◌, ◌-◌, length, ta
 use Rattle.lq_lex.specs.Reading.{tokens_of}
 use Rattle.lq_name.specs.NameTable.{IsNameTable}
 use Rattle.lq_parse.specs.Trees.{with_names}
-use Rattle.lq_parse.specs.Views.{lexeme_view}
+use Rattle.lq_action.specs.Views.{lexeme_view}
 use Rattle.lq_parse.proofs.Numbered.{AreLexemes}
 use Rattle.lq_parse.proofs.lexemes.lexemes_of.Given as goal
 

@@ -2,7 +2,7 @@ use Rattle.std.specs.Prelude.{map, IsSome}
 use Rattle.std.proofs.Common.{length, arith, ap}
 use Rattle.lq_action.specs.Trees.{run, nowhere, nothing_made}
 use Rattle.lq_lex.specs.Reading.{tokens_of}
-use Rattle.lq_parse.specs.Views.{lexeme_view}
+use Rattle.lq_action.specs.Views.{lexeme_view}
 use Rattle.lq_parse.proofs.Lexed.{tokens_within}
 use Rattle.lq_parse.proofs.Readings.{runs_through}
 use Rattle.lq_parse.proofs.parse.built.Goals as goal

@@ -3,7 +3,7 @@ use Rattle.lq_name.specs.declared.place.TextKind.TheVariants as kind
 use Rattle.lq_tree.specs.MeasureTrees.{MeasureTree, definitions_view}
 use Rattle.lq_action.specs.Value.{measures}
 use Rattle.lq_lex.specs.Reading.{tokens_of}
-use Rattle.lq_parse.specs.Making.{making_view}
+use Rattle.lq_action.specs.Making.{making_view}
 use Rattle.lq_parse.specs.Trees.{IsRead}
 use Rattle.lq_parse.proofs.Readings.{made_measures_row, made_measures_stands}
 use Rattle.lq_parse.proofs.parse.parse_measures.Goals as goal

@@ -3,7 +3,7 @@ use Rattle.lq_name.specs.declared.place.TextKind.TheVariants as kind
 use Rattle.lq_tree.specs.Items.{ItemTree, parsed_items}
 use Rattle.lq_action.specs.Value.{items}
 use Rattle.lq_lex.specs.Reading.{tokens_of}
-use Rattle.lq_parse.specs.Making.{making_view}
+use Rattle.lq_action.specs.Making.{making_view}
 use Rattle.lq_parse.specs.Trees.{IsRead}
 use Rattle.lq_parse.proofs.Lexed.{tokens_within}
 use Rattle.lq_parse.proofs.Readings.{made_program_row, made_program_few, made_program_stands}

@@ -3,7 +3,7 @@ use Rattle.lq_name.specs.declared.place.TextKind.TheVariants as kind
 use Rattle.lq_tree.specs.Qualifiers.{QualifierTree, qualifiers_view}
 use Rattle.lq_action.specs.Value.{qualifiers}
 use Rattle.lq_lex.specs.Reading.{tokens_of}
-use Rattle.lq_parse.specs.Making.{making_view}
+use Rattle.lq_action.specs.Making.{making_view}
 use Rattle.lq_parse.specs.Trees.{IsRead}
 use Rattle.lq_parse.proofs.Readings.{made_quals_row, made_quals_stands}
 use Rattle.lq_parse.proofs.parse.parse_quals.Goals as goal

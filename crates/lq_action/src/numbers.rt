@@ -1,0 +1,32 @@
+// Literals.
+ghost use Rattle.std.specs.Prelude.{◌≡◌, ◌<◌, ◌≤◌, ◌^◌, IfOk, pos, neg_ℤ, Err};
+ghost use Rattle.lq_action.specs.declared.values.MakeError.TheVariants.{Misfit};
+
+use crate::values::MakeError;
+use lq_name::LITERAL_LIMIT;
+
+// A number below 2^127.
+pub(crate) fn below_limit(value: u128) -> Result<i128, MakeError>
+    ensures ok { IfOk result (λ n. (value < 2 ^ 127) × (n ≡ pos value)) }
+    ensures misfit { result ≡ Err Misfit → 2 ^ 127 ≤ value }
+{
+    if value < LITERAL_LIMIT {
+        Ok(value as i128)
+    } else {
+        Err(MakeError::Misfit)
+    }
+}
+
+// What a minus before a number makes of it, which is at most 2^127.
+pub(crate) fn up_to_limit(value: u128) -> Result<i128, MakeError>
+    ensures ok { IfOk result (λ n. (value ≤ 2 ^ 127) × (n ≡ neg_ℤ (pos value))) }
+    ensures misfit { result ≡ Err Misfit → 2 ^ 127 < value }
+{
+    if value < LITERAL_LIMIT {
+        Ok(-(value as i128))
+    } else if value == LITERAL_LIMIT {
+        Ok(i128::MIN)
+    } else {
+        Err(MakeError::Misfit)
+    }
+}

@@ -1,0 +1,51 @@
+// The steps of a reading, one after the other.
+ghost use Rattle.std.specs.Prelude.{◌≡◌, ◌≤◌, ◌+◌, ◌*◌, ◌^◌, length, map, Some, IsSome, IfOk, Err};
+ghost use Rattle.lq_action.specs.Trees.{run, nowhere, nothing_made};
+ghost use Rattle.lq_action.specs.Making.{making_view};
+ghost use Rattle.lq_action.specs.Views.{lexeme_view};
+ghost use Rattle.lq_action.specs.declared.values.MakeError.TheVariants.{Misfit};
+
+use crate::builder::Builder;
+use crate::values::{Lexeme, MakeError};
+use lq_grammar::Event;
+use lq_name::{Name, Place, TextKind};
+use std::alloc::Global;
+
+// Before the first token.
+const NOWHERE: Lexeme = Lexeme {
+    place: Place {
+        text: TextKind::Program,
+        line: 0,
+        column: 0,
+    },
+    name: Name(0),
+    value: 0,
+};
+
+/// What the steps make of the tokens.
+pub fn run(alloc: Global, events: &[Event], lexemes: &[Lexeme]) -> Result<Builder, MakeError>
+    requires { length events.now ≤ 2 ^ 30 + 2 ^ 29 }
+    ensures ok { IfOk result (λ b. run events.now (map lexeme_view lexemes.now) nowhere nothing_made ≡ Some (making_view b)) }
+    ensures fits { IsSome (run events.now (map lexeme_view lexemes.now) nowhere nothing_made) → result ≡ Err Misfit → ⊥ }
+{
+    let mut builder = Builder {
+        alloc,
+        made: 0,
+        values: Vec::new(alloc),
+    };
+    let mut last = NOWHERE;
+    let mut taken = 0;
+    for event in events {
+        match *event {
+            Event::Make(action) => builder.make(action, &last)?,
+            Event::Take => {
+                if taken == lexemes.len() {
+                    return Err(MakeError::Misfit);
+                }
+                last = lexemes[taken];
+                taken += 1;
+            }
+        }
+    }
+    Ok(builder)
+}
