@@ -21,7 +21,8 @@ use lq_tree::{Arm, Arms, Expr, Exprs, Function, Node, Pat, PatNode};
 use std::alloc::Global;
 
 fn pop_arms(values: &mut Vec<Value>) -> Result<Arms<Name>, MakeError>
-    ensures ok { IfOk result (λ cs. views values.old.items ≡ arms (map (case_view Name (λ n. n.0)) (arms_items Name cs)) ∷ views values.new.items) }
+    ensures ok { IfOk result (λ cs. views values.old.items
+        ≡ arms (map (case_view Name (λ n. n.0)) (arms_items Name cs)) ∷ views values.new.items) }
     ensures misfit { IfErr result (λ _. NoArms (views values.old.items)) }
 {
     match values.pop() {
@@ -76,7 +77,8 @@ fn let_node(
     bound: Box<Expr<Name>>,
     body: Box<Expr<Name>>,
 ) -> Result<Node<Name>, MakeError>
-    ensures ok { IfOk result (λ node. parsed_form node ≡ let_form (parsed_pattern pattern) (parsed_view bound.value) (parsed_view body.value)) }
+    ensures ok { IfOk result (λ node. parsed_form node ≡ let_form (parsed_pattern pattern)
+        (parsed_view bound.value) (parsed_view body.value)) }
     ensures never { result ≡ Err Misfit → ⊥ }
 {
     if let PatNode::Tuple(_) = &pattern.node {
@@ -150,8 +152,10 @@ impl Builder {
     #[tactic(auto, using(crate::proofs::Shapes::function_of_shape))]
     fn function(&mut self) -> Result<(), MakeError>
         requires { self.old.made + 2 < 2 ^ 32 }
-        ensures ok { OnOk result (function_of self.old.made (views self.old.values.items) ≡ Some (making_view self.new)) }
-        ensures fits { IsSome (function_of self.old.made (views self.old.values.items)) → result ≡ Err Misfit → ⊥ }
+        ensures ok { OnOk result (function_of self.old.made (views self.old.values.items)
+            ≡ Some (making_view self.new)) }
+        ensures fits { IsSome (function_of self.old.made (views self.old.values.items))
+            → result ≡ Err Misfit → ⊥ }
         ensures bound { self.new.made ≤ self.old.made + 2 }
     {
         let body = pop_expression(&mut self.values)?;
@@ -164,8 +168,10 @@ impl Builder {
     #[tactic(auto, using(crate::proofs::Shapes::function_here_shape))]
     fn function_here(&mut self) -> Result<(), MakeError>
         requires { self.old.made + 2 < 2 ^ 32 }
-        ensures ok { OnOk result (function_here self.old.made (views self.old.values.items) ≡ Some (making_view self.new)) }
-        ensures fits { IsSome (function_here self.old.made (views self.old.values.items)) → result ≡ Err Misfit → ⊥ }
+        ensures ok { OnOk result (function_here self.old.made (views self.old.values.items)
+            ≡ Some (making_view self.new)) }
+        ensures fits { IsSome (function_here self.old.made (views self.old.values.items))
+            → result ≡ Err Misfit → ⊥ }
         ensures bound { self.new.made ≤ self.old.made + 2 }
     {
         let body = pop_expression(&mut self.values)?;
@@ -184,7 +190,8 @@ impl Builder {
         body: Box<Expr<Name>>,
     ) -> Result<(), MakeError>
         requires { self.old.made + 2 < 2 ^ 32 }
-        ensures ok { OnOk result (with_recursive self.old.made name.0 place (parsed_pattern parameter) (parsed_view body.value) (views self.old.values.items) ≡ Some (making_view self.new)) }
+        ensures ok { OnOk result (with_recursive self.old.made name.0 place (parsed_pattern parameter)
+            (parsed_view body.value) (views self.old.values.items) ≡ Some (making_view self.new)) }
         ensures never { result ≡ Err Misfit → ⊥ }
         ensures bound { self.new.made ≤ self.old.made + 2 }
     {
@@ -202,8 +209,10 @@ impl Builder {
     #[tactic(auto, using(crate::proofs::Shapes::recursive_of_shape))]
     fn recursive(&mut self) -> Result<(), MakeError>
         requires { self.old.made + 2 < 2 ^ 32 }
-        ensures ok { OnOk result (recursive_of self.old.made (views self.old.values.items) ≡ Some (making_view self.new)) }
-        ensures fits { IsSome (recursive_of self.old.made (views self.old.values.items)) → result ≡ Err Misfit → ⊥ }
+        ensures ok { OnOk result (recursive_of self.old.made (views self.old.values.items)
+            ≡ Some (making_view self.new)) }
+        ensures fits { IsSome (recursive_of self.old.made (views self.old.values.items))
+            → result ≡ Err Misfit → ⊥ }
         ensures bound { self.new.made ≤ self.old.made + 2 }
     {
         let body = pop_expression(&mut self.values)?;
@@ -215,8 +224,10 @@ impl Builder {
     #[tactic(auto, using(crate::proofs::Shapes::recursive_here_shape))]
     fn recursive_here(&mut self) -> Result<(), MakeError>
         requires { self.old.made + 2 < 2 ^ 32 }
-        ensures ok { OnOk result (recursive_here self.old.made (views self.old.values.items) ≡ Some (making_view self.new)) }
-        ensures fits { IsSome (recursive_here self.old.made (views self.old.values.items)) → result ≡ Err Misfit → ⊥ }
+        ensures ok { OnOk result (recursive_here self.old.made (views self.old.values.items)
+            ≡ Some (making_view self.new)) }
+        ensures fits { IsSome (recursive_here self.old.made (views self.old.values.items))
+            → result ≡ Err Misfit → ⊥ }
         ensures bound { self.new.made ≤ self.old.made + 2 }
     {
         let body = pop_expression(&mut self.values)?;
@@ -229,8 +240,10 @@ impl Builder {
     #[tactic(auto, using(crate::proofs::Shapes::let_of_all_shape))]
     fn let_in(&mut self) -> Result<(), MakeError>
         requires { self.old.made + 2 < 2 ^ 32 }
-        ensures ok { OnOk result (let_of_all self.old.made (views self.old.values.items) ≡ Some (making_view self.new)) }
-        ensures fits { IsSome (let_of_all self.old.made (views self.old.values.items)) → result ≡ Err Misfit → ⊥ }
+        ensures ok { OnOk result (let_of_all self.old.made (views self.old.values.items)
+            ≡ Some (making_view self.new)) }
+        ensures fits { IsSome (let_of_all self.old.made (views self.old.values.items)) → result ≡ Err Misfit
+            → ⊥ }
         ensures bound { self.new.made ≤ self.old.made + 2 }
     {
         let (bound, body) = pop_two(&mut self.values)?;
@@ -243,8 +256,10 @@ impl Builder {
     #[tactic(auto, using(crate::proofs::Shapes::let_rec_of_all_shape))]
     fn let_rec_in(&mut self) -> Result<(), MakeError>
         requires { self.old.made + 2 < 2 ^ 32 }
-        ensures ok { OnOk result (let_rec_of_all self.old.made (views self.old.values.items) ≡ Some (making_view self.new)) }
-        ensures fits { IsSome (let_rec_of_all self.old.made (views self.old.values.items)) → result ≡ Err Misfit → ⊥ }
+        ensures ok { OnOk result (let_rec_of_all self.old.made (views self.old.values.items)
+            ≡ Some (making_view self.new)) }
+        ensures fits { IsSome (let_rec_of_all self.old.made (views self.old.values.items))
+            → result ≡ Err Misfit → ⊥ }
         ensures bound { self.new.made ≤ self.old.made + 2 }
     {
         let body = pop_expression(&mut self.values)?;
@@ -261,8 +276,10 @@ impl Builder {
     #[tactic(auto, using(crate::proofs::Shapes::match_of_shape))]
     fn match_of(&mut self) -> Result<(), MakeError>
         requires { self.old.made + 2 < 2 ^ 32 }
-        ensures ok { OnOk result (match_of self.old.made (views self.old.values.items) ≡ Some (making_view self.new)) }
-        ensures fits { IsSome (match_of self.old.made (views self.old.values.items)) → result ≡ Err Misfit → ⊥ }
+        ensures ok { OnOk result (match_of self.old.made (views self.old.values.items)
+            ≡ Some (making_view self.new)) }
+        ensures fits { IsSome (match_of self.old.made (views self.old.values.items)) → result ≡ Err Misfit
+            → ⊥ }
         ensures bound { self.new.made ≤ self.old.made + 2 }
     {
         let row = pop_arms(&mut self.values)?;
@@ -274,7 +291,8 @@ impl Builder {
     #[tactic(auto, using(crate::proofs::Shapes::if_of_shape))]
     fn if_else(&mut self) -> Result<(), MakeError>
         requires { self.old.made + 2 < 2 ^ 32 }
-        ensures ok { OnOk result (if_of self.old.made (views self.old.values.items) ≡ Some (making_view self.new)) }
+        ensures ok { OnOk result (if_of self.old.made (views self.old.values.items)
+            ≡ Some (making_view self.new)) }
         ensures fits { IsSome (if_of self.old.made (views self.old.values.items)) → result ≡ Err Misfit → ⊥ }
         ensures bound { self.new.made ≤ self.old.made + 2 }
     {
@@ -292,8 +310,10 @@ impl Builder {
     #[tactic(auto, using(crate::proofs::Shapes::if_only_shape))]
     fn if_only(&mut self) -> Result<(), MakeError>
         requires { self.old.made + 2 < 2 ^ 32 }
-        ensures ok { OnOk result (if_only self.old.made (views self.old.values.items) ≡ Some (making_view self.new)) }
-        ensures fits { IsSome (if_only self.old.made (views self.old.values.items)) → result ≡ Err Misfit → ⊥ }
+        ensures ok { OnOk result (if_only self.old.made (views self.old.values.items)
+            ≡ Some (making_view self.new)) }
+        ensures fits { IsSome (if_only self.old.made (views self.old.values.items)) → result ≡ Err Misfit
+            → ⊥ }
         ensures bound { self.new.made ≤ self.old.made + 2 }
     {
         let (test, yes) = pop_two(&mut self.values)?;
@@ -311,8 +331,10 @@ impl Builder {
     #[tactic(auto, using(crate::proofs::Shapes::of_one_shape))]
     fn asserted(&mut self) -> Result<(), MakeError>
         requires { self.old.made + 2 < 2 ^ 32 }
-        ensures ok { OnOk result (of_one assert_form self.old.made (views self.old.values.items) ≡ Some (making_view self.new)) }
-        ensures fits { IsSome (of_one assert_form self.old.made (views self.old.values.items)) → result ≡ Err Misfit → ⊥ }
+        ensures ok { OnOk result (of_one assert_form self.old.made (views self.old.values.items)
+            ≡ Some (making_view self.new)) }
+        ensures fits { IsSome (of_one assert_form self.old.made (views self.old.values.items))
+            → result ≡ Err Misfit → ⊥ }
         ensures bound { self.new.made ≤ self.old.made + 2 }
     {
         let asserted = pop_expression(&mut self.values)?;
@@ -323,8 +345,10 @@ impl Builder {
     #[tactic(auto, using(crate::proofs::Shapes::of_one_shape))]
     fn negation(&mut self) -> Result<(), MakeError>
         requires { self.old.made + 2 < 2 ^ 32 }
-        ensures ok { OnOk result (of_one not_of self.old.made (views self.old.values.items) ≡ Some (making_view self.new)) }
-        ensures fits { IsSome (of_one not_of self.old.made (views self.old.values.items)) → result ≡ Err Misfit → ⊥ }
+        ensures ok { OnOk result (of_one not_of self.old.made (views self.old.values.items)
+            ≡ Some (making_view self.new)) }
+        ensures fits { IsSome (of_one not_of self.old.made (views self.old.values.items))
+            → result ≡ Err Misfit → ⊥ }
         ensures bound { self.new.made ≤ self.old.made + 2 }
     {
         let inner = pop_expression(&mut self.values)?;
@@ -335,8 +359,10 @@ impl Builder {
     #[tactic(auto, using(crate::proofs::Shapes::of_row_shape))]
     fn row(&mut self, form: Row) -> Result<(), MakeError>
         requires { self.old.made + 2 < 2 ^ 32 }
-        ensures ok { OnOk result (of_row (row_form form) (row_commas form) self.old.made (views self.old.values.items) ≡ Some (making_view self.new)) }
-        ensures fits { IsSome (of_row (row_form form) (row_commas form) self.old.made (views self.old.values.items)) → result ≡ Err Misfit → ⊥ }
+        ensures ok { OnOk result (of_row (row_form form) (row_commas form) self.old.made
+            (views self.old.values.items) ≡ Some (making_view self.new)) }
+        ensures fits { IsSome (of_row (row_form form) (row_commas form) self.old.made
+            (views self.old.values.items)) → result ≡ Err Misfit → ⊥ }
         ensures bound { self.new.made ≤ self.old.made + 2 }
     {
         let (row, place) = pop_row(&mut self.values)?;
@@ -350,8 +376,10 @@ impl Builder {
     /// Does an action on the token read last and the values on top.
     pub(crate) fn block(&mut self, action: BlockAction, token: &Lexeme) -> Result<(), MakeError>
         requires { self.old.made + 2 < 2 ^ 32 }
-        ensures ok { OnOk result (block_made action (lexeme_view token.now) self.old.made (views self.old.values.items) ≡ Some (making_view self.new)) }
-        ensures fits { IsSome (block_made action (lexeme_view token.now) self.old.made (views self.old.values.items)) → result ≡ Err Misfit → ⊥ }
+        ensures ok { OnOk result (block_made action (lexeme_view token.now) self.old.made
+            (views self.old.values.items) ≡ Some (making_view self.new)) }
+        ensures fits { IsSome (block_made action (lexeme_view token.now) self.old.made
+            (views self.old.values.items)) → result ≡ Err Misfit → ⊥ }
         ensures bound { self.new.made ≤ self.old.made + 2 }
     {
         match action {

@@ -34,7 +34,8 @@ impl Builder {
         commas: Commas,
     ) -> Result<(), MakeError>
         requires { self.old.made + 1 < 2 ^ 32 }
-        ensures ok { OnOk result (with_node self.old.made place (parsed_form node) (commas_view commas) (views self.old.values.items) ≡ Some (making_view self.new)) }
+        ensures ok { OnOk result (with_node self.old.made place (parsed_form node) (commas_view commas)
+            (views self.old.values.items) ≡ Some (making_view self.new)) }
         ensures never { result ≡ Err Misfit → ⊥ }
         ensures bound { self.new.made ≤ self.old.made + 1 }
     {
@@ -60,8 +61,10 @@ impl Builder {
     #[tactic(auto, using(crate::proofs::Shapes::with_values_some))]
     pub(crate) fn make(&mut self, action: Action, token: &Lexeme) -> Result<(), MakeError>
         requires { self.old.made + 2 < 2 ^ 32 }
-        ensures ok { OnOk result (made action (lexeme_view token.now) (making_view self.old) ≡ Some (making_view self.new)) }
-        ensures fits { IsSome (made action (lexeme_view token.now) (making_view self.old)) → result ≡ Err Misfit → ⊥ }
+        ensures ok { OnOk result (made action (lexeme_view token.now) (making_view self.old)
+            ≡ Some (making_view self.new)) }
+        ensures fits { IsSome (made action (lexeme_view token.now) (making_view self.old))
+            → result ≡ Err Misfit → ⊥ }
         ensures bound { self.new.made ≤ self.old.made + 2 }
     {
         match action {

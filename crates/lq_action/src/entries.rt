@@ -17,7 +17,8 @@ use std::alloc::Global;
 
 /// The qualifiers on top.
 pub fn pop_qualifiers(values: &mut Vec<Value>) -> Result<Vec<Qualifier>, MakeError>
-    ensures ok { IfOk result (λ qs. views values.old.items ≡ qualifiers (qualifiers_view qs.items) ∷ views values.new.items) }
+    ensures ok { IfOk result (λ qs. views values.old.items ≡ qualifiers (qualifiers_view qs.items)
+        ∷ views values.new.items) }
     ensures misfit { IfErr result (λ _. NoQualifiers (views values.old.items)) }
 {
     match values.pop() {
@@ -27,7 +28,8 @@ pub fn pop_qualifiers(values: &mut Vec<Value>) -> Result<Vec<Qualifier>, MakeErr
 }
 
 fn pop_equations(values: &mut Vec<Value>) -> Result<Vec<Equation>, MakeError>
-    ensures ok { IfOk result (λ es. views values.old.items ≡ equations (map equation_view es.items) ∷ views values.new.items) }
+    ensures ok { IfOk result (λ es. views values.old.items ≡ equations (map equation_view es.items)
+        ∷ views values.new.items) }
     ensures misfit { IfErr result (λ _. NoEquations (views values.old.items)) }
 {
     match values.pop() {
@@ -38,7 +40,8 @@ fn pop_equations(values: &mut Vec<Value>) -> Result<Vec<Equation>, MakeError>
 
 /// The measures on top.
 pub fn pop_measures(values: &mut Vec<Value>) -> Result<Vec<Measure>, MakeError>
-    ensures ok { IfOk result (λ ms. views values.old.items ≡ measures (definitions_view ms.items) ∷ views values.new.items) }
+    ensures ok { IfOk result (λ ms. views values.old.items ≡ measures (definitions_view ms.items)
+        ∷ views values.new.items) }
     ensures misfit { IfErr result (λ _. NoMeasures (views values.old.items)) }
 {
     match values.pop() {
@@ -110,8 +113,10 @@ pub(crate) fn entry(
     token: &Lexeme,
     values: &mut Vec<Value>,
 ) -> Result<(), MakeError>
-    ensures ok { OnOk result (entry_made action (lexeme_view token.now) (views values.old.items) ≡ Some (views values.new.items)) }
-    ensures fits { IsSome (entry_made action (lexeme_view token.now) (views values.old.items)) → result ≡ Err Misfit → ⊥ }
+    ensures ok { OnOk result (entry_made action (lexeme_view token.now) (views values.old.items)
+        ≡ Some (views values.new.items)) }
+    ensures fits { IsSome (entry_made action (lexeme_view token.now) (views values.old.items))
+        → result ≡ Err Misfit → ⊥ }
 {
     match action {
         EntryAction::NoQualifiers => push(values, Value::Qualifiers(Vec::new(alloc))),

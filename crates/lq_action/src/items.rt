@@ -18,7 +18,8 @@ use std::alloc::Global;
 
 /// The items on top.
 pub fn pop_items(values: &mut Vec<Value>) -> Result<Vec<Item<Name>>, MakeError>
-    ensures ok { IfOk result (λ is. views values.old.items ≡ items (parsed_items is.items) ∷ views values.new.items) }
+    ensures ok { IfOk result (λ is. views values.old.items ≡ items (parsed_items is.items)
+        ∷ views values.new.items) }
     ensures misfit { IfErr result (λ _. NoItems (views values.old.items)) }
 {
     match values.pop() {
@@ -28,7 +29,8 @@ pub fn pop_items(values: &mut Vec<Value>) -> Result<Vec<Item<Name>>, MakeError>
 }
 
 fn pop_parameters(values: &mut Vec<Value>) -> Result<Vec<TypeParameter>, MakeError>
-    ensures ok { IfOk result (λ ps. views values.old.items ≡ parameters (map parameter_view ps.items) ∷ views values.new.items) }
+    ensures ok { IfOk result (λ ps. views values.old.items ≡ parameters (map parameter_view ps.items)
+        ∷ views values.new.items) }
     ensures misfit { IfErr result (λ _. NoParameters (views values.old.items)) }
 {
     match values.pop() {
@@ -38,7 +40,8 @@ fn pop_parameters(values: &mut Vec<Value>) -> Result<Vec<TypeParameter>, MakeErr
 }
 
 fn pop_constructors(values: &mut Vec<Value>) -> Result<Vec<Constructor>, MakeError>
-    ensures ok { IfOk result (λ cs. views values.old.items ≡ constructors (map constructor_view cs.items) ∷ views values.new.items) }
+    ensures ok { IfOk result (λ cs. views values.old.items ≡ constructors (map constructor_view cs.items)
+        ∷ views values.new.items) }
     ensures misfit { IfErr result (λ _. NoConstructors (views values.old.items)) }
 {
     match values.pop() {
@@ -118,8 +121,10 @@ pub(crate) fn item(
     token: &Lexeme,
     values: &mut Vec<Value>,
 ) -> Result<(), MakeError>
-    ensures ok { OnOk result (item_made action (lexeme_view token.now) (views values.old.items) ≡ Some (views values.new.items)) }
-    ensures fits { IsSome (item_made action (lexeme_view token.now) (views values.old.items)) → result ≡ Err Misfit → ⊥ }
+    ensures ok { OnOk result (item_made action (lexeme_view token.now) (views values.old.items)
+        ≡ Some (views values.new.items)) }
+    ensures fits { IsSome (item_made action (lexeme_view token.now) (views values.old.items))
+        → result ≡ Err Misfit → ⊥ }
 {
     match action {
         ItemAction::NoItems => push(values, Value::Items(Vec::new(alloc))),

@@ -34,7 +34,8 @@ fn arguments(commas: Commas) -> Arguments
 // Parentheses around the expression on top.
 #[tactic(auto, using(crate::proofs::Shapes::enclose_shape))]
 fn enclose(values: &mut Vec<Value>) -> Result<(), MakeError>
-    ensures ok { OnOk result (enclose in_parentheses (views values.old.items) ≡ Some (views values.new.items)) }
+    ensures ok { OnOk result (enclose in_parentheses (views values.old.items)
+        ≡ Some (views values.new.items)) }
     ensures fits { IsSome (enclose in_parentheses (views values.old.items)) → result ≡ Err Misfit → ⊥ }
 {
     let inner = pop_expression(values)?;
@@ -57,7 +58,8 @@ fn enclose(values: &mut Vec<Value>) -> Result<(), MakeError>
 // `begin` and `end` around the expression on top.
 #[tactic(auto, using(crate::proofs::Shapes::enclose_shape))]
 fn enclose_block(values: &mut Vec<Value>) -> Result<(), MakeError>
-    ensures ok { OnOk result (enclose (λ c. absent) (views values.old.items) ≡ Some (views values.new.items)) }
+    ensures ok { OnOk result (enclose (λ c. absent) (views values.old.items)
+        ≡ Some (views values.new.items)) }
     ensures fits { IsSome (enclose (λ c. absent) (views values.old.items)) → result ≡ Err Misfit → ⊥ }
 {
     let inner = pop_expression(values)?;
@@ -82,7 +84,8 @@ fn element(values: &mut Vec<Value>) -> Result<(), MakeError>
 }
 
 fn pop_element(values: &mut Vec<Value>) -> Result<(BoxedExpr, BoxedExpr, Place), MakeError>
-    ensures ok { IfOk result (λ e. views values.old.items ≡ element (parsed_view e.0.value) (parsed_view e.1.value) e.2 ∷ views values.new.items) }
+    ensures ok { IfOk result (λ e. views values.old.items ≡ element (parsed_view e.0.value)
+        (parsed_view e.1.value) e.2 ∷ views values.new.items) }
     ensures misfit { IfErr result (λ _. NoElement (views values.old.items)) }
 {
     match values.pop() {
@@ -117,8 +120,10 @@ impl Builder {
     #[tactic(auto, using(crate::proofs::Shapes::build_one_shape))]
     fn build(&mut self) -> Result<(), MakeError>
         requires { self.old.made + 2 < 2 ^ 32 }
-        ensures ok { OnOk result (build_one self.old.made (views self.old.values.items) ≡ Some (making_view self.new)) }
-        ensures fits { IsSome (build_one self.old.made (views self.old.values.items)) → result ≡ Err Misfit → ⊥ }
+        ensures ok { OnOk result (build_one self.old.made (views self.old.values.items)
+            ≡ Some (making_view self.new)) }
+        ensures fits { IsSome (build_one self.old.made (views self.old.values.items)) → result ≡ Err Misfit
+            → ⊥ }
         ensures bound { self.new.made ≤ self.old.made + 2 }
     {
         let argument = pop_expression(&mut self.values)?;
@@ -132,8 +137,10 @@ impl Builder {
     #[tactic(auto, using(crate::proofs::Shapes::of_name_shape))]
     fn constant(&mut self) -> Result<(), MakeError>
         requires { self.old.made + 2 < 2 ^ 32 }
-        ensures ok { OnOk result (of_name (λ c. build c Apart (trees_of [])) self.old.made (views self.old.values.items) ≡ Some (making_view self.new)) }
-        ensures fits { IsSome (of_name (λ c. build c Apart (trees_of [])) self.old.made (views self.old.values.items)) → result ≡ Err Misfit → ⊥ }
+        ensures ok { OnOk result (of_name (λ c. build c Apart (trees_of [])) self.old.made
+            (views self.old.values.items) ≡ Some (making_view self.new)) }
+        ensures fits { IsSome (of_name (λ c. build c Apart (trees_of [])) self.old.made
+            (views self.old.values.items)) → result ≡ Err Misfit → ⊥ }
         ensures bound { self.new.made ≤ self.old.made + 2 }
     {
         let (name, place) = pop_named(&mut self.values)?;
@@ -145,8 +152,11 @@ impl Builder {
     #[tactic(auto, using(crate::proofs::Shapes::of_two_shape))]
     fn cons(&mut self) -> Result<(), MakeError>
         requires { self.old.made + 2 < 2 ^ 32 }
-        ensures ok { OnOk result (of_two (λ a b. build cons_name Apart (trees_of (a ∷ b ∷ []))) self.old.made (views self.old.values.items) ≡ Some (making_view self.new)) }
-        ensures fits { IsSome (of_two (λ a b. build cons_name Apart (trees_of (a ∷ b ∷ []))) self.old.made (views self.old.values.items)) → result ≡ Err Misfit → ⊥ }
+        ensures ok { OnOk result (of_two (λ a b. build cons_name Apart
+            (trees_of (a ∷ b ∷ []))) self.old.made (views self.old.values.items)
+            ≡ Some (making_view self.new)) }
+        ensures fits { IsSome (of_two (λ a b. build cons_name Apart (trees_of (a ∷ b ∷ []))) self.old.made
+            (views self.old.values.items)) → result ≡ Err Misfit → ⊥ }
         ensures bound { self.new.made ≤ self.old.made + 2 }
     {
         let (first, second) = pop_two(&mut self.values)?;
@@ -161,8 +171,10 @@ impl Builder {
     #[tactic(auto, using(crate::proofs::Shapes::fetch_of_shape))]
     fn fetch(&mut self) -> Result<(), MakeError>
         requires { self.old.made + 2 < 2 ^ 32 }
-        ensures ok { OnOk result (fetch_of self.old.made (views self.old.values.items) ≡ Some (making_view self.new)) }
-        ensures fits { IsSome (fetch_of self.old.made (views self.old.values.items)) → result ≡ Err Misfit → ⊥ }
+        ensures ok { OnOk result (fetch_of self.old.made (views self.old.values.items)
+            ≡ Some (making_view self.new)) }
+        ensures fits { IsSome (fetch_of self.old.made (views self.old.values.items)) → result ≡ Err Misfit
+            → ⊥ }
         ensures bound { self.new.made ≤ self.old.made + 2 }
     {
         let (array, index, place) = pop_element(&mut self.values)?;
@@ -172,8 +184,10 @@ impl Builder {
     #[tactic(auto, using(crate::proofs::Shapes::store_of_shape))]
     fn store(&mut self) -> Result<(), MakeError>
         requires { self.old.made + 2 < 2 ^ 32 }
-        ensures ok { OnOk result (store_of self.old.made (views self.old.values.items) ≡ Some (making_view self.new)) }
-        ensures fits { IsSome (store_of self.old.made (views self.old.values.items)) → result ≡ Err Misfit → ⊥ }
+        ensures ok { OnOk result (store_of self.old.made (views self.old.values.items)
+            ≡ Some (making_view self.new)) }
+        ensures fits { IsSome (store_of self.old.made (views self.old.values.items)) → result ≡ Err Misfit
+            → ⊥ }
         ensures bound { self.new.made ≤ self.old.made + 2 }
     {
         let value = pop_expression(&mut self.values)?;
@@ -185,8 +199,10 @@ impl Builder {
     #[tactic(auto, using(crate::proofs::Shapes::literal_below))]
     fn literal(&mut self, token: &Lexeme) -> Result<(), MakeError>
         requires { self.old.made + 2 < 2 ^ 32 }
-        ensures ok { OnOk result (literal self.old.made token.now.value (views self.old.values.items) token.now.place ≡ Some (making_view self.new)) }
-        ensures fits { IsSome (literal self.old.made token.now.value (views self.old.values.items) token.now.place) → result ≡ Err Misfit → ⊥ }
+        ensures ok { OnOk result (literal self.old.made token.now.value
+            (views self.old.values.items) token.now.place ≡ Some (making_view self.new)) }
+        ensures fits { IsSome (literal self.old.made token.now.value
+            (views self.old.values.items) token.now.place) → result ≡ Err Misfit → ⊥ }
         ensures bound { self.new.made ≤ self.old.made + 2 }
     {
         let value = below_limit(token.value)?;
@@ -196,8 +212,10 @@ impl Builder {
     #[tactic(auto, using(crate::proofs::Shapes::negative_literal_shape))]
     fn negative(&mut self, token: &Lexeme) -> Result<(), MakeError>
         requires { self.old.made + 2 < 2 ^ 32 }
-        ensures ok { OnOk result (negative_literal self.old.made token.now.value (views self.old.values.items) ≡ Some (making_view self.new)) }
-        ensures fits { IsSome (negative_literal self.old.made token.now.value (views self.old.values.items)) → result ≡ Err Misfit → ⊥ }
+        ensures ok { OnOk result (negative_literal self.old.made token.now.value
+            (views self.old.values.items) ≡ Some (making_view self.new)) }
+        ensures fits { IsSome (negative_literal self.old.made token.now.value (views self.old.values.items))
+            → result ≡ Err Misfit → ⊥ }
         ensures bound { self.new.made ≤ self.old.made + 2 }
     {
         let place = pop_mark(&mut self.values)?;
@@ -208,8 +226,10 @@ impl Builder {
     #[tactic(auto, using(crate::proofs::Shapes::of_name_shape))]
     fn qualified(&mut self, token: &Lexeme) -> Result<(), MakeError>
         requires { self.old.made + 2 < 2 ^ 32 }
-        ensures ok { OnOk result (of_name (λ m. qualified m token.now.name.0) self.old.made (views self.old.values.items) ≡ Some (making_view self.new)) }
-        ensures fits { IsSome (of_name (λ m. qualified m token.now.name.0) self.old.made (views self.old.values.items)) → result ≡ Err Misfit → ⊥ }
+        ensures ok { OnOk result (of_name (λ m. qualified m token.now.name.0) self.old.made
+            (views self.old.values.items) ≡ Some (making_view self.new)) }
+        ensures fits { IsSome (of_name (λ m. qualified m token.now.name.0) self.old.made
+            (views self.old.values.items)) → result ≡ Err Misfit → ⊥ }
         ensures bound { self.new.made ≤ self.old.made + 2 }
     {
         let (module, place) = pop_named(&mut self.values)?;
@@ -219,8 +239,10 @@ impl Builder {
     #[tactic(auto, using(crate::proofs::Shapes::at_mark_shape))]
     fn unit(&mut self) -> Result<(), MakeError>
         requires { self.old.made + 2 < 2 ^ 32 }
-        ensures ok { OnOk result (at_mark unit self.old.made (views self.old.values.items) ≡ Some (making_view self.new)) }
-        ensures fits { IsSome (at_mark unit self.old.made (views self.old.values.items)) → result ≡ Err Misfit → ⊥ }
+        ensures ok { OnOk result (at_mark unit self.old.made (views self.old.values.items)
+            ≡ Some (making_view self.new)) }
+        ensures fits { IsSome (at_mark unit self.old.made (views self.old.values.items))
+            → result ≡ Err Misfit → ⊥ }
         ensures bound { self.new.made ≤ self.old.made + 2 }
     {
         let place = pop_mark(&mut self.values)?;
@@ -230,8 +252,10 @@ impl Builder {
     #[tactic(auto, using(crate::proofs::Shapes::of_one_shape))]
     fn negate(&mut self) -> Result<(), MakeError>
         requires { self.old.made + 2 < 2 ^ 32 }
-        ensures ok { OnOk result (of_one negated self.old.made (views self.old.values.items) ≡ Some (making_view self.new)) }
-        ensures fits { IsSome (of_one negated self.old.made (views self.old.values.items)) → result ≡ Err Misfit → ⊥ }
+        ensures ok { OnOk result (of_one negated self.old.made (views self.old.values.items)
+            ≡ Some (making_view self.new)) }
+        ensures fits { IsSome (of_one negated self.old.made (views self.old.values.items))
+            → result ≡ Err Misfit → ⊥ }
         ensures bound { self.new.made ≤ self.old.made + 2 }
     {
         let inner = pop_expression(&mut self.values)?;
@@ -242,8 +266,10 @@ impl Builder {
     #[tactic(auto, using(crate::proofs::Shapes::of_two_shape))]
     fn two(&mut self, form: Two) -> Result<(), MakeError>
         requires { self.old.made + 2 < 2 ^ 32 }
-        ensures ok { OnOk result (of_two (two_form form) self.old.made (views self.old.values.items) ≡ Some (making_view self.new)) }
-        ensures fits { IsSome (of_two (two_form form) self.old.made (views self.old.values.items)) → result ≡ Err Misfit → ⊥ }
+        ensures ok { OnOk result (of_two (two_form form) self.old.made (views self.old.values.items)
+            ≡ Some (making_view self.new)) }
+        ensures fits { IsSome (of_two (two_form form) self.old.made (views self.old.values.items))
+            → result ≡ Err Misfit → ⊥ }
         ensures bound { self.new.made ≤ self.old.made + 2 }
     {
         let (first, second) = pop_two(&mut self.values)?;
@@ -255,8 +281,10 @@ impl Builder {
     /// Does an action on the token read last and the values on top.
     pub(crate) fn operand(&mut self, action: OperandAction, token: &Lexeme) -> Result<(), MakeError>
         requires { self.old.made + 2 < 2 ^ 32 }
-        ensures ok { OnOk result (operand_made action (lexeme_view token.now) self.old.made (views self.old.values.items) ≡ Some (making_view self.new)) }
-        ensures fits { IsSome (operand_made action (lexeme_view token.now) self.old.made (views self.old.values.items)) → result ≡ Err Misfit → ⊥ }
+        ensures ok { OnOk result (operand_made action (lexeme_view token.now) self.old.made
+            (views self.old.values.items) ≡ Some (making_view self.new)) }
+        ensures fits { IsSome (operand_made action (lexeme_view token.now) self.old.made
+            (views self.old.values.items)) → result ≡ Err Misfit → ⊥ }
         ensures bound { self.new.made ≤ self.old.made + 2 }
     {
         match action {

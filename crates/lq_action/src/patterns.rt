@@ -14,7 +14,8 @@ use lq_tree::{Pat, PatNode, Pats};
 use std::alloc::Global;
 
 fn put(values: &mut Vec<Value>, place: Place, node: PatNode<Name>) -> Result<(), MakeError>
-    ensures ok { OnOk result (views values.new.items ≡ pattern_read (parsed_pattern (record { place = place; node = node })) ∷ views values.old.items) }
+    ensures ok { OnOk result (views values.new.items
+        ≡ pattern_read (parsed_pattern (record { place = place; node = node })) ∷ views values.old.items) }
     ensures never { result ≡ Err Misfit → ⊥ }
 {
     push(values, Value::Pattern(Pat { place, node }))
@@ -125,8 +126,10 @@ pub(crate) fn pattern(
     token: &Lexeme,
     values: &mut Vec<Value>,
 ) -> Result<(), MakeError>
-    ensures ok { OnOk result (pattern_made action (lexeme_view token.now) (views values.old.items) ≡ Some (views values.new.items)) }
-    ensures fits { IsSome (pattern_made action (lexeme_view token.now) (views values.old.items)) → result ≡ Err Misfit → ⊥ }
+    ensures ok { OnOk result (pattern_made action (lexeme_view token.now) (views values.old.items)
+        ≡ Some (views values.new.items)) }
+    ensures fits { IsSome (pattern_made action (lexeme_view token.now) (views values.old.items))
+        → result ≡ Err Misfit → ⊥ }
 {
     match action {
         PatternAction::Bind => put(values, token.place, PatNode::Bind(token.name)),

@@ -33,7 +33,8 @@ fn put(
     place: Place,
     node: PredNode,
 ) -> Result<(), MakeError>
-    ensures ok { OnOk result (views values.new.items ≡ predicate (pred_view (record { place = place; node = node })) place ∷ views values.old.items) }
+    ensures ok { OnOk result (views values.new.items
+        ≡ predicate (pred_view (record { place = place; node = node })) place ∷ views values.old.items) }
     ensures never { result ≡ Err Misfit → ⊥ }
 {
     let read = Box::new(alloc, PredExpr { place, node })?;
@@ -42,7 +43,8 @@ fn put(
 
 // A predicate behind a kept place, with that place.
 fn pop_one(values: &mut Vec<Value>) -> Result<(Box<PredExpr>, Place), MakeError>
-    ensures ok { IfOk result (λ e. (q : Place) × (views values.old.items ≡ predicate (pred_view e.0.value) q ∷ mark e.1 ∷ views values.new.items)) }
+    ensures ok { IfOk result (λ e. (q : Place) × (views values.old.items ≡ predicate (pred_view e.0.value) q
+        ∷ mark e.1 ∷ views values.new.items)) }
     ensures misfit { IfErr result (λ _. NoPredicateBehindMark (views values.old.items)) }
 {
     let (inner, _) = pop_predicate(values)?;
@@ -52,7 +54,8 @@ fn pop_one(values: &mut Vec<Value>) -> Result<(Box<PredExpr>, Place), MakeError>
 
 // Two predicates, with the place of the first.
 fn pop_two(values: &mut Vec<Value>) -> Result<(Box<PredExpr>, Box<PredExpr>, Place), MakeError>
-    ensures ok { IfOk result (λ e. (q : Place) × (views values.old.items ≡ predicate (pred_view e.1.value) q ∷ predicate (pred_view e.0.value) e.2 ∷ views values.new.items)) }
+    ensures ok { IfOk result (λ e. (q : Place) × (views values.old.items ≡ predicate (pred_view e.1.value) q
+        ∷ predicate (pred_view e.0.value) e.2 ∷ views values.new.items)) }
     ensures misfit { IfErr result (λ _. NoTwoPredicates (views values.old.items)) }
 {
     let (second, _) = pop_predicate(values)?;
@@ -63,8 +66,10 @@ fn pop_two(values: &mut Vec<Value>) -> Result<(Box<PredExpr>, Box<PredExpr>, Pla
 // A number below 2^127.
 #[tactic(auto, using(crate::proofs::Shapes::pred_literal_below))]
 fn literal(alloc: Global, token: &Lexeme, values: &mut Vec<Value>) -> Result<(), MakeError>
-    ensures ok { OnOk result (pred_literal (lexeme_view token.now) (views values.old.items) ≡ Some (views values.new.items)) }
-    ensures fits { IsSome (pred_literal (lexeme_view token.now) (views values.old.items)) → result ≡ Err Misfit → ⊥ }
+    ensures ok { OnOk result (pred_literal (lexeme_view token.now) (views values.old.items)
+        ≡ Some (views values.new.items)) }
+    ensures fits { IsSome (pred_literal (lexeme_view token.now) (views values.old.items))
+        → result ≡ Err Misfit → ⊥ }
 {
     let value = below_limit(token.value)?;
     put(alloc, values, token.place, PredNode::Whole(value))
@@ -73,8 +78,10 @@ fn literal(alloc: Global, token: &Lexeme, values: &mut Vec<Value>) -> Result<(),
 // A number of at most 2^127 behind a minus.
 #[tactic(auto, using(crate::proofs::Shapes::pred_negative_shape))]
 fn negative(alloc: Global, token: &Lexeme, values: &mut Vec<Value>) -> Result<(), MakeError>
-    ensures ok { OnOk result (pred_negative (lexeme_view token.now) (views values.old.items) ≡ Some (views values.new.items)) }
-    ensures fits { IsSome (pred_negative (lexeme_view token.now) (views values.old.items)) → result ≡ Err Misfit → ⊥ }
+    ensures ok { OnOk result (pred_negative (lexeme_view token.now) (views values.old.items)
+        ≡ Some (views values.new.items)) }
+    ensures fits { IsSome (pred_negative (lexeme_view token.now) (views values.old.items))
+        → result ≡ Err Misfit → ⊥ }
 {
     let place = pop_mark(values)?;
     let value = up_to_limit(token.value)?;
@@ -92,7 +99,8 @@ fn variable(alloc: Global, values: &mut Vec<Value>) -> Result<(), MakeError>
 
 #[tactic(auto, using(crate::proofs::Shapes::pred_of_name_shape))]
 fn placeholder(alloc: Global, values: &mut Vec<Value>) -> Result<(), MakeError>
-    ensures ok { OnOk result (pred_of_name placeholder (views values.old.items) ≡ Some (views values.new.items)) }
+    ensures ok { OnOk result (pred_of_name placeholder (views values.old.items)
+        ≡ Some (views values.new.items)) }
     ensures fits { IsSome (pred_of_name placeholder (views values.old.items)) → result ≡ Err Misfit → ⊥ }
 {
     let (name, place) = pop_named(values)?;
@@ -149,7 +157,8 @@ fn inside(values: &mut Vec<Value>) -> Result<(), MakeError>
 }
 
 fn joined(join: Join, first: Box<PredExpr>, second: Box<PredExpr>) -> PredNode
-    ensures { (p : Place) → pred_view (record { place = p; node = result }) ≡ pred_tree p (join_form join (pred_view first.value) (pred_view second.value)) }
+    ensures { (p : Place) → pred_view (record { place = p; node = result })
+        ≡ pred_tree p (join_form join (pred_view first.value) (pred_view second.value)) }
 {
     match join {
         Join::And => PredNode::And(first, second),
@@ -162,7 +171,8 @@ fn joined(join: Join, first: Box<PredExpr>, second: Box<PredExpr>) -> PredNode
 
 #[tactic(auto, using(crate::proofs::Shapes::pred_of_two_shape))]
 fn put_joined(alloc: Global, join: Join, values: &mut Vec<Value>) -> Result<(), MakeError>
-    ensures ok { OnOk result (pred_of_two (join_form join) (views values.old.items) ≡ Some (views values.new.items)) }
+    ensures ok { OnOk result (pred_of_two (join_form join) (views values.old.items)
+        ≡ Some (views values.new.items)) }
     ensures fits { IsSome (pred_of_two (join_form join) (views values.old.items)) → result ≡ Err Misfit → ⊥ }
 {
     let (first, second, place) = pop_two(values)?;
@@ -176,8 +186,10 @@ pub(crate) fn pred(
     token: &Lexeme,
     values: &mut Vec<Value>,
 ) -> Result<(), MakeError>
-    ensures ok { OnOk result (pred_made action (lexeme_view token.now) (views values.old.items) ≡ Some (views values.new.items)) }
-    ensures fits { IsSome (pred_made action (lexeme_view token.now) (views values.old.items)) → result ≡ Err Misfit → ⊥ }
+    ensures ok { OnOk result (pred_made action (lexeme_view token.now) (views values.old.items)
+        ≡ Some (views values.new.items)) }
+    ensures fits { IsSome (pred_made action (lexeme_view token.now) (views values.old.items))
+        → result ≡ Err Misfit → ⊥ }
 {
     match action {
         PredAction::PredLiteral => literal(alloc, token, values),

@@ -25,8 +25,10 @@ const NOWHERE: Lexeme = Lexeme {
 /// What the steps make of the tokens.
 pub fn run(alloc: Global, events: &[Event], lexemes: &[Lexeme]) -> Result<Builder, MakeError>
     requires { length events.now ≤ 2 ^ 30 + 2 ^ 29 }
-    ensures ok { IfOk result (λ b. run events.now (map lexeme_view lexemes.now) nowhere nothing_made ≡ Some (making_view b)) }
-    ensures fits { IsSome (run events.now (map lexeme_view lexemes.now) nowhere nothing_made) → result ≡ Err Misfit → ⊥ }
+    ensures ok { IfOk result (λ b. run events.now (map lexeme_view lexemes.now) nowhere nothing_made
+        ≡ Some (making_view b)) }
+    ensures fits { IsSome (run events.now (map lexeme_view lexemes.now) nowhere nothing_made)
+        → result ≡ Err Misfit → ⊥ }
 {
     let mut builder = Builder {
         alloc,

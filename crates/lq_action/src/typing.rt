@@ -14,7 +14,8 @@ use std::alloc::Global;
 
 // Puts a type that begins at its own place on top.
 fn put(values: &mut Vec<Value>, place: Place, node: TypeNode) -> Result<(), MakeError>
-    ensures ok { OnOk result (views values.new.items ≡ type_read (type_view (record { place = place; node = node })) place ∷ views values.old.items) }
+    ensures ok { OnOk result (views values.new.items
+        ≡ type_read (type_view (record { place = place; node = node })) place ∷ views values.old.items) }
     ensures never { result ≡ Err Misfit → ⊥ }
 {
     push(values, Value::Type(TypeExpr { place, node }, place))
@@ -46,8 +47,10 @@ fn append_type(values: &mut Vec<Value>) -> Result<(), MakeError>
 
 #[tactic(auto, using(crate::proofs::Shapes::apply_type_shape))]
 fn apply_type(alloc: Global, token: &Lexeme, values: &mut Vec<Value>) -> Result<(), MakeError>
-    ensures ok { OnOk result (apply_type (lexeme_view token.now) (views values.old.items) ≡ Some (views values.new.items)) }
-    ensures fits { IsSome (apply_type (lexeme_view token.now) (views values.old.items)) → result ≡ Err Misfit → ⊥ }
+    ensures ok { OnOk result (apply_type (lexeme_view token.now) (views values.old.items)
+        ≡ Some (views values.new.items)) }
+    ensures fits { IsSome (apply_type (lexeme_view token.now) (views values.old.items))
+        → result ≡ Err Misfit → ⊥ }
 {
     let (argument, place) = pop_type(values)?;
     let mut row = TypeExprs::new(alloc)?;
@@ -57,8 +60,10 @@ fn apply_type(alloc: Global, token: &Lexeme, values: &mut Vec<Value>) -> Result<
 
 #[tactic(auto, using(crate::proofs::Shapes::apply_types_shape))]
 fn apply_types(token: &Lexeme, values: &mut Vec<Value>) -> Result<(), MakeError>
-    ensures ok { OnOk result (apply_types (lexeme_view token.now) (views values.old.items) ≡ Some (views values.new.items)) }
-    ensures fits { IsSome (apply_types (lexeme_view token.now) (views values.old.items)) → result ≡ Err Misfit → ⊥ }
+    ensures ok { OnOk result (apply_types (lexeme_view token.now) (views values.old.items)
+        ≡ Some (views values.new.items)) }
+    ensures fits { IsSome (apply_types (lexeme_view token.now) (views values.old.items))
+        → result ≡ Err Misfit → ⊥ }
 {
     let (row, _) = pop_types(values)?;
     let place = pop_mark(values)?;
@@ -103,8 +108,10 @@ pub(crate) fn typing(
     token: &Lexeme,
     values: &mut Vec<Value>,
 ) -> Result<(), MakeError>
-    ensures ok { OnOk result (typing_made action (lexeme_view token.now) (views values.old.items) ≡ Some (views values.new.items)) }
-    ensures fits { IsSome (typing_made action (lexeme_view token.now) (views values.old.items)) → result ≡ Err Misfit → ⊥ }
+    ensures ok { OnOk result (typing_made action (lexeme_view token.now) (views values.old.items)
+        ≡ Some (views values.new.items)) }
+    ensures fits { IsSome (typing_made action (lexeme_view token.now) (views values.old.items))
+        → result ≡ Err Misfit → ⊥ }
 {
     match action {
         TypingAction::NoTypes => {

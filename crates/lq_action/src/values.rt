@@ -124,7 +124,8 @@ pub(crate) fn pop_named(values: &mut Vec<Value>) -> Result<(Name, Place), MakeEr
 }
 
 pub(crate) fn pop_expression(values: &mut Vec<Value>) -> Result<Parsed, MakeError>
-    ensures ok { IfOk result (λ e. views values.old.items ≡ expression (parsed_view e.tree.value) e.place (commas_view e.commas) ∷ views values.new.items) }
+    ensures ok { IfOk result (λ e. views values.old.items ≡ expression (parsed_view e.tree.value) e.place
+        (commas_view e.commas) ∷ views values.new.items) }
     ensures misfit { IfErr result (λ _. NoExpression (views values.old.items)) }
 {
     match values.pop() {
@@ -135,7 +136,10 @@ pub(crate) fn pop_expression(values: &mut Vec<Value>) -> Result<Parsed, MakeErro
 
 /// Two expressions, the one on top last.
 pub(crate) fn pop_two(values: &mut Vec<Value>) -> Result<(Parsed, Parsed), MakeError>
-    ensures ok { IfOk result (λ e. views values.old.items ≡ expression (parsed_view e.1.tree.value) e.1.place (commas_view e.1.commas) ∷ expression (parsed_view e.0.tree.value) e.0.place (commas_view e.0.commas) ∷ views values.new.items) }
+    ensures ok { IfOk result (λ e. views values.old.items
+        ≡ expression (parsed_view e.1.tree.value) e.1.place (commas_view e.1.commas)
+        ∷ expression (parsed_view e.0.tree.value) e.0.place (commas_view e.0.commas)
+        ∷ views values.new.items) }
     ensures misfit { IfErr result (λ _. NoTwo (views values.old.items)) }
 {
     let second = pop_expression(values)?;
@@ -144,7 +148,8 @@ pub(crate) fn pop_two(values: &mut Vec<Value>) -> Result<(Parsed, Parsed), MakeE
 }
 
 pub(crate) fn pop_row(values: &mut Vec<Value>) -> Result<(Exprs<Name>, Place), MakeError>
-    ensures ok { IfOk result (λ es. views values.old.items ≡ expressions (rows_view es.0) es.1 ∷ views values.new.items) }
+    ensures ok { IfOk result (λ es. views values.old.items ≡ expressions (rows_view es.0) es.1
+        ∷ views values.new.items) }
     ensures misfit { IfErr result (λ _. NoRow (views values.old.items)) }
 {
     match values.pop() {
@@ -154,7 +159,8 @@ pub(crate) fn pop_row(values: &mut Vec<Value>) -> Result<(Exprs<Name>, Place), M
 }
 
 pub(crate) fn pop_pattern(values: &mut Vec<Value>) -> Result<Pat<Name>, MakeError>
-    ensures ok { IfOk result (λ p. views values.old.items ≡ pattern_read (parsed_pattern p) ∷ views values.new.items) }
+    ensures ok { IfOk result (λ p. views values.old.items ≡ pattern_read (parsed_pattern p)
+        ∷ views values.new.items) }
     ensures misfit { IfErr result (λ _. NoPattern (views values.old.items)) }
 {
     match values.pop() {
@@ -164,7 +170,8 @@ pub(crate) fn pop_pattern(values: &mut Vec<Value>) -> Result<Pat<Name>, MakeErro
 }
 
 pub(crate) fn pop_patterns(values: &mut Vec<Value>) -> Result<(Pats<Name>, Place), MakeError>
-    ensures ok { IfOk result (λ ps. views values.old.items ≡ patterns (pattern_rows_view ps.0) ps.1 ∷ views values.new.items) }
+    ensures ok { IfOk result (λ ps. views values.old.items ≡ patterns (pattern_rows_view ps.0) ps.1
+        ∷ views values.new.items) }
     ensures misfit { IfErr result (λ _. NoPatterns (views values.old.items)) }
 {
     match values.pop() {
@@ -174,7 +181,8 @@ pub(crate) fn pop_patterns(values: &mut Vec<Value>) -> Result<(Pats<Name>, Place
 }
 
 pub(crate) fn pop_type(values: &mut Vec<Value>) -> Result<(TypeExpr, Place), MakeError>
-    ensures ok { IfOk result (λ t. views values.old.items ≡ type_read (type_view t.0) t.1 ∷ views values.new.items) }
+    ensures ok { IfOk result (λ t. views values.old.items ≡ type_read (type_view t.0) t.1
+        ∷ views values.new.items) }
     ensures misfit { IfErr result (λ _. NoType (views values.old.items)) }
 {
     match values.pop() {
@@ -184,7 +192,8 @@ pub(crate) fn pop_type(values: &mut Vec<Value>) -> Result<(TypeExpr, Place), Mak
 }
 
 pub(crate) fn pop_types(values: &mut Vec<Value>) -> Result<(TypeExprs, Place), MakeError>
-    ensures ok { IfOk result (λ ts. views values.old.items ≡ types (type_rows_view ts.0) ts.1 ∷ views values.new.items) }
+    ensures ok { IfOk result (λ ts. views values.old.items ≡ types (type_rows_view ts.0) ts.1
+        ∷ views values.new.items) }
     ensures misfit { IfErr result (λ _. NoTypes (views values.old.items)) }
 {
     match values.pop() {
@@ -194,7 +203,8 @@ pub(crate) fn pop_types(values: &mut Vec<Value>) -> Result<(TypeExprs, Place), M
 }
 
 pub(crate) fn pop_predicate(values: &mut Vec<Value>) -> Result<(Box<PredExpr>, Place), MakeError>
-    ensures ok { IfOk result (λ e. views values.old.items ≡ predicate (pred_view e.0.value) e.1 ∷ views values.new.items) }
+    ensures ok { IfOk result (λ e. views values.old.items ≡ predicate (pred_view e.0.value) e.1
+        ∷ views values.new.items) }
     ensures misfit { IfErr result (λ _. NoPredicate (views values.old.items)) }
 {
     match values.pop() {
@@ -204,7 +214,8 @@ pub(crate) fn pop_predicate(values: &mut Vec<Value>) -> Result<(Box<PredExpr>, P
 }
 
 pub(crate) fn pop_recursive(values: &mut Vec<Value>) -> Result<(Name, Function<Name>), MakeError>
-    ensures ok { IfOk result (λ f. views values.old.items ≡ recursive f.0.0 (parsed_function f.1) ∷ views values.new.items) }
+    ensures ok { IfOk result (λ f. views values.old.items ≡ recursive f.0.0 (parsed_function f.1)
+        ∷ views values.new.items) }
     ensures misfit { IfErr result (λ _. NoRecursive (views values.old.items)) }
 {
     match values.pop() {

@@ -11,7 +11,7 @@ use Rattle.lq_pred.specs.Points.{Point}
 use Rattle.lq_pred.specs.Comparison.{CanGather}
 use Rattle.lq_pred.specs.Reading.{reading_of, AllFitIn}
 use Rattle.lq_pred.specs.Literals.{negative, literals_of}
-use Rattle.lq_pred.specs.Implication.{Implication, IsValid, terms_in}
+use Rattle.lq_pred.specs.ClosedImplication.{ClosedImplication, IsValid, terms_in}
 use Rattle.lq_demand.specs.Answer.{CanBeGathered, sizes_of, IsFirstFailing, IsFirstUngathered}
 use Rattle.lq_report.specs.Refusals.{code_of, refusal_line}
 use Rattle.lq_straight.specs.declared.item.NameAt.{NameAt}
@@ -59,19 +59,19 @@ before_at P xs n k x all lt is = all_at P (take n xs) k x all (taken_at xs n k x
 same_number : (n m : ℕ) → (n < m → ⊥) → (m < n → ⊥) → n ≡ m
 same_number n m a b = ⊎_elim (λ lt. absurd (a lt)) (λ le. ⊎_elim (λ lt. absurd (b lt)) (λ ge. omega arith) (cases_lt m n)) (cases_lt n m)
 
-failing_is_invalid : (list : List Implication) (k : ℕ) (p : Point) (f : IsFirstFailing list k p) → IsValid f.failing → ⊥
+failing_is_invalid : (list : List ClosedImplication) (k : ℕ) (p : Point) (f : IsFirstFailing list k p) → IsValid f.failing → ⊥
 failing_is_invalid list k p f valid = valid p f.point f.hypotheses f.goal
 
-not_after : (list : List Implication) (k m : ℕ) (p q : Point) → IsFirstFailing list k p → IsFirstFailing list m q → k < m → ⊥
+not_after : (list : List ClosedImplication) (k m : ℕ) (p q : Point) → IsFirstFailing list k p → IsFirstFailing list m q → k < m → ⊥
 not_after list k m p q f g lt = failing_is_invalid list k p f (before_at IsValid list m k f.failing g.before lt f.at)
 
-one_failing : (list : List Implication) (k m : ℕ) (p q : Point) → IsFirstFailing list k p → IsFirstFailing list m q → k ≡ m
+one_failing : (list : List ClosedImplication) (k m : ℕ) (p q : Point) → IsFirstFailing list k p → IsFirstFailing list m q → k ≡ m
 one_failing list k m p q f g = same_number k m (not_after list k m p q f g) (not_after list m k q p g f)
 
 -- the failing implication of one number
-failing_once : (list others : List Implication) (k m : ℕ) (p q : Point) (f : IsFirstFailing list k p) (g : IsFirstFailing others m q) → list ≡ others → k ≡ m → f.failing ≡ g.failing
+failing_once : (list others : List ClosedImplication) (k m : ℕ) (p q : Point) (f : IsFirstFailing list k p) (g : IsFirstFailing others m q) → list ≡ others → k ≡ m → f.failing ≡ g.failing
 failing_once list others k m p q f g same number =
-    let there : slice_get others m ≡ Some f.failing = subst (λ (n : ℕ). slice_get others n ≡ Some f.failing) number (subst (λ (l : List Implication). slice_get l k ≡ Some f.failing) same f.at) in
+    let there : slice_get others m ≡ Some f.failing = subst (λ (n : ℕ). slice_get others n ≡ Some f.failing) number (subst (λ (l : List ClosedImplication). slice_get l k ≡ Some f.failing) same f.at) in
     let here : Some f.failing ≡ Some g.failing = sym there ∙ g.at in
     cc
 
@@ -109,7 +109,7 @@ valued names items p (t ∷ ts) lines shows =
       ap (λ (l : List (List ℕ)). term_text names items t ∷ l) rest.2,
     )
 
-abbrev shown_terms : Scoped → Implication → List (List ℕ)
+abbrev shown_terms : Scoped → ClosedImplication → List (List ℕ)
 shown_terms p i = map (term_text (names_of p) (items_of p)) (terms_in i)
 
 -- two rejections show the same demand
@@ -143,12 +143,12 @@ explained_once : (e d : List ℕ) → e ≡ [] → d ≡ [] → ExplainAlike e d
 explained_once e d is also = ([], record { lines = []; other_lines = []; same = refl; back = []; written = is; other_written = also })
 
 -- the formula of a first implication that can't be gathered
-one_formula : (list : List Implication) (k m : ℕ) (p q : Formula) → k ≡ m → IsFirstUngathered list k p → IsFirstUngathered list m q → p ≡ q
+one_formula : (list : List ClosedImplication) (k m : ℕ) (p q : Formula) → k ≡ m → IsFirstUngathered list k p → IsFirstUngathered list m q → p ≡ q
 one_formula list k m p q e f g =
     let there : slice_get list m ≡ Some f.ungathered = subst (λ (n : ℕ). slice_get list n ≡ Some f.ungathered) e f.at in
     let here : Some f.ungathered ≡ Some g.ungathered = sym there ∙ g.at in
     let same : f.ungathered ≡ g.ungathered = cc in
-    sym f.is_goal ∙ ap (λ (i : Implication). i.goal) same ∙ g.is_goal
+    sym f.is_goal ∙ ap (λ (i : ClosedImplication). i.goal) same ∙ g.is_goal
 
 abbrev ungathered_text : Scoped → ℕ → Assertion Binder → Formula → List ℕ
 ungathered_text p number assertion formula =
@@ -222,7 +222,7 @@ judged_is text r j is judged = ⊎_elim (λ memory. absurd cc) (λ due. subst (I
 pub decided_is : (text cause : List ℕ) → HasSmallDemands text → IsUngathered text cause ⊎ IsPastNumber text cause → IsUngathered text cause
 decided_is text cause small (inl is) = is
 decided_is text cause small (inr is) =
-    let low = all_at (λ (i : Implication). sizes_of i < 2 ^ 126) (demands is.of) is.number is.first.large (small is.of) is.first.at in
+    let low = all_at (λ (i : ClosedImplication). sizes_of i < 2 ^ 126) (demands is.of) is.number is.first.large (small is.of) is.first.at in
     let high = is.first.sized in
     absurd (omega arith)
 

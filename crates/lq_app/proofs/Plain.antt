@@ -13,10 +13,10 @@ use Rattle.lq_pred.specs.Sum.{Sum as Term, var, same}
 use Rattle.lq_pred.specs.LinearForm.{IsFit}
 use Rattle.lq_pred.specs.Comparison.{comparison, row_constant, row_coefficient, CanGather}
 use Rattle.lq_pred.specs.Formula.{Formula, compare}
-use Rattle.lq_demand.specs.Straight.{Step, assume, demand, implications_after, implications_of}
+use Rattle.lq_demand.specs.Straight.{LineView, assume, demand, implications_after, implications_of}
 use Rattle.lq_demand.specs.Plain.{IsPlain, IsOneRow, IsPlainStep}
-use Rattle.lq_straight.specs.declared.item.Sum.{Sum}
-use Rattle.lq_straight.specs.declared.item.Sum.TheVariants as sum
+use Rattle.lq_straight.specs.declared.item.Operand.{Operand}
+use Rattle.lq_straight.specs.declared.item.Operand.TheVariants as sum
 use Rattle.lq_straight.specs.declared.item.Right.TheVariants as right
 use Rattle.lq_straight.specs.declared.item.Order.{Order}
 use Rattle.lq_straight.specs.declared.item.Order.TheVariants.{Less, AtMost, Greater, AtLeast}
@@ -64,31 +64,31 @@ units_apart_taken true false = omega (arith, ints)
 units_apart_taken false true = omega (arith, ints)
 units_apart_taken false false = omega (arith, ints)
 
-sum_fits : (s : Sum Binder) → IsSmallSum s → IsFit (term_of s)
+sum_fits : (s : Operand Binder) → IsSmallSum s → IsFit (term_of s)
 sum_fits (sum.Use x) small = tt
 sum_fits (sum.Add x n) small = (tt, whole_fits n small, record { constant = omega (arith, ints); coefficients = λ t. unit_added (same (var (Bound x)) t) })
 sum_fits (sum.Sub x n) small = (tt, whole_fits n small, record { constant = omega (arith, ints); coefficients = λ t. unit_taken (same (var (Bound x)) t) })
 sum_fits (sum.Whole n) small = whole_fits n small
 sum_fits (sum.Negative n) small = negative_fits n small
 
-definition_constant : (x : Binder) (s : Sum Binder) → IsSmallSum s → FitsSigned w128 (row_constant (comparison (var (Bound x)) (term_of s) (pos 0) true))
+definition_constant : (x : Binder) (s : Operand Binder) → IsSmallSum s → FitsSigned w128 (row_constant (comparison (var (Bound x)) (term_of s) (pos 0) true))
 definition_constant x (sum.Use y) small = omega (arith, ints)
 definition_constant x (sum.Add y n) small = omega (arith, ints)
 definition_constant x (sum.Sub y n) small = omega (arith, ints)
 definition_constant x (sum.Whole n) small = omega (arith, ints)
 definition_constant x (sum.Negative n) small = omega (arith, ints)
 
-definition_coefficients : (x : Binder) (s : Sum Binder) (t : Term) → FitsSigned w128 (row_coefficient (comparison (var (Bound x)) (term_of s) (pos 0) true) t)
+definition_coefficients : (x : Binder) (s : Operand Binder) (t : Term) → FitsSigned w128 (row_coefficient (comparison (var (Bound x)) (term_of s) (pos 0) true) t)
 definition_coefficients x (sum.Use y) t = units_apart (same (var (Bound x)) t) (same (var (Bound y)) t)
 definition_coefficients x (sum.Add y n) t = units_apart_added (same (var (Bound x)) t) (same (var (Bound y)) t)
 definition_coefficients x (sum.Sub y n) t = units_apart_taken (same (var (Bound x)) t) (same (var (Bound y)) t)
 definition_coefficients x (sum.Whole n) t = unit_taken (same (var (Bound x)) t)
 definition_coefficients x (sum.Negative n) t = unit_taken (same (var (Bound x)) t)
 
-definition_gathers : (x : Binder) (s : Sum Binder) → IsSmallSum s → CanGather (comparison (var (Bound x)) (term_of s) (pos 0) true)
+definition_gathers : (x : Binder) (s : Operand Binder) → IsSmallSum s → CanGather (comparison (var (Bound x)) (term_of s) (pos 0) true)
 definition_gathers x s small = record { left = tt; right = sum_fits s small; constant = definition_constant x s small; coefficients = definition_coefficients x s }
 
-sum_plain : (s : Sum Binder) → IsPlain (term_of s)
+sum_plain : (s : Operand Binder) → IsPlain (term_of s)
 sum_plain (sum.Use x) = tt
 sum_plain (sum.Add x n) = (tt, tt)
 sum_plain (sum.Sub x n) = (tt, tt)
@@ -101,12 +101,12 @@ order_plain AtMost = tt
 order_plain Greater = tt
 order_plain AtLeast = tt
 
-one_step : (step : Step) → IsPlainStep step → All IsPlainStep (step ∷ [])
+one_step : (step : LineView) → IsPlainStep step → All IsPlainStep (step ∷ [])
 one_step step is = All-cons IsPlainStep step [] is (All-nil IsPlainStep)
 
 node_plain : (n : ItemNode Binder) → IsSmallNode n → All IsPlainStep (node_steps n)
 node_plain (Define x (right.Read place)) small = All-nil IsPlainStep
-node_plain (Define x (right.Sum s)) small = one_step (assume (compare Eq (var (Bound x)) (term_of s))) ((tt, tt, sum_plain s), definition_gathers x s small)
+node_plain (Define x (right.Operand s)) small = one_step (assume (compare Eq (var (Bound x)) (term_of s))) ((tt, tt, sum_plain s), definition_gathers x s small)
 node_plain (Assert a) small = one_step (demand (goal_of a)) (order_plain a.order, sum_plain a.left, sum_plain a.right)
 node_plain (Print e) small = All-nil IsPlainStep
 
@@ -122,7 +122,7 @@ Demands items = (known : List Formula) → implications_after known (steps_in it
 
 demands_behind : (items : List (Item Binder)) → Demands items → (known : List Formula) (n : ItemNode Binder) → implications_after known (node_steps n ++ steps_in items) ≡ with_demand known n (implications_from (known_behind known n) items)
 demands_behind items rest known (Define x (right.Read place)) = rest known
-demands_behind items rest known (Define x (right.Sum s)) = rest (known_behind known (Define x (right.Sum s)))
+demands_behind items rest known (Define x (right.Operand s)) = rest (known_behind known (Define x (right.Operand s)))
 demands_behind items rest known (Assert a) = ap (λ l. record { hypotheses = known; goal = goal_of a } ∷ l) (rest known)
 demands_behind items rest known (Print e) = rest known
 
@@ -141,7 +141,7 @@ small_at (j ∷ items) (suc k) i small is = small_at items k i small.1 is
 -- one item more
 pub steps_more : (items : List (Item Binder)) (k : ℕ) (d : Item Binder) → k < length items → steps_in (take k items) ++ item_steps (get_or items k d) ≡ steps_in (take (k + 1) items)
 steps_more items k d lt =
-    ap (λ (l : List Step). steps_in (take k items) ++ l) (sym (append-nil (item_steps (get_or items k d))))
+    ap (λ (l : List LineView). steps_in (take k items) ++ l) (sym (append-nil (item_steps (get_or items k d))))
     ∙ sym (flat_map-append item_steps (take k items) (get_or items k d ∷ []))
     ∙ ap steps_in (sym (take_more items k d lt))
 

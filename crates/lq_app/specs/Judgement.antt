@@ -8,7 +8,7 @@ use Rattle.lq_num.specs.Past.{IsPast}
 use Rattle.lq_pred.specs.Sum.{Sum as Term}
 use Rattle.lq_pred.specs.Formula.{Formula}
 use Rattle.lq_pred.specs.Points.{Point}
-use Rattle.lq_pred.specs.Implication.{Implication, IsValid, terms_in}
+use Rattle.lq_pred.specs.ClosedImplication.{ClosedImplication, IsValid, terms_in}
 use Rattle.lq_demand.specs.Answer.{CanBeGathered, sizes_of, IsFirstFailing, IsFirstUngathered, IsFirstLarge}
 use Rattle.lq_report.specs.Refusals.{code_of, place_text, refusal_line}
 use Rattle.lq_report.specs.declared.refused.Refused.{Refused}
@@ -41,7 +41,7 @@ abbrev pub items_of : Scoped → List (Item NameAt)
 items_of p = p.read.items
 
 -- what the program demands
-abbrev pub demands : {text : List ℕ} → Bound text → List Implication
+abbrev pub demands : {text : List ℕ} → Bound text → List ClosedImplication
 demands b = implications_of b.program.scoped
 
 -- The text is a program whose names are all defined before they are used, and its demands are valid.

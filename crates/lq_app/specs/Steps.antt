@@ -6,25 +6,25 @@ use Rattle.lq_name.specs.declared.operation.CompareOp.TheVariants.{Eq}
 use Rattle.lq_pred.specs.declared.symbol.Symbol.TheVariants.{Bound}
 use Rattle.lq_pred.specs.Sum.{var}
 use Rattle.lq_pred.specs.Formula.{compare}
-use Rattle.lq_demand.specs.Straight.{Step, assume, demand}
+use Rattle.lq_demand.specs.Straight.{LineView, assume, demand}
 use Rattle.lq_straight.specs.declared.item.Right.{Right}
-use Rattle.lq_straight.specs.declared.item.Right.TheVariants.{Read, Sum}
+use Rattle.lq_straight.specs.declared.item.Right.TheVariants.{Read, Operand}
 use Rattle.lq_straight.specs.declared.item.Item.{Item}
 use Rattle.lq_straight.specs.declared.item.ItemNode.{ItemNode}
 use Rattle.lq_straight.specs.declared.item.ItemNode.TheVariants.{Define, Assert, Print}
 use Rattle.lq_straight.specs.Demands.{term_of, goal_of}
 
-abbrev pub definition_steps : Binder → Right Binder → List Step
+abbrev pub definition_steps : Binder → Right Binder → List LineView
 definition_steps x (Read place) = []
-definition_steps x (Sum s) = assume (compare Eq (var (Bound x)) (term_of s)) ∷ []
+definition_steps x (Operand s) = assume (compare Eq (var (Bound x)) (term_of s)) ∷ []
 
-abbrev pub node_steps : ItemNode Binder → List Step
+abbrev pub node_steps : ItemNode Binder → List LineView
 node_steps (Define x r) = definition_steps x r
 node_steps (Assert a) = demand (goal_of a) ∷ []
 node_steps (Print e) = []
 
-abbrev pub item_steps : Item Binder → List Step
+abbrev pub item_steps : Item Binder → List LineView
 item_steps i = node_steps i.node
 
-abbrev pub steps_in : List (Item Binder) → List Step
+abbrev pub steps_in : List (Item Binder) → List LineView
 steps_in items = flat_map item_steps items

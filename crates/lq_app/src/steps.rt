@@ -3,7 +3,7 @@ ghost use Rattle.std.specs.Prelude.{◌≡◌, ◌<◌, ◌^◌, pos, neg_ℤ, �
 ghost use Rattle.lq_pred.specs.TermView.{sum_of};
 ghost use Rattle.lq_pred.specs.PredView.{formula_of};
 ghost use Rattle.lq_demand.specs.Straight.{implications_of};
-ghost use Rattle.lq_demand.specs.LinesView.{steps_of};
+ghost use Rattle.lq_demand.specs.LinesView.{lines_view};
 ghost use Rattle.lq_demand.specs.Plain.{IsPlainStep};
 ghost use Rattle.lq_straight.specs.Uses.{IsSmallSum, IsSmallItem, AreSmall};
 ghost use Rattle.lq_straight.specs.Demands.{term_of, goal_of, implications_of as demands_of};
@@ -13,7 +13,7 @@ ghost use Rattle.lq_app.specs.Steps.{item_steps};
 use lq_demand::{Line, Lines};
 use lq_name::{Binder, CompareOp};
 use lq_pred::{Pred, Symbol, Term};
-use lq_straight::{Assertion, Item, ItemNode, Order, Right, Sum};
+use lq_straight::{Assertion, Item, ItemNode, Operand, Order, Right};
 use std::alloc::{AllocError, Global};
 
 fn whole(n: u128) -> i128
@@ -31,22 +31,22 @@ fn negative(n: u128) -> i128
 }
 
 // The term that a sum is.
-fn term_of(alloc: Global, sum: Sum<Binder>) -> Result<Term, AllocError>
+fn term_of(alloc: Global, sum: Operand<Binder>) -> Result<Term, AllocError>
     requires { IsSmallSum sum }
     ensures { IfOk result (λ t. sum_of t ≡ term_of sum) }
 {
     Ok(match sum {
-        Sum::Use(x) => Term::Var(Symbol::Bound(x)),
-        Sum::Add(x, n) => {
+        Operand::Use(x) => Term::Var(Symbol::Bound(x)),
+        Operand::Add(x, n) => {
             let left = Box::new(alloc, Term::Var(Symbol::Bound(x)))?;
             Term::Add(left, Box::new(alloc, Term::Whole(whole(n)))?)
         }
-        Sum::Sub(x, n) => {
+        Operand::Sub(x, n) => {
             let left = Box::new(alloc, Term::Var(Symbol::Bound(x)))?;
             Term::Sub(left, Box::new(alloc, Term::Whole(whole(n)))?)
         }
-        Sum::Whole(n) => Term::Whole(whole(n)),
-        Sum::Negative(n) => Term::Whole(negative(n)),
+        Operand::Whole(n) => Term::Whole(whole(n)),
+        Operand::Negative(n) => Term::Whole(negative(n)),
     })
 }
 
@@ -75,11 +75,11 @@ fn goal_of(alloc: Global, assertion: &Assertion<Binder>) -> Result<Pred, AllocEr
 // Adds what is known or asked at an item.
 fn push_item(alloc: Global, lines: &mut Lines, item: &Item<Binder>) -> Result<(), AllocError>
     requires { IsSmallItem item.now }
-    ensures { OnOk result (steps_of lines.new ≡ steps_of lines.old ++ item_steps item.now) }
+    ensures { OnOk result (lines_view lines.new ≡ lines_view lines.old ++ item_steps item.now) }
 {
     match &item.node {
         ItemNode::Define(_, Right::Read(_)) | ItemNode::Print(_) => Ok(()),
-        ItemNode::Define(x, Right::Sum(sum)) => {
+        ItemNode::Define(x, Right::Operand(sum)) => {
             let left = Term::Var(Symbol::Bound(*x));
             let right = term_of(alloc, *sum)?;
             lines.push(Line::Assume(Pred::Compare(CompareOp::Eq, left, right)))
@@ -91,8 +91,8 @@ fn push_item(alloc: Global, lines: &mut Lines, item: &Item<Binder>) -> Result<()
 // The demands of a program with what is known at each, as a list that can be asked.
 pub(crate) fn lines_of(alloc: Global, items: &[Item<Binder>]) -> Result<Lines, AllocError>
     requires { AreSmall items.now }
-    ensures demands { IfOk result (λ lines. implications_of (steps_of lines) ≡ demands_of items.now) }
-    ensures plain { IfOk result (λ lines. All IsPlainStep (steps_of lines)) }
+    ensures demands { IfOk result (λ lines. implications_of (lines_view lines) ≡ demands_of items.now) }
+    ensures plain { IfOk result (λ lines. All IsPlainStep (lines_view lines)) }
 {
     let mut lines = Lines::new(alloc)?;
     for item in items {

@@ -8,7 +8,7 @@ ghost use Rattle.lq_pred.specs.PredView.{formula_of};
 ghost use Rattle.lq_demand.specs.Answer.{IsFirstUngathered, IsFirstLarge};
 ghost use Rattle.lq_demand.specs.AskedView.{FailsAt};
 ghost use Rattle.lq_name.specs.declared.name.Binder.{Binder};
-ghost use Rattle.lq_pred.specs.Implication.{Implication};
+ghost use Rattle.lq_pred.specs.ClosedImplication.{ClosedImplication};
 ghost use Rattle.lq_straight.specs.declared.item.Assertion.{Assertion};
 ghost use Rattle.lq_straight.specs.declared.item.Item.{Item};
 ghost use Rattle.lq_straight.specs.declared.item.NameAt.{NameAt};
@@ -162,7 +162,7 @@ fn place_of_demand(
     items: &[Item<Binder>],
     number: usize,
 ) -> Result<Place, AllocError>
-    requires { (i : Implication) × (slice_get (implications_of items.now) number ≡ Some i) }
+    requires { (i : ClosedImplication) × (slice_get (implications_of items.now) number ≡ Some i) }
     ensures { IfOk result (λ p. (a : Assertion Binder)
         × (slice_get (assertions_of items.now) number ≡ Some a) × (a.place ≡ p)) }
 {

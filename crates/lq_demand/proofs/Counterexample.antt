@@ -8,7 +8,7 @@ use Rattle.lq_linear.specs.Row.{Row, Valuation}
 use Rattle.lq_linear.specs.Steps.{valuation_of}
 use Rattle.lq_pred.specs.Comparison.{Comparison, IsRowOf, row_constant}
 use Rattle.lq_pred.specs.Formula.{Formula}
-use Rattle.lq_pred.specs.Implication.{Implication, IsPoint, IsValid, terms_in}
+use Rattle.lq_pred.specs.ClosedImplication.{ClosedImplication, IsPoint, IsValid, terms_in}
 use Rattle.lq_pred.specs.Literals.{implication_literals}
 use Rattle.lq_pred.specs.RowMeaning.{AgreesOn}
 use Rattle.lq_pred.specs.Sum.{Sum}
@@ -20,8 +20,8 @@ use Rattle.lq_demand.specs.Answer.{sizes, sizes_of}
 use Rattle.lq_demand.specs.Closed.{IsProblemRows}
 use Rattle.lq_demand.specs.Deciding.{IsCounterexample}
 use Rattle.lq_demand.specs.Gathered.{AreGathered, IsProblemOf}
-use Rattle.lq_demand.specs.Halts.{HaltsAt}
-use Rattle.lq_demand.specs.declared.solve.Halt.{Halt}
+use Rattle.lq_demand.specs.StageErrors.{IsStageErrorAt}
+use Rattle.lq_demand.specs.declared.solve.StageError.{StageError}
 use Rattle.lq_demand.specs.Plain.{IsPlain, comparison_as}
 use Rattle.lq_demand.specs.Problem.{Problem, AllHold, row_sizes}
 use Rattle.lq_demand.specs.Solution.{IsSolution}
@@ -33,21 +33,21 @@ use Rattle.lq_demand.proofs.Plains.{plain_sides}
 use Rattle.lq_demand.proofs.Variables.{known_comparisons, problem_literals}
 
 -- the rows of one implication have its sizes
-pub rows_sizes : (all : List Sum) (i : Implication) (rows : List Row) → IsProblemRows all i rows → row_sizes rows ≡ sizes_of i
+pub rows_sizes : (all : List Sum) (i : ClosedImplication) (rows : List Row) → IsProblemRows all i rows → row_sizes rows ≡ sizes_of i
 rows_sizes all i rows r =
     let e = ap row_sizes r.is in let s = row_sizes-append r.problem.known (r.problem.goal ∷ []) in let k = same_sizes all i r.problem r.of in omega arith
 
-pub halts_of : (all : List Sum) (i : Implication) (rows same : List Row) (k : ℕ) (halt : Halt) → IsProblemRows all i rows → same ≡ rows → HaltsAt k (row_sizes same) halt → HaltsAt k (sizes_of i) halt
-halts_of all i rows same k halt r e h = subst (λ n. HaltsAt k n halt) (ap row_sizes e ∙ rows_sizes all i rows r) h
+pub halts_of : (all : List Sum) (i : ClosedImplication) (rows same : List Row) (k : ℕ) (halt : StageError) → IsProblemRows all i rows → same ≡ rows → IsStageErrorAt k (row_sizes same) halt → IsStageErrorAt k (sizes_of i) halt
+halts_of all i rows same k halt r e h = subst (λ n. IsStageErrorAt k n halt) (ap row_sizes e ∙ rows_sizes all i rows r) h
 
 -- where no valuation solves the rows, the implication is valid
-pub valid_of : (law : RowLaw) (all : List Sum) (i : Implication) (rows same : List Row) → IsProblemRows all i rows → same ≡ rows → ((v : Valuation) → AllHold v same → ⊥) → IsValid i
+pub valid_of : (law : RowLaw) (all : List Sum) (i : ClosedImplication) (rows same : List Row) → IsProblemRows all i rows → same ≡ rows → ((v : Valuation) → AllHold v same → ⊥) → IsValid i
 valid_of law all i rows same r e none =
     valid_by law all i r.problem r.of
     (λ s. none s.values (subst (AllHold s.values) (sym (e ∙ r.is)) (both_hold s.values r.problem.known (r.problem.goal ∷ []) s.known (s.goal, tt))))
 
 -- where values solve them, they make a counterexample
-pub counterexample_of : (law : RowLaw) (all : List Sum) (i : Implication) (rows same : List Row) (values : List Frac) (p : Point) → IsTrue (all_differ all) → IsProblemRows all i rows → same ≡ rows
+pub counterexample_of : (law : RowLaw) (all : List Sum) (i : ClosedImplication) (rows same : List Row) (values : List Frac) (p : Point) → IsTrue (all_differ all) → IsProblemRows all i rows → same ≡ rows
     → IsSolution (length all) same values → all ≡ terms_in i → numbers_of (values_of p) ≡ values → table_of (values_of p) ≡ all → IsPoint i (as_point p) → IsCounterexample i p
 counterexample_of law all i rows same values p differ r e s terms numbers table point = record {
   terms = table ∙ terms;
@@ -86,7 +86,7 @@ sizes_known : (a b : List Comparison) → sizes (a ++ b) ≡ sizes a + sizes b
 sizes_known [] b = omega arith
 sizes_known (c ∷ a) b = let k = sizes_known a b in omega arith
 
-literals_small : (all : List Sum) (i : Implication) (p : Problem) → IsProblemOf all i p → All (IsSmall (sizes_of i)) (implication_literals i)
+literals_small : (all : List Sum) (i : ClosedImplication) (p : Problem) → IsProblemOf all i p → All (IsSmall (sizes_of i)) (implication_literals i)
 literals_small all i p h =
     let e = problem_literals all i p h in
     let total = ap sizes e in
@@ -99,7 +99,7 @@ literals_small all i p h =
     (known_small all (sizes_of i) i.hypotheses p.known h.known (omega arith)) (record { left = s.0; right = s.1; size = omega arith }))
     (λ k d l. absurd (omega arith)))
 
-pub large_of : (all : List Sum) (i : Implication) (rows same : List Row) (values : List Frac) (e : NumberPast) → IsTrue (all_differ all) → IsProblemRows all i rows → same ≡ rows
+pub large_of : (all : List Sum) (i : ClosedImplication) (rows same : List Row) (values : List Frac) (e : NumberPast) → IsTrue (all_differ all) → IsProblemRows all i rows → same ≡ rows
     → IsSolution (length all) same values
     → ((terms : List Sum) (c : Comparison) (row : Row) → IsRowOf terms c row → All (λ part. part.0 < length terms) row.parts)
     → IsStepOf (implication_literals i) all values e → IsPast e → 2 ^ 126 ≤ sizes_of i

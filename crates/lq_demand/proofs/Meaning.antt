@@ -3,7 +3,7 @@ use Rattle.std.proofs.Common.{◌≡◌, ◌↔◌, ℕ, zero, suc, ◌+◌, Lis
 use Rattle.lq_linear.specs.Row.{Row, Valuation, RowHolds}
 use Rattle.lq_pred.specs.Comparison.{Comparison, IsRowOf}
 use Rattle.lq_pred.specs.Formula.{Formula}
-use Rattle.lq_pred.specs.Implication.{Implication, MeetsEach, IsValid}
+use Rattle.lq_pred.specs.ClosedImplication.{ClosedImplication, MeetsEach, IsValid}
 use Rattle.lq_pred.specs.Points.{Point, ComparisonHolds, Meets}
 use Rattle.lq_pred.specs.Reading.{reading_of}
 use Rattle.lq_pred.specs.RowMeaning.{AgreesOn, numbers_at, point_by}
@@ -12,7 +12,7 @@ use Rattle.lq_pred.specs.Table.{all_differ}
 use Rattle.lq_pred.specs.declared.symbol.Symbol.{Symbol}
 use Rattle.lq_demand.specs.Answer.{sizes, sizes_of, IsFirstLarge}
 use Rattle.lq_demand.specs.Gathered.{IsGathered, AreGathered, IsProblemOf, AreProblems}
-use Rattle.lq_demand.specs.Halts.{NoneBefore, IsFirstUndecided}
+use Rattle.lq_demand.specs.StageErrors.{NoneBefore, IsFirstUndecided}
 use Rattle.lq_demand.specs.Plain.{comparison_as}
 use Rattle.lq_demand.specs.Problem.{Problem, AllHold, IsSolvable, row_sizes, problem_sizes}
 use Rattle.lq_demand.proofs.Plains.{plain_row}
@@ -60,13 +60,13 @@ known_meet law all [] (r ∷ rows) v q a g h = absurd g
 known_meet law all (p ∷ ps) [] v q a g h = absurd g
 
 -- a problem that nothing solves is that of a valid implication
-pub valid_by : (law : RowLaw) (all : List Sum) (i : Implication) (p : Problem) → IsProblemOf all i p → (IsSolvable p → ⊥) → IsValid i
+pub valid_by : (law : RowLaw) (all : List Sum) (i : ClosedImplication) (p : Problem) → IsProblemOf all i p → (IsSolvable p → ⊥) → IsValid i
 valid_by law all i p h not q is hypotheses goal =
     let a = law.valuation all q in
     not (record { values = numbers_at all q; known = known_meet law all i.hypotheses p.known (numbers_at all q) q a h.known hypotheses; goal = row_meets law all false i.goal p.goal (numbers_at all q) q a h.goal goal })
 
 -- one that is solved is that of an implication that isn't
-pub not_valid_by : (law : RowLaw) (all : List Sum) (i : Implication) (p : Problem) → IsTrue (all_differ all) → IsProblemOf all i p → IsSolvable p → IsValid i → ⊥
+pub not_valid_by : (law : RowLaw) (all : List Sum) (i : ClosedImplication) (p : Problem) → IsTrue (all_differ all) → IsProblemOf all i p → IsSolvable p → IsValid i → ⊥
 not_valid_by law all i p differ h s valid =
     let a = law.point all s.values (λ x. false) (λ t. 0) differ in
     let q : Point = point_by all s.values (λ x. false) (λ t. 0) in
@@ -74,15 +74,15 @@ not_valid_by law all i p differ h s valid =
     (meets_known law all i.hypotheses p.known s.values q a h.known s.known) (meets_gathered law all false i.goal p.goal s.values q a h.goal s.goal)
 
 -- the implication of a problem
-pub problem_at : (all : List Sum) (is : List Implication) (ps : List Problem) (k : ℕ) (p : Problem) → AreProblems all is ps → slice_get ps k ≡ Some p
-    → (i : Implication) × (slice_get is k ≡ Some i) × IsProblemOf all i p
+pub problem_at : (all : List Sum) (is : List ClosedImplication) (ps : List Problem) (k : ℕ) (p : Problem) → AreProblems all is ps → slice_get ps k ≡ Some p
+    → (i : ClosedImplication) × (slice_get is k ≡ Some i) × IsProblemOf all i p
 problem_at all [] [] k p h e = cc
 problem_at all (i ∷ is) (q ∷ ps) zero p h e = let s : q ≡ p = cc in (i, refl, subst (IsProblemOf all i) s h.0)
 problem_at all (i ∷ is) (q ∷ ps) (suc k) p h e = problem_at all is ps k p h.1 e
 problem_at all [] (q ∷ ps) k p h e = absurd h
 problem_at all (i ∷ is) [] k p h e = absurd h
 
-pub valid_before : (law : RowLaw) (all : List Sum) (is : List Implication) (ps : List Problem) (k : ℕ) → AreProblems all is ps → NoneBefore ps k → All IsValid (take k is)
+pub valid_before : (law : RowLaw) (all : List Sum) (is : List ClosedImplication) (ps : List Problem) (k : ℕ) → AreProblems all is ps → NoneBefore ps k → All IsValid (take k is)
 valid_before law all is ps zero h none j d l = absurd (omega arith)
 valid_before law all [] ps (suc k) h none j d l = absurd (omega arith)
 valid_before law all (i ∷ is) (p ∷ ps) (suc k) h none zero d l = valid_by law all i p h.0 (none 0 p (omega arith) refl)
@@ -100,7 +100,7 @@ known_sizes all (p ∷ ps) (r ∷ rows) g =
 known_sizes all [] (r ∷ rows) g = absurd g
 known_sizes all (p ∷ ps) [] g = absurd g
 
-pub same_sizes : (all : List Sum) (i : Implication) (p : Problem) → IsProblemOf all i p → sizes_of i ≡ problem_sizes p
+pub same_sizes : (all : List Sum) (i : ClosedImplication) (p : Problem) → IsProblemOf all i p → sizes_of i ≡ problem_sizes p
 same_sizes all i p h =
     let e = ap sizes (problem_literals all i p h) in
     let a = sizes-append (known_comparisons i.hypotheses ++ comparison_as false i.goal ∷ []) [] in
@@ -108,7 +108,7 @@ same_sizes all i p h =
     let k = known_sizes all i.hypotheses p.known h.known in
     let g = ap unsigned_abs h.goal.of_row.is.constant in omega arith
 
-pub first_large : (law : RowLaw) (all : List Sum) (is : List Implication) (ps : List Problem) (k : ℕ) → AreProblems all is ps → IsFirstUndecided ps k → IsFirstLarge is k
+pub first_large : (law : RowLaw) (all : List Sum) (is : List ClosedImplication) (ps : List Problem) (k : ℕ) → AreProblems all is ps → IsFirstUndecided ps k → IsFirstLarge is k
 first_large law all is ps k h u =
     let f = problem_at all is ps k u.problem h u.at in
     record { large = f.0; at = f.1; gathered = problems_gather all is ps h; before = valid_before law all is ps k h u.before; sized = let e = same_sizes all f.0 u.problem f.2 in omega (arith, u.sized) }

@@ -6,7 +6,7 @@ use Rattle.std.specs.Int.{w128}
 use Rattle.std.specs.Int.Signed.{◌≤ℤ◌}
 use Rattle.std.proofs.lemmas.Int.{ints}
 use Rattle.std.proofs.lemmas.Bool.{cases_lt}
-use Rattle.lq_math.specs.Forms.{HasNoSumForm}
+use Rattle.lq_math.specs.NumberForms.{HasNoSumForm}
 use Rattle.lq_math.specs.Lcm.{IsLcm}
 use Rattle.lq_math.specs.LowestTerms.{IsLowest, lowest_terms_once}
 use Rattle.lq_math.specs.Rational.{ℚ, whole, ◌+ℚ◌, ◌*ℚ◌}

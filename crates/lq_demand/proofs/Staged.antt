@@ -5,7 +5,7 @@ use Rattle.std.proofs.lemmas.List.Elements.{All-push}
 use Rattle.lq_linear.specs.Row.{Row}
 use Rattle.lq_diff.specs.Table.{TermsBelow}
 use Rattle.lq_pred.specs.Formula.{Formula}
-use Rattle.lq_pred.specs.Implication.{Implication}
+use Rattle.lq_pred.specs.ClosedImplication.{ClosedImplication}
 use Rattle.lq_pred.specs.Sum.{Sum}
 use Rattle.lq_pred.specs.Table.{Extends}
 use Rattle.lq_demand.specs.declared.stage.Stage.{Stage}
@@ -13,7 +13,7 @@ use Rattle.lq_demand.specs.declared.stage.Staging.{Staging}
 use Rattle.lq_demand.specs.Gathered.{IsGathered, AreGathered, IsProblemOf, AreProblems}
 use Rattle.lq_demand.specs.Problem.{Problem, IsTaken, IsStageTaken, known_in, problem_after, problems_after, problems_of, count_of}
 use Rattle.lq_demand.specs.Staging.{IsStaging}
-use Rattle.lq_demand.specs.Straight.{Step, assume, demand, implication, implications_after, implications_of, assumed_in}
+use Rattle.lq_demand.specs.Straight.{LineView, assume, demand, implication, implications_after, implications_of, assumed_in}
 
 below_more : (n m : ℕ) (parts : List (ℕ × ℤ)) → n ≤ m → TermsBelow n parts → TermsBelow m parts
 below_more n m [] l h = tt
@@ -48,7 +48,7 @@ all_gathered_more a b (p ∷ ps) (row ∷ rows) x h = (gathered_more a b true p 
 all_gathered_more a b [] (row ∷ rows) x h = absurd h
 all_gathered_more a b (p ∷ ps) [] x h = absurd h
 
-problems_more : (a b : List Sum) (is : List Implication) (ps : List Problem) → Extends a b → AreProblems a is ps → AreProblems b is ps
+problems_more : (a b : List Sum) (is : List ClosedImplication) (ps : List Problem) → Extends a b → AreProblems a is ps → AreProblems b is ps
 problems_more a b [] [] x h = tt
 problems_more a b (i ∷ is) (p ∷ ps) x h =
     (record { known = all_gathered_more a b i.hypotheses p.known x h.0.known; goal = gathered_more a b false i.goal p.goal x h.0.goal }, problems_more a b is ps x h.1)
@@ -62,19 +62,19 @@ gathered_push all (q ∷ ps) (r ∷ rows) p row h g = (h.0, gathered_push all ps
 gathered_push all [] (r ∷ rows) p row h g = absurd h
 gathered_push all (q ∷ ps) [] p row h g = absurd h
 
-problems_push : (all : List Sum) (is : List Implication) (ps : List Problem) (i : Implication) (p : Problem) → AreProblems all is ps → IsProblemOf all i p
+problems_push : (all : List Sum) (is : List ClosedImplication) (ps : List Problem) (i : ClosedImplication) (p : Problem) → AreProblems all is ps → IsProblemOf all i p
     → AreProblems all (is ++ i ∷ []) (ps ++ p ∷ [])
 problems_push all [] [] i p h g = (g, tt)
 problems_push all (j ∷ is) (q ∷ ps) i p h g = (h.0, problems_push all is ps i p h.1 g)
 problems_push all [] (q ∷ ps) i p h g = absurd h
 problems_push all (j ∷ is) [] i p h g = absurd h
 
-pub assumed_append : (a b : List Step) → assumed_in (a ++ b) ≡ assumed_in a ++ assumed_in b
+pub assumed_append : (a b : List LineView) → assumed_in (a ++ b) ≡ assumed_in a ++ assumed_in b
 assumed_append [] b = refl
 assumed_append (assume p ∷ a) b = ap (λ l. p ∷ l) (assumed_append a b)
 assumed_append (demand p ∷ a) b = assumed_append a b
 
-pub implications_append : (known : List Formula) (a b : List Step) → implications_after known (a ++ b) ≡ implications_after known a ++ implications_after (known ++ assumed_in a) b
+pub implications_append : (known : List Formula) (a b : List LineView) → implications_after known (a ++ b) ≡ implications_after known a ++ implications_after (known ++ assumed_in a) b
 implications_append known [] b = ap (λ l. implications_after l b) (sym (append-nil known))
 implications_append known (assume p ∷ a) b =
     implications_append (known ++ p ∷ []) a b ∙ ap (λ l. implications_after (known ++ p ∷ []) a ++ implications_after l b) (append_assoc known (p ∷ []) (assumed_in a))
@@ -97,7 +97,7 @@ count_push (t ∷ stages) s = let k = count_push stages s in omega arith
 pub longer : (a b : List Sum) → Extends a b → length a ≤ length b
 longer a b x = let e = ap length x.is in let k = length-append a x.more in omega arith
 
-pub assume_step : (a b : List Sum) (steps : List Step) (old new : Staging) (p : Formula) (row : Row) → Extends a b → IsGathered b true p row → IsTaken (length b) row
+pub assume_step : (a b : List Sum) (steps : List LineView) (old new : Staging) (p : Formula) (row : Row) → Extends a b → IsGathered b true p row → IsTaken (length b) row
     → new.stages.items ≡ old.stages.items → new.assumed.items ≡ old.assumed.items ++ row ∷ [] → IsStaging a steps old → IsStaging b (steps ++ assume p ∷ []) new
 assume_step a b steps old new p row x g taken same more s = record {
   known = subst (λ l. AreGathered b l (known_in new.stages.items ++ new.assumed.items)) (sym (assumed_append steps (assume p ∷ [])))
@@ -115,7 +115,7 @@ assume_step a b steps old new p row x g taken same more s = record {
     rows : (known_in old.stages.items ++ old.assumed.items) ++ row ∷ [] ≡ known_in new.stages.items ++ new.assumed.items
     rows = append_assoc (known_in old.stages.items) old.assumed.items (row ∷ []) ∙ ap₂ (λ l m. known_in l ++ m) (sym same) (sym more)
 
-pub demand_step : (a b : List Sum) (steps : List Step) (old new : Staging) (p : Formula) (s : Stage) → Extends a b → IsGathered b false p s.goal → IsTaken (length b) s.goal
+pub demand_step : (a b : List Sum) (steps : List LineView) (old new : Staging) (p : Formula) (s : Stage) → Extends a b → IsGathered b false p s.goal → IsTaken (length b) s.goal
     → s.assumed.items ≡ old.assumed.items → new.stages.items ≡ old.stages.items ++ s ∷ [] → new.assumed.items ≡ [] → IsStaging a steps old → IsStaging b (steps ++ demand p ∷ []) new
 demand_step a b steps old new p s x g taken same more none h = record {
   known = subst (λ l. AreGathered b l (known_in new.stages.items ++ new.assumed.items)) (sym (assumed_append steps (demand p ∷ []) ∙ append-nil (assumed_in steps)))

@@ -3,14 +3,14 @@ use Rattle.std.proofs.Common.{◌≡◌, suc, List, [], ◌∷◌, ◌++◌, All
 use Rattle.std.proofs.lemmas.List.{take_at}
 use Rattle.lq_linear.specs.Row.{Row}
 use Rattle.lq_pred.specs.Formula.{Formula}
-use Rattle.lq_pred.specs.Implication.{Implication}
+use Rattle.lq_pred.specs.ClosedImplication.{ClosedImplication}
 use Rattle.lq_pred.specs.Reading.{reading_of, AllFitIn}
 use Rattle.lq_pred.specs.Sum.{Sum}
 use Rattle.lq_demand.specs.Answer.{CanBeGathered}
 use Rattle.lq_demand.specs.Gathered.{AreProblems}
 use Rattle.lq_demand.specs.Problem.{Problem, problems_after, problems_of}
 use Rattle.lq_demand.specs.Staging.{IsStaging, IsPastAt, IsUngathered}
-use Rattle.lq_demand.specs.Straight.{Step, demand, implication, implications_after, implications_of, assumed_in}
+use Rattle.lq_demand.specs.Straight.{LineView, demand, implication, implications_after, implications_of, assumed_in}
 use Rattle.lq_demand.specs.declared.stage.Stage.{Stage}
 use Rattle.lq_demand.specs.declared.stage.Staging.{Staging}
 use Rattle.lq_demand.specs.declared.stage.StageError.{StageError}
@@ -18,7 +18,7 @@ use Rattle.lq_demand.specs.declared.stage.StageError.TheVariants.{Past, OutOfMem
 use Rattle.lq_demand.proofs.Staged.{implications_append}
 use Rattle.lq_demand.proofs.Variables.{problems_gather, hypotheses_gather}
 
-pub same_length : (all : List Sum) (is : List Implication) (ps : List Problem) → AreProblems all is ps → length is ≡ length ps
+pub same_length : (all : List Sum) (is : List ClosedImplication) (ps : List Problem) → AreProblems all is ps → length is ≡ length ps
 same_length all [] [] h = refl
 same_length all (i ∷ is) (p ∷ ps) h = ap suc (same_length all is ps h.1)
 same_length all [] (p ∷ ps) h = absurd h
@@ -28,11 +28,11 @@ pub stages_length : (known : List Row) (stages : List Stage) → length (problem
 stages_length known [] = refl
 stages_length known (s ∷ stages) = ap suc (stages_length (known ++ s.assumed.items) stages)
 
-pub get_behind : (front : List Implication) (i : Implication) (rest : List Implication) → slice_get (front ++ i ∷ rest) (length front) ≡ Some i
+pub get_behind : (front : List ClosedImplication) (i : ClosedImplication) (rest : List ClosedImplication) → slice_get (front ++ i ∷ rest) (length front) ≡ Some i
 get_behind [] i rest = refl
 get_behind (j ∷ front) i rest = get_behind front i rest
 
-pub ungathered_at : (all : List Sum) (steps front back : List Step) (s : Staging) (p : Formula) (e : StageError) → IsStaging all front s → steps ≡ front ++ demand p ∷ back
+pub ungathered_at : (all : List Sum) (steps front back : List LineView) (s : Staging) (p : Formula) (e : StageError) → IsStaging all front s → steps ≡ front ++ demand p ∷ back
     → IsPastAt (length s.stages.items) p e → IsUngathered (implications_of steps) e
 ungathered_at all steps front back s p OutOfMemory h at past = tt
 ungathered_at all steps front back s p (Past j pred) h at past = record {

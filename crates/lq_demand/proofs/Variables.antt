@@ -4,7 +4,7 @@ use Rattle.std.proofs.lemmas.List.Elements.{All-append, All-push}
 use Rattle.lq_linear.specs.Row.{Row}
 use Rattle.lq_pred.specs.Comparison.{Comparison, CanGather}
 use Rattle.lq_pred.specs.Formula.{Formula, truth, falsity, flag, compare, objects, negation, conjunction, disjunction, equivalence}
-use Rattle.lq_pred.specs.Implication.{Implication, Agree, IsPoint, each_numbered, terms_in}
+use Rattle.lq_pred.specs.ClosedImplication.{ClosedImplication, Agree, IsPoint, each_numbered, terms_in}
 use Rattle.lq_pred.specs.Literals.{Signs, positive, negative, literals_of, each_literals, pair_rows, rows_with, all_pairs, implication_literals}
 use Rattle.lq_pred.specs.Points.{Point}
 use Rattle.lq_pred.specs.Reading.{formula_numbered, reading_of, AllFitIn}
@@ -86,7 +86,7 @@ each_variables all terms [] rows g h = h
 each_variables all terms (p ∷ ps) (row ∷ rows) g h = each_variables all (formula_numbered terms p) ps rows g.1 (formula_variables true terms p g.0.plain h)
 each_variables all terms (p ∷ ps) [] g h = absurd g
 
-problem_variables : (all : List Sum) (i : Implication) (p : Problem) → IsProblemOf all i p → AllVariables (terms_in i)
+problem_variables : (all : List Sum) (i : ClosedImplication) (p : Problem) → IsProblemOf all i p → AllVariables (terms_in i)
 problem_variables all i p h = formula_variables false (each_numbered [] i.hypotheses) i.goal h.goal.plain (each_variables all [] i.hypotheses p.known h.known tt)
 
 has_variable : (terms : List Sum) (t : Sum) → AllVariables terms → has_term terms t ≡ true → IsVariable t
@@ -110,7 +110,7 @@ agree q (len a) t v = absurd v
 agree q (measure f a) t v = absurd v
 
 -- each point is one of a plain implication
-pub plain_point : (all : List Sum) (i : Implication) (p : Problem) (q : Point) → IsProblemOf all i p → IsPoint i q
+pub plain_point : (all : List Sum) (i : ClosedImplication) (p : Problem) (q : Point) → IsProblemOf all i p → IsPoint i q
 plain_point all i p q h s t at to = agree q s t (has_variable (terms_in i) s (problem_variables all i p h) at)
 
 no_pair : (s t : Sum) → IsVariable s → pair_rows s t ≡ []
@@ -174,7 +174,7 @@ known_literals all (p ∷ ps) (row ∷ rows) g =
 known_literals all (p ∷ ps) [] g = absurd g
 
 -- the literals of a plain implication
-pub problem_literals : (all : List Sum) (i : Implication) (p : Problem) → IsProblemOf all i p
+pub problem_literals : (all : List Sum) (i : ClosedImplication) (p : Problem) → IsProblemOf all i p
     → implication_literals i ≡ (known_comparisons i.hypotheses ++ comparison_as false i.goal ∷ []) ++ []
 problem_literals all i p h =
     ap (λ l. (each_literals i.hypotheses ++ literals_of negative i.goal) ++ l) (no_pairs (terms_in i) (problem_variables all i p h))
@@ -193,7 +193,7 @@ known_gather all (p ∷ ps) [] g k d l = absurd g
 pub hypotheses_gather : (all : List Sum) (ps : List Formula) (rows : List Row) → AreGathered all ps rows → All CanGather (each_literals ps)
 hypotheses_gather all ps rows g = subst (All CanGather) (sym (known_literals all ps rows g)) (known_gather all ps rows g)
 
-pub problem_gathers : (all : List Sum) (i : Implication) (p : Problem) → IsProblemOf all i p → CanBeGathered i
+pub problem_gathers : (all : List Sum) (i : ClosedImplication) (p : Problem) → IsProblemOf all i p → CanBeGathered i
 problem_gathers all i p h =
     subst (All CanGather) (sym (problem_literals all i p h))
     (All-append CanGather (known_comparisons i.hypotheses ++ comparison_as false i.goal ∷ []) []
@@ -201,7 +201,7 @@ problem_gathers all i p h =
     (gathers_one false i.goal h.goal.plain h.goal.fits))
     (λ k d l. absurd (omega arith)))
 
-pub problems_gather : (all : List Sum) (is : List Implication) (ps : List Problem) → AreProblems all is ps → All CanBeGathered is
+pub problems_gather : (all : List Sum) (is : List ClosedImplication) (ps : List Problem) → AreProblems all is ps → All CanBeGathered is
 problems_gather all [] ps h k d l = absurd (omega arith)
 problems_gather all (i ∷ is) (p ∷ ps) h zero d l = problem_gathers all i p h.0
 problems_gather all (i ∷ is) (p ∷ ps) h (suc k) d l = problems_gather all is ps h.1 k d (omega arith)

@@ -2,13 +2,13 @@
 use Rattle.std.specs.Prelude.{◌≡◌, ◌≤◌, ◌+◌, ◌^◌, ℕ, false, List, [], ◌∷◌, All, Some, slice_get, take, unsigned_abs}
 use Rattle.lq_pred.specs.Comparison.{Comparison, CanGather, row_constant}
 use Rattle.lq_pred.specs.Formula.{Formula}
-use Rattle.lq_pred.specs.Implication.{Implication, IsPoint, MeetsEach, IsValid}
+use Rattle.lq_pred.specs.ClosedImplication.{ClosedImplication, IsPoint, MeetsEach, IsValid}
 use Rattle.lq_pred.specs.Literals.{each_literals, implication_literals}
 use Rattle.lq_pred.specs.Points.{Point, Meets}
 use Rattle.lq_pred.specs.Reading.{reading_of, AllFitIn}
 
 -- each literal of the implication can be gathered
-abbrev pub CanBeGathered : Implication → Type 0
+abbrev pub CanBeGathered : ClosedImplication → Type 0
 CanBeGathered i = All CanGather (implication_literals i)
 
 -- the sizes of the constants of the rows, in all
@@ -17,12 +17,12 @@ sizes [] = 0
 sizes (c ∷ cs) = unsigned_abs (row_constant c) + sizes cs
 
 -- the sizes of the constants of the implication's literals, in all
-abbrev pub sizes_of : Implication → ℕ
+abbrev pub sizes_of : ClosedImplication → ℕ
 sizes_of i = sizes (implication_literals i)
 
 -- The implication of this number is the first one that isn't valid: the point meets its hypotheses and its negated goal.
-pub record IsFirstFailing (is : List Implication) (k : ℕ) (p : Point) : Type 0 where
-  pub failing : Implication
+pub record IsFirstFailing (is : List ClosedImplication) (k : ℕ) (p : Point) : Type 0 where
+  pub failing : ClosedImplication
   pub at : slice_get is k ≡ Some failing
   pub gathered : All CanBeGathered is
   pub before : All IsValid (take k is)
@@ -31,8 +31,8 @@ pub record IsFirstFailing (is : List Implication) (k : ℕ) (p : Point) : Type 0
   pub goal : Meets p (reading_of false failing.goal)
 
 -- The implication of this number is the first one with a literal that can't be gathered, and the first such literal is its goal's.
-pub record IsFirstUngathered (is : List Implication) (k : ℕ) (goal : Formula) : Type 0 where
-  pub ungathered : Implication
+pub record IsFirstUngathered (is : List ClosedImplication) (k : ℕ) (goal : Formula) : Type 0 where
+  pub ungathered : ClosedImplication
   pub at : slice_get is k ≡ Some ungathered
   pub earlier : All CanBeGathered (take k is)
   pub hypotheses : All CanGather (each_literals ungathered.hypotheses)
@@ -40,8 +40,8 @@ pub record IsFirstUngathered (is : List Implication) (k : ℕ) (goal : Formula) 
   pub cannot : AllFitIn (reading_of false goal) → ⊥
 
 -- The implication of this number is the first one that wasn't decided: its sizes sum to 2 ^ 126 or more.
-pub record IsFirstLarge (is : List Implication) (k : ℕ) : Type 0 where
-  pub large : Implication
+pub record IsFirstLarge (is : List ClosedImplication) (k : ℕ) : Type 0 where
+  pub large : ClosedImplication
   pub at : slice_get is k ≡ Some large
   pub gathered : All CanBeGathered is
   pub before : All IsValid (take k is)

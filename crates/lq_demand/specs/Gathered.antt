@@ -3,7 +3,7 @@ use Rattle.std.specs.Prelude.{◌≡◌, Bool, true, false, List, [], ◌∷◌,
 use Rattle.lq_linear.specs.Row.{Row}
 use Rattle.lq_pred.specs.Comparison.{Comparison, IsRowOf}
 use Rattle.lq_pred.specs.Formula.{Formula}
-use Rattle.lq_pred.specs.Implication.{Implication}
+use Rattle.lq_pred.specs.ClosedImplication.{ClosedImplication}
 use Rattle.lq_pred.specs.Reading.{reading_of, AllFitIn}
 use Rattle.lq_pred.specs.Sum.{Sum}
 use Rattle.lq_pred.specs.Table.{all_differ}
@@ -30,11 +30,11 @@ AreGathered all (p ∷ ps) (row ∷ rows) = IsGathered all true p row × AreGath
 AreGathered all _ _ = ⊥
 
 -- the problem whether the hypotheses of an implication and its negated goal can hold
-pub record IsProblemOf (all : List Sum) (i : Implication) (p : Problem) : Type 0 where
+pub record IsProblemOf (all : List Sum) (i : ClosedImplication) (p : Problem) : Type 0 where
   pub known : AreGathered all i.hypotheses p.known
   pub goal : IsGathered all false i.goal p.goal
 
-abbrev pub AreProblems : List Sum → List Implication → List Problem → Type 0
+abbrev pub AreProblems : List Sum → List ClosedImplication → List Problem → Type 0
 AreProblems all [] [] = Unit {0}
 AreProblems all (i ∷ is) (p ∷ ps) = IsProblemOf all i p × AreProblems all is ps
 AreProblems all _ _ = ⊥

@@ -1,7 +1,7 @@
 pub mod Straight
 pub mod LinesView
 pub mod Problem
-pub mod Halts
+pub mod StageErrors
 pub mod Plain
 pub mod Solution
 pub mod Gathered

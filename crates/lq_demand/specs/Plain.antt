@@ -6,7 +6,7 @@ use Rattle.lq_pred.specs.Sum.{Sum, whole, var, add, sub}
 use Rattle.lq_pred.specs.Comparison.{Comparison, comparison}
 use Rattle.lq_pred.specs.Formula.{Formula, compare}
 use Rattle.lq_pred.specs.Reading.{Reading, row, reading_of, AllFitIn}
-use Rattle.lq_demand.specs.Straight.{Step, assume, demand}
+use Rattle.lq_demand.specs.Straight.{LineView, assume, demand}
 
 abbrev pub IsVariable : Sum → Type 0
 IsVariable (var x) = Unit {0}
@@ -35,7 +35,7 @@ IsPlainAs sign (compare o a b) = IsOneRow sign o × IsPlain a × IsPlain b
 IsPlainAs sign _ = ⊥
 
 -- A step that can be asked by difference rows. What is assumed can also be gathered.
-abbrev pub IsPlainStep : Step → Type 0
+abbrev pub IsPlainStep : LineView → Type 0
 IsPlainStep (assume p) = IsPlainAs true p × AllFitIn (reading_of true p)
 IsPlainStep (demand p) = IsPlainAs false p
 

@@ -1,22 +1,23 @@
+// The answer of a straight-line list.
 ghost use Rattle.std.specs.Prelude.{◌≡◌, ℕ, Ok, All, IfOk};
 ghost use Rattle.lq_num.specs.Past.{IsPast};
 ghost use Rattle.lq_num.specs.declared.past.NumberPast.{NumberPast};
 ghost use Rattle.lq_point.specs.declared.point.Point.{Point};
-ghost use Rattle.lq_pred.specs.Implication.{IsValid};
+ghost use Rattle.lq_pred.specs.ClosedImplication.{IsValid};
 ghost use Rattle.lq_pred.specs.PredView.{formula_of};
 ghost use Rattle.lq_pred.specs.declared.pred.Pred.{Pred};
 ghost use Rattle.lq_pred.specs.declared.pred.Stop.TheVariants as stop;
 ghost use Rattle.lq_demand.specs.Answer.{CanBeGathered, IsFirstUngathered, IsFirstLarge};
 ghost use Rattle.lq_demand.specs.AskedView.{FailsAt, IsAnswer, StopsBy};
 ghost use Rattle.lq_demand.specs.Deciding.{IsFirstInvalid};
-ghost use Rattle.lq_demand.specs.LinesView.{steps_of};
+ghost use Rattle.lq_demand.specs.LinesView.{lines_view};
 ghost use Rattle.lq_demand.specs.Plain.{IsPlainStep};
 ghost use Rattle.lq_demand.specs.Straight.{implications_of};
 
 use crate::closed::closed_at;
 use crate::deciding::decide;
 use crate::lines::Lines;
-use crate::solve::{Halt, first_open};
+use crate::solve::{StageError, first_open};
 use crate::stage::{StageError, stages_of};
 use lq_point::Point;
 use lq_pred::{Stop, TermTable, rows_say_what_comparisons_say};
@@ -36,12 +37,15 @@ pub enum Asked {
 /// Asks the demands of a straight-line list in order, once all of them are gathered. What is known is put
 /// into one table of distances as it comes, so each demand costs one check of that table.
 pub fn ask(alloc: Global, lines: &Lines) -> Result<Asked, AllocError>
-    requires { All IsPlainStep (steps_of lines.now) }
-    ensures valid { result ≡ Ok Asked.Valid → All IsValid (implications_of (steps_of lines.now)) }
-    ensures gathered { result ≡ Ok Asked.Valid → All CanBeGathered (implications_of (steps_of lines.now)) }
-    ensures fails { (k : ℕ) (p : Point) → result ≡ Ok (Asked.Fails k p) → FailsAt (implications_of (steps_of lines.now)) k p }
-    ensures gather { (k : ℕ) (pred : Pred) → result ≡ Ok (Asked.Stops k (stop.Gather pred)) → IsFirstUngathered (implications_of (steps_of lines.now)) k (formula_of pred) }
-    ensures number { (k : ℕ) (past : NumberPast) → result ≡ Ok (Asked.Stops k (stop.Number past)) → IsPast past × IsFirstLarge (implications_of (steps_of lines.now)) k }
+    requires { All IsPlainStep (lines_view lines.now) }
+    ensures valid { result ≡ Ok Asked.Valid → All IsValid (implications_of (lines_view lines.now)) }
+    ensures gathered { result ≡ Ok Asked.Valid → All CanBeGathered (implications_of (lines_view lines.now)) }
+    ensures fails { (k : ℕ) (p : Point) → result ≡ Ok (Asked.Fails k p)
+        → FailsAt (implications_of (lines_view lines.now)) k p }
+    ensures gather { (k : ℕ) (pred : Pred) → result ≡ Ok (Asked.Stops k (stop.Gather pred))
+        → IsFirstUngathered (implications_of (lines_view lines.now)) k (formula_of pred) }
+    ensures number { (k : ℕ) (past : NumberPast) → result ≡ Ok (Asked.Stops k (stop.Number past))
+        → IsPast past × IsFirstLarge (implications_of (lines_view lines.now)) k }
     ensures pivots { (k n : ℕ) → result ≡ Ok (Asked.Stops k (stop.Pivots n)) → ⊥ }
     ensures memory { (k : ℕ) → result ≡ Ok (Asked.Stops k stop.Memory) → ⊥ }
 {
@@ -49,8 +53,8 @@ pub fn ask(alloc: Global, lines: &Lines) -> Result<Asked, AllocError>
 }
 
 fn answer(alloc: Global, lines: &Lines) -> Result<Asked, AllocError>
-    requires { All IsPlainStep (steps_of lines.now) }
-    ensures { IfOk result (IsAnswer (implications_of (steps_of lines.now))) }
+    requires { All IsPlainStep (lines_view lines.now) }
+    ensures { IfOk result (IsAnswer (implications_of (lines_view lines.now))) }
 {
     rows_say_what_comparisons_say();
     let mut table = TermTable::new(alloc)?;
@@ -70,8 +74,8 @@ fn answer(alloc: Global, lines: &Lines) -> Result<Asked, AllocError>
 
 /// The answer where the demand of this number is the first that doesn't follow.
 fn failing(alloc: Global, lines: &Lines, number: usize) -> Result<Asked, AllocError>
-    requires { IsFirstInvalid (implications_of (steps_of lines.now)) number }
-    ensures { IfOk result (IsAnswer (implications_of (steps_of lines.now))) }
+    requires { IsFirstInvalid (implications_of (lines_view lines.now)) number }
+    ensures { IfOk result (IsAnswer (implications_of (lines_view lines.now))) }
 {
     let closed = closed_at(alloc, lines, number)?;
     match decide(alloc, number, &closed) {
@@ -82,11 +86,11 @@ fn failing(alloc: Global, lines: &Lines, number: usize) -> Result<Asked, AllocEr
 }
 
 /// The answer where a demand isn't decided.
-fn stopped(halt: Halt) -> Result<Asked, AllocError>
+fn stopped(halt: StageError) -> Result<Asked, AllocError>
     ensures { IfOk result (StopsBy halt) }
 {
     match halt {
-        Halt::Number(number, past) => Ok(Asked::Stops(number, Stop::Number(past))),
-        Halt::OutOfMemory => Err(AllocError),
+        StageError::Number(number, past) => Ok(Asked::Stops(number, Stop::Number(past))),
+        StageError::OutOfMemory => Err(AllocError),
     }
 }

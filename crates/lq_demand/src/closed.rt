@@ -1,13 +1,14 @@
+// The implication of a demand, and its rows.
 ghost use Rattle.std.specs.Prelude.{◌≡◌, ◌<◌, ◌++◌, ◌∷◌, [], Some, All, map, true, false, length, slice_get, IfOk, OnOk};
 ghost use Rattle.lq_pred.specs.Reading.{reading_of, formula_numbered, AllFitIn};
 ghost use Rattle.lq_pred.specs.Table.{Extends};
 ghost use Rattle.lq_demand.specs.Gathered.{IsGathered};
 ghost use Rattle.lq_demand.specs.Plain.{IsPlainAs};
 ghost use Rattle.lq_pred.specs.PredView.{formula_of, implication_of};
-ghost use Rattle.lq_pred.specs.Implication.{terms_in};
+ghost use Rattle.lq_pred.specs.ClosedImplication.{terms_in};
 ghost use Rattle.lq_pred.specs.TableView.{terms_of};
 ghost use Rattle.lq_demand.specs.Closed.{IsAskable, IsProblemRows};
-ghost use Rattle.lq_demand.specs.LinesView.{steps_of};
+ghost use Rattle.lq_demand.specs.LinesView.{lines_view};
 ghost use Rattle.lq_demand.specs.Problem.{IsTaken};
 ghost use Rattle.lq_demand.specs.Straight.{implications_of};
 
@@ -19,8 +20,9 @@ use std::alloc::{AllocError, Global};
 
 /// The implication of the demand of this number.
 pub(crate) fn closed_at(alloc: Global, lines: &Lines, number: usize) -> Result<Closed, AllocError>
-    requires { number < length (implications_of (steps_of lines.now)) }
-    ensures { IfOk result (λ closed. slice_get (implications_of (steps_of lines.now)) number ≡ Some (implication_of closed)) }
+    requires { number < length (implications_of (lines_view lines.now)) }
+    ensures { IfOk result (λ closed. slice_get (implications_of (lines_view lines.now)) number
+        ≡ Some (implication_of closed)) }
 {
     let mut hypotheses = Preds::new(alloc)?;
     let mut demands = 0;
@@ -48,7 +50,8 @@ fn row_of(
 ) -> Result<LinearRow, AllocError>
     requires plain { IsPlainAs positive (formula_of pred.now) }
     requires fits { AllFitIn (reading_of positive (formula_of pred.now)) }
-    ensures numbered { OnOk result (terms_of table.new ≡ formula_numbered (terms_of table.old) (formula_of pred.now)) }
+    ensures numbered { OnOk result (terms_of table.new ≡ formula_numbered (terms_of table.old)
+        (formula_of pred.now)) }
     ensures row { IfOk result (IsGathered (terms_of table.new) positive (formula_of pred.now)) }
     ensures taken { IfOk result (IsTaken (length (terms_of table.new))) }
     ensures grows { Extends (terms_of table.old) (terms_of table.new) }
@@ -68,7 +71,8 @@ pub(crate) fn rows_of(
 ) -> Result<Vec<LinearRow>, AllocError>
     requires askable { IsAskable (implication_of closed.now) }
     requires fresh { terms_of table.old ≡ [] }
-    ensures rows { IfOk result (λ rows. IsProblemRows (terms_of table.new) (implication_of closed.now) rows.items) }
+    ensures rows { IfOk result (λ rows. IsProblemRows (terms_of table.new)
+        (implication_of closed.now) rows.items) }
     ensures terms { OnOk result (terms_of table.new ≡ terms_in (implication_of closed.now)) }
     ensures taken { IfOk result (λ rows. All (IsTaken (length (terms_of table.new))) rows.items) }
 {

@@ -1,14 +1,15 @@
+// The point of one implication.
 ghost use Rattle.std.specs.Prelude.{IfOk, IfErr, IfSome, IfNone};
-ghost use Rattle.lq_pred.specs.Implication.{IsValid};
+ghost use Rattle.lq_pred.specs.ClosedImplication.{IsValid};
 ghost use Rattle.lq_pred.specs.PredView.{implication_of};
 ghost use Rattle.lq_demand.specs.Answer.{sizes_of};
 ghost use Rattle.lq_demand.specs.Closed.{IsAskable};
 ghost use Rattle.lq_demand.specs.Deciding.{IsCounterexample};
-ghost use Rattle.lq_demand.specs.Halts.{HaltsAt};
+ghost use Rattle.lq_demand.specs.StageErrors.{IsStageErrorAt};
 
 use crate::closed::rows_of;
 use crate::solution::solution;
-use crate::solve::{Halt, halted};
+use crate::solve::{StageError, halted};
 use indexmap::IndexMap;
 use lq_point::{Point, PointError, PointValues};
 use lq_pred::{Closed, TermTable, rows_say_what_comparisons_say};
@@ -16,11 +17,15 @@ use std::alloc::Global;
 
 /// A point that meets the hypotheses and the negated goal of the implication of this number, where there is
 /// one.
-pub(crate) fn decide(alloc: Global, number: usize, closed: &Closed) -> Result<Option<Point>, Halt>
+pub(crate) fn decide(
+    alloc: Global,
+    number: usize,
+    closed: &Closed,
+) -> Result<Option<Point>, StageError>
     requires { IsAskable (implication_of closed.now) }
     ensures some { IfOk result (λ found. IfSome found (IsCounterexample (implication_of closed.now))) }
     ensures none { IfOk result (λ found. IfNone found (IsValid (implication_of closed.now))) }
-    ensures halt { IfErr result (HaltsAt number (sizes_of (implication_of closed.now))) }
+    ensures halt { IfErr result (IsStageErrorAt number (sizes_of (implication_of closed.now))) }
 {
     rows_say_what_comparisons_say();
     let mut table = TermTable::new(alloc)?;
@@ -34,7 +39,7 @@ pub(crate) fn decide(alloc: Global, number: usize, closed: &Closed) -> Result<Op
     match Point::new(alloc, values, closed) {
         Ok(Some(point)) => Ok(Some(point)),
         Ok(None) => unreachable!(),
-        Err(PointError::Past(past)) => Err(Halt::Number(number, past)),
-        Err(PointError::Memory) => Err(Halt::OutOfMemory),
+        Err(PointError::Past(past)) => Err(StageError::Number(number, past)),
+        Err(PointError::Memory) => Err(StageError::OutOfMemory),
     }
 }

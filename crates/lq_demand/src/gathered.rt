@@ -1,3 +1,4 @@
+// The row of a plain comparison.
 ghost use Rattle.std.specs.Prelude.{◌≡◌, length, IfOk, OnOk, IfSome, IfNone, IsErrOf};
 ghost use Rattle.lq_linear.specs.Row.{Row};
 ghost use Rattle.lq_pred.specs.NnfView.{nnf_view};
@@ -33,10 +34,12 @@ pub(crate) fn gathered(
     table: &mut TermTable,
 ) -> Result<LinearRow, GatherError>
     requires { IsPlainAs positive (formula_of pred.now) }
-    ensures numbered { OnOk result (terms_of table.new ≡ formula_numbered (terms_of table.old) (formula_of pred.now)) }
+    ensures numbered { OnOk result (terms_of table.new ≡ formula_numbered (terms_of table.old)
+        (formula_of pred.now)) }
     ensures row { IfOk result (IsGathered (terms_of table.new) positive (formula_of pred.now)) }
     ensures taken { IfOk result (IsTaken (length (terms_of table.new))) }
-    ensures past { IsErrOf result GatherError.Past → AllFitIn (reading_of positive (formula_of pred.now)) → ⊥ }
+    ensures past { IsErrOf result GatherError.Past → AllFitIn (reading_of positive (formula_of pred.now))
+        → ⊥ }
     ensures grows { Extends (terms_of table.old) (terms_of table.new) }
 {
     let reading = tighten(alloc, pred, positive, table)?;

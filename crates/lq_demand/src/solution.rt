@@ -1,3 +1,4 @@
+// Values that solve difference rows.
 ghost use Rattle.std.specs.Prelude.{◌≡◌, ℕ, All, IfOk, IfErr, IfSome, IfNone};
 ghost use Rattle.lq_linear.specs.Row.{Valuation};
 ghost use Rattle.lq_linear.specs.Answers.{Held};

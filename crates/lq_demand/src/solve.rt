@@ -1,10 +1,11 @@
+// Stages asked in order by one table of distances.
 ghost use Rattle.std.specs.Prelude.{◌≡◌, ◌≢◌, ◌+◌, ◌<◌, ◌≤◌, ◌^◌, ℕ, List, [], ◌++◌, ◌∷◌, All, Some, length, slice_get, IfOk, IfErr, IfSome, IfNone, OnOk, MatchBool};
 ghost use Rattle.lq_linear.specs.Row.{Row};
 ghost use Rattle.lq_diff.specs.Stops.{StopsBy};
 ghost use Rattle.lq_diff.specs.Table.{table_rows, table_last, table_limits};
 ghost use Rattle.lq_demand.specs.Problem.{Problem, IsSolvable, IsTaken, IsGoing, IsStageTaken, row_sizes, problem_sizes, problem_after, problems_of, count_of};
-ghost use Rattle.lq_demand.specs.Halts.{HaltsAt, HaltsBy, NoneBefore, IsFirstSolvable};
-ghost use Rattle.lq_demand.specs.declared.solve.Halt.TheVariants.{OutOfMemory};
+ghost use Rattle.lq_demand.specs.StageErrors.{IsStageErrorAt, IsStageErrorOf, NoneBefore, IsFirstSolvable};
+ghost use Rattle.lq_demand.specs.declared.solve.StageError.TheVariants.{OutOfMemory};
 
 use crate::stage::Stage;
 use lq_diff::DistanceTable;
@@ -14,17 +15,17 @@ use std::alloc::{AllocError, Global};
 
 /// Why stages aren't decided.
 #[derive(Drop)]
-pub(crate) enum Halt {
+pub(crate) enum StageError {
     /// The stage of this number, by an operation without a form of 128 bits.
     Number(usize, NumberPast),
     OutOfMemory,
 }
 
-impl From<AllocError> for Halt {
+impl From<AllocError> for StageError {
     ghost from_gives = { λ _ e. e ≡ OutOfMemory };
 
-    fn from(_e: AllocError) -> Halt {
-        Halt::OutOfMemory
+    fn from(_e: AllocError) -> StageError {
+        StageError::OutOfMemory
     }
 }
 
@@ -52,8 +53,10 @@ fn is_open(engine: &mut DistanceTable, stage: &Stage) -> Result<bool, LinearStop
     requires going { IsGoing engine.old known }
     requires taken { IsStageTaken engine.old.terms stage.now }
     requires room { length known + length stage.now.assumed.items < engine.old.rows }
-    ensures solvable { IfOk result (λ can. MatchBool can (IsSolvable (problem_after known stage.now)) (IsSolvable (problem_after known stage.now) → ⊥)) }
-    ensures going { IfOk result (λ can. MatchBool can (Unit {0}) (IsGoing engine.new (known ++ stage.now.assumed.items))) }
+    ensures solvable { IfOk result (λ can. MatchBool can (IsSolvable (problem_after known stage.now))
+        (IsSolvable (problem_after known stage.now) → ⊥)) }
+    ensures going { IfOk result (λ can. MatchBool can (Unit {0})
+        (IsGoing engine.new (known ++ stage.now.assumed.items))) }
     ensures stop { IfErr result (λ stop. StopsBy (problem_sizes (problem_after known stage.now)) stop) }
     ensures limits { table_limits engine.new ≡ table_limits engine.old }
 {
@@ -71,12 +74,12 @@ fn is_open(engine: &mut DistanceTable, stage: &Stage) -> Result<bool, LinearStop
 }
 
 /// Why this stage isn't decided. A table of distances never answers `Pivots`.
-pub(crate) fn halted(stage: usize, stop: LinearStop) -> Halt
-    ensures { (n : ℕ) → StopsBy n stop → HaltsAt stage n result }
+pub(crate) fn halted(stage: usize, stop: LinearStop) -> StageError
+    ensures { (n : ℕ) → StopsBy n stop → IsStageErrorAt stage n result }
 {
     match stop {
-        LinearStop::Number(past) => Halt::Number(stage, past),
-        LinearStop::Pivots(_) | LinearStop::Memory => Halt::OutOfMemory,
+        LinearStop::Number(past) => StageError::Number(stage, past),
+        LinearStop::Pivots(_) | LinearStop::Memory => StageError::OutOfMemory,
     }
 }
 
@@ -86,12 +89,13 @@ pub(crate) fn first_open(
     terms: u64,
     rows: u64,
     stages: &[Stage],
-) -> Result<Option<usize>, Halt>
+) -> Result<Option<usize>, StageError>
     requires taken { All (IsStageTaken terms) stages.now }
     requires room { count_of stages.now ≤ rows }
-    ensures none { IfOk result (λ first. IfNone first (NoneBefore (problems_of stages.now) (length stages.now))) }
+    ensures none { IfOk result (λ first. IfNone first
+        (NoneBefore (problems_of stages.now) (length stages.now))) }
     ensures some { IfOk result (λ first. IfSome first (IsFirstSolvable (problems_of stages.now))) }
-    ensures halt { IfErr result (HaltsBy (problems_of stages.now)) }
+    ensures halt { IfErr result (IsStageErrorOf (problems_of stages.now)) }
 {
     let mut engine = DistanceTable::new(alloc, terms, rows)?;
     for (k, stage) in stages.iter().enumerate() {

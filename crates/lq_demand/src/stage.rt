@@ -1,14 +1,15 @@
+// Lists gathered into stages.
 ghost use Rattle.std.specs.Prelude.{◌≡◌, ◌≤◌, ◌++◌, ◌∷◌, [], List, All, length, false, true, IfOk, IfErr, OnOk};
 ghost use Rattle.lq_pred.specs.PredView.{formula_of};
 ghost use Rattle.lq_pred.specs.Reading.{reading_of, AllFitIn};
 ghost use Rattle.lq_pred.specs.TableView.{terms_of};
 ghost use Rattle.lq_demand.specs.Answer.{IsFirstUngathered};
 ghost use Rattle.lq_demand.specs.Gathered.{AreProblems};
-ghost use Rattle.lq_demand.specs.LinesView.{line_items, steps_of};
+ghost use Rattle.lq_demand.specs.LinesView.{line_items, lines_view};
 ghost use Rattle.lq_demand.specs.Plain.{IsPlainAs, IsPlainStep};
 ghost use Rattle.lq_demand.specs.Problem.{IsStageTaken, problems_of, count_of};
 ghost use Rattle.lq_demand.specs.Staging.{IsStaging, IsPastAt, IsUngathered};
-ghost use Rattle.lq_demand.specs.Straight.{Step, assume, demand, implications_of};
+ghost use Rattle.lq_demand.specs.Straight.{LineView, assume, demand, implications_of};
 ghost use Rattle.lq_demand.specs.declared.stage.StageError.TheVariants.{OutOfMemory};
 
 use crate::gathered::gathered;
@@ -65,7 +66,8 @@ impl Staging {
     ) -> Result<(), StageError>
         requires plain { IsPlainAs true (formula_of pred.now) }
         requires fits { AllFitIn (reading_of true (formula_of pred.now)) }
-        ensures ok { OnOk result ((steps : List Step) → IsStaging (terms_of table.old) steps self.old → IsStaging (terms_of table.new) (steps ++ assume (formula_of pred.now) ∷ []) self.new) }
+        ensures ok { OnOk result ((steps : List LineView) → IsStaging (terms_of table.old) steps self.old
+            → IsStaging (terms_of table.new) (steps ++ assume (formula_of pred.now) ∷ []) self.new) }
         ensures err { IfErr result (λ e. e ≡ OutOfMemory) }
     {
         match gathered(alloc, pred, true, table) {
@@ -85,7 +87,8 @@ impl Staging {
         table: &mut TermTable,
     ) -> Result<(), StageError>
         requires { IsPlainAs false (formula_of pred.now) }
-        ensures ok { OnOk result ((steps : List Step) → IsStaging (terms_of table.old) steps self.old → IsStaging (terms_of table.new) (steps ++ demand (formula_of pred.now) ∷ []) self.new) }
+        ensures ok { OnOk result ((steps : List LineView) → IsStaging (terms_of table.old) steps self.old
+            → IsStaging (terms_of table.new) (steps ++ demand (formula_of pred.now) ∷ []) self.new) }
         ensures past { IfErr result (λ e. IsPastAt (length self.old.stages.items) (formula_of pred.now) e) }
     {
         match gathered(alloc, pred, false, table) {
@@ -106,11 +109,12 @@ pub(crate) fn stages_of(
     lines: &Lines,
     table: &mut TermTable,
 ) -> Result<Vec<Stage>, StageError>
-    requires { All IsPlainStep (steps_of lines.now) }
-    ensures problems { IfOk result (λ stages. AreProblems (terms_of table.new) (implications_of (steps_of lines.now)) (problems_of stages.items)) }
+    requires { All IsPlainStep (lines_view lines.now) }
+    ensures problems { IfOk result (λ stages. AreProblems (terms_of table.new)
+        (implications_of (lines_view lines.now)) (problems_of stages.items)) }
     ensures taken { IfOk result (λ stages. All (IsStageTaken (length (terms_of table.new))) stages.items) }
     ensures count { IfOk result (λ stages. count_of stages.items ≤ length (line_items lines.now)) }
-    ensures past { IfErr result (IsUngathered (implications_of (steps_of lines.now))) }
+    ensures past { IfErr result (IsUngathered (implications_of (lines_view lines.now))) }
 {
     let mut staging = Staging {
         stages: Vec::new(alloc),

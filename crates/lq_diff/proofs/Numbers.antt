@@ -7,7 +7,7 @@ use Rattle.std.specs.Int.{w128}
 use Rattle.std.proofs.lemmas.Int.{ints}
 use Rattle.std.proofs.lemmas.Bool.{cases_lt}
 use Rattle.std.proofs.Math.Nat.{dvd-mul_left}
-use Rattle.lq_math.specs.Forms.{HasNoFormBy, HasNoFormBy-from}
+use Rattle.lq_math.specs.NumberForms.{HasNoFormBy, HasNoFormBy-from}
 use Rattle.lq_math.specs.Lcm.{IsLcm}
 
 one_one : IsLcm 1 1 1

@@ -1,3 +1,4 @@
+// The negative cycle behind a pass that fails.
 ghost use Rattle.std.specs.Prelude.{◌≡◌, ℕ, ◌<◌, length, IfOk};
 ghost use Rattle.lq_diff.specs.Passes.{vertex_at, order_at, AllInRange, IsStuck};
 ghost use Rattle.lq_diff.specs.Cycles.{IsNegativeCycle, ArePaired};

@@ -9,4 +9,3 @@ mod solve;
 mod table;
 
 pub use table::DistanceTable;
-

@@ -1,3 +1,4 @@
+// Sums and differences of whole numbers, refused past 128 bits.
 ghost use Rattle.std.specs.Prelude.{◌≡◌, ◌+ℤ◌, ◌-ℤ◌, FitsSigned, IfOk, IfErr};
 ghost use Rattle.std.specs.Int.{w128};
 ghost use Rattle.lq_diff.specs.Stops.{IsWholePast};

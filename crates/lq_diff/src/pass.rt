@@ -1,3 +1,4 @@
+// A pass: vertices fall to the offers that reach them.
 ghost use Rattle.std.specs.Prelude.{◌≡◌, ℕ, List, [], ◌∷◌, ◌++◌, ◌<◌, ◌≤◌, ◌^◌, length, IfOk, IfErr, IfSome, IfNone};
 ghost use Rattle.lq_diff.specs.Passes.{vertex_at, order_at, values, nexts, AllInRange, IsPass, IsSized, IsLeast, NoneFalls, IsNext, IsStuck, IsNarrow, Falls};
 ghost use Rattle.lq_diff.specs.Arcs.{Meets};
@@ -12,10 +13,14 @@ use lq_num::NumberPast;
 fn least(vertices: &[Vertex], order: &[u64]) -> Result<Option<usize>, NumberPast>
     requires { length order.now ≡ length vertices.now }
     ensures inside { IfOk result (λ found. IfSome found (λ v. v < length vertices.now)) }
-    ensures some { IfOk result (λ found. IfSome found (λ v. IsLeast (vertex_at vertices.now) (order_at order.now) v)) }
-    ensures none { IfOk result (λ found. IfNone found (NoneFalls (vertex_at vertices.now) (order_at order.now))) }
+    ensures some { IfOk result (λ found. IfSome found
+        (λ v. IsLeast (vertex_at vertices.now) (order_at order.now) v)) }
+    ensures none { IfOk result (λ found. IfNone found
+        (NoneFalls (vertex_at vertices.now) (order_at order.now))) }
     ensures past { IfErr result (λ e. IsWholePast e) }
-    ensures large { IfErr result (λ _. (arcs : List Arc) (top gap count n : ℕ) → IsPass arcs top gap (vertex_at vertices.now) (order_at order.now) count top 0 → gap ≤ n → 2 ^ 126 ≤ n) }
+    ensures large { IfErr result (λ _. (arcs : List Arc) (top gap count n : ℕ)
+        → IsPass arcs top gap (vertex_at vertices.now) (order_at order.now) count top 0 → gap ≤ n
+        → 2 ^ 126 ≤ n) }
 {
     let mut lowest = 0;
     let mut found = 0;
@@ -60,10 +65,16 @@ fn relax(
     requires top_in { top < length vertices.old }
     requires settled { 0 < order_at order.now at }
     ensures kept { (v : ℕ) → values (vertex_at vertices.new) v ≡ values (vertex_at vertices.old) v }
-    ensures offered { IfOk result (λ closing. IfNone closing ((gap count : ℕ) → IsPass arcs.now top gap (vertex_at vertices.old) (order_at order.now) count at 0 → IsPass arcs.now top gap (vertex_at vertices.new) (order_at order.now) count top 0)) }
-    ensures stuck { IfOk result (λ closing. IfSome closing (λ k. (gap count : ℕ) → IsPass arcs.now top gap (vertex_at vertices.old) (order_at order.now) count at 0 → IsStuck arcs.now top k (vertex_at vertices.new) (order_at order.now))) }
+    ensures offered { IfOk result (λ closing. IfNone closing ((gap count : ℕ)
+        → IsPass arcs.now top gap (vertex_at vertices.old) (order_at order.now) count at 0
+        → IsPass arcs.now top gap (vertex_at vertices.new) (order_at order.now) count top 0)) }
+    ensures stuck { IfOk result (λ closing. IfSome closing (λ k. (gap count : ℕ)
+        → IsPass arcs.now top gap (vertex_at vertices.old) (order_at order.now) count at 0
+        → IsStuck arcs.now top k (vertex_at vertices.new) (order_at order.now))) }
     ensures past { IfErr result (λ e. IsWholePast e) }
-    ensures large { IfErr result (λ _. (gap count n : ℕ) → IsPass arcs.now top gap (vertex_at vertices.old) (order_at order.now) count at 0 → IsSized n gap arcs.now (values (vertex_at vertices.old)) → 2 ^ 126 ≤ n) }
+    ensures large { IfErr result (λ _. (gap count n : ℕ)
+        → IsPass arcs.now top gap (vertex_at vertices.old) (order_at order.now) count at 0
+        → IsSized n gap arcs.now (values (vertex_at vertices.old)) → 2 ^ 126 ≤ n) }
 {
     for (k, arc) in arcs.iter().enumerate() {
         if arc.from == at {
@@ -93,10 +104,16 @@ fn settle(
     requires top_in { top < length vertices.old }
     requires unsettled { (v : ℕ) → order_at order.old v ≡ 0 }
     ensures kept { (v : ℕ) → values (vertex_at vertices.new) v ≡ values (vertex_at vertices.old) v }
-    ensures next { IfOk result (λ closing. IfNone closing ((gap : ℕ) → IsPass arcs.now top gap (vertex_at vertices.old) (order_at order.old) 0 top 0 → IsNext arcs.now (values (vertex_at vertices.old)) (nexts (vertex_at vertices.new)))) }
-    ensures stuck { IfOk result (λ closing. IfSome closing (λ k. (gap : ℕ) → IsPass arcs.now top gap (vertex_at vertices.old) (order_at order.old) 0 top 0 → IsStuck arcs.now top k (vertex_at vertices.new) (order_at order.new))) }
+    ensures next { IfOk result (λ closing. IfNone closing ((gap : ℕ)
+        → IsPass arcs.now top gap (vertex_at vertices.old) (order_at order.old) 0 top 0
+        → IsNext arcs.now (values (vertex_at vertices.old)) (nexts (vertex_at vertices.new)))) }
+    ensures stuck { IfOk result (λ closing. IfSome closing (λ k. (gap : ℕ)
+        → IsPass arcs.now top gap (vertex_at vertices.old) (order_at order.old) 0 top 0
+        → IsStuck arcs.now top k (vertex_at vertices.new) (order_at order.new))) }
     ensures past { IfErr result (λ e. IsWholePast e) }
-    ensures large { IfErr result (λ _. (gap n : ℕ) → IsPass arcs.now top gap (vertex_at vertices.old) (order_at order.old) 0 top 0 → IsSized n gap arcs.now (values (vertex_at vertices.old)) → 2 ^ 126 ≤ n) }
+    ensures large { IfErr result (λ _. (gap n : ℕ)
+        → IsPass arcs.now top gap (vertex_at vertices.old) (order_at order.old) 0 top 0
+        → IsSized n gap arcs.now (values (vertex_at vertices.old)) → 2 ^ 126 ≤ n) }
 {
     let mut count = 0;
     loop {
@@ -144,10 +161,16 @@ pub(crate) fn admit(
     requires some { 0 < length arcs.now }
     requires in_range { AllInRange arcs.now (length vertices.old) }
     requires same { length order.old ≡ length vertices.old }
-    ensures next { IfOk result (λ closing. IfNone closing ((front : List Arc) (last : Arc) → arcs.now ≡ front ++ last ∷ [] → Meets (values (vertex_at vertices.old)) front → IsNext arcs.now (values (vertex_at vertices.old)) (values (vertex_at vertices.new)))) }
-    ensures stuck { IfOk result (λ closing. IfSome closing (λ k. (front : List Arc) (last : Arc) → arcs.now ≡ front ++ last ∷ [] → Meets (values (vertex_at vertices.old)) front → IsStuck arcs.now last.from k (vertex_at vertices.new) (order_at order.new))) }
+    ensures next { IfOk result (λ closing. IfNone closing ((front : List Arc) (last : Arc)
+        → arcs.now ≡ front ++ last ∷ [] → Meets (values (vertex_at vertices.old)) front
+        → IsNext arcs.now (values (vertex_at vertices.old)) (values (vertex_at vertices.new)))) }
+    ensures stuck { IfOk result (λ closing. IfSome closing (λ k. (front : List Arc) (last : Arc)
+        → arcs.now ≡ front ++ last ∷ [] → Meets (values (vertex_at vertices.old)) front
+        → IsStuck arcs.now last.from k (vertex_at vertices.new) (order_at order.new))) }
     ensures past { IfErr result (λ e. IsWholePast e) }
-    ensures large { IfErr result (λ _. (front : List Arc) (last : Arc) (m n : ℕ) → arcs.now ≡ front ++ last ∷ [] → IsNarrow m n front last (values (vertex_at vertices.old)) → 2 ^ 126 ≤ n) }
+    ensures large { IfErr result (λ _. (front : List Arc) (last : Arc) (m n : ℕ)
+        → arcs.now ≡ front ++ last ∷ [] → IsNarrow m n front last (values (vertex_at vertices.old))
+        → 2 ^ 126 ≤ n) }
 {
     let number = arcs.len() - 1;
     let last = arcs[number];

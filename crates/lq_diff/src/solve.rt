@@ -1,3 +1,4 @@
+// Arcs admitted one by one.
 ghost use Rattle.std.specs.Prelude.{◌≡◌, ◌≢◌, ℕ, pos, true, false, ◌+◌, ◌<◌, ◌≤◌, ◌^◌, ◌+ℤ◌, FitsSigned, length, IfOk, IfErr, IfSome, IfNone};
 ghost use Rattle.std.specs.Int.{w128};
 ghost use Rattle.lq_diff.specs.Passes.{vertex_at, order_at, values, AllInRange};
@@ -58,10 +59,13 @@ fn placing(arcs: &[Arc], at: usize, touched: &[bool]) -> Option<Arc>
 fn place(vertices: &mut [Vertex], arc: Arc) -> Result<(), NumberPast>
     requires from_in { arc.from < length vertices.old }
     requires to_in { arc.to < length vertices.old }
-    ensures here { IfOk result (λ _. values (vertex_at vertices.new) arc.to ≡ values (vertex_at vertices.old) arc.from +ℤ arc.cost) }
-    ensures others { IfOk result (λ _. (v : ℕ) → v ≢ arc.to → values (vertex_at vertices.new) v ≡ values (vertex_at vertices.old) v) }
+    ensures here { IfOk result (λ _. values (vertex_at vertices.new) arc.to
+        ≡ values (vertex_at vertices.old) arc.from +ℤ arc.cost) }
+    ensures others { IfOk result (λ _. (v : ℕ) → v ≢ arc.to
+        → values (vertex_at vertices.new) v ≡ values (vertex_at vertices.old) v) }
     ensures past { IfErr result (λ e. IsWholePast e) }
-    ensures large { IfErr result (λ _. ¬ (FitsSigned w128 (values (vertex_at vertices.old) arc.from +ℤ arc.cost))) }
+    ensures large { IfErr result (λ _. ¬ (FitsSigned w128
+        (values (vertex_at vertices.old) arc.from +ℤ arc.cost))) }
 {
     let value = sum(vertices[arc.from].value, arc.cost)?;
     let vertex = &mut vertices[arc.to];
@@ -73,7 +77,8 @@ fn place(vertices: &mut [Vertex], arc: Arc) -> Result<(), NumberPast>
 fn touch(touched: &mut [bool], arc: Arc)
     requires from_in { arc.from < length touched.old }
     requires to_in { arc.to < length touched.old }
-    ensures { (v : ℕ) → touched_at touched.new v ≡ false → (touched_at touched.old v ≡ false) × (arc.from ≢ v) × (arc.to ≢ v) }
+    ensures { (v : ℕ) → touched_at touched.new v ≡ false → (touched_at touched.old v ≡ false)
+        × (arc.from ≢ v) × (arc.to ≢ v) }
 {
     touched[arc.from] = true;
     touched[arc.to] = true;
@@ -91,8 +96,10 @@ pub(crate) fn solve(
     requires in_range { AllInRange arcs.now (length vertices.old) }
     requires same { length order.old ≡ length vertices.old }
     requires marks { length touched.old ≡ length vertices.old }
-    ensures solved { IfOk result (λ closing. IfNone closing (IsSolved arcs.now (values (vertex_at vertices.new)))) }
-    ensures ended { IfOk result (λ closing. IfSome closing (λ k. IsEnded arcs.now k (vertex_at vertices.new) (order_at order.new))) }
+    ensures solved { IfOk result (λ closing. IfNone closing
+        (IsSolved arcs.now (values (vertex_at vertices.new)))) }
+    ensures ended { IfOk result (λ closing. IfSome closing (λ k. IsEnded arcs.now k (vertex_at vertices.new)
+        (order_at order.new))) }
     ensures past { IfErr result (λ e. IsWholePast e) }
     ensures large { IfErr result (λ _. (n : ℕ) → IsBounded n arcs.now → 2 ^ 126 ≤ n) }
 {

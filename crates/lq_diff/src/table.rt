@@ -1,3 +1,4 @@
+// The table of distances: an engine of difference rows.
 ghost use Rattle.std.specs.Prelude.{◌≡◌, ℕ, ℤ, pos, List, [], ◌∷◌, ◌++◌, ◌<◌, ◌≤◌, ◌^◌, ◌+◌, ◌-◌, ◌-ℤ◌, length, slice_index, unsigned_abs, negsuc, if◌then◌else◌, IfOk, IfErr, IfSome, IfNone};
 ghost use Rattle.lq_math.specs.Rational.{whole};
 ghost use Rattle.lq_num.specs.Value.{value_of};
@@ -122,7 +123,9 @@ fn arcs(alloc: Global, edges: &[Edge]) -> Result<Vec<Arc>, LinearStop>
 fn measure(vertices: &mut [Vertex]) -> Result<(), NumberPast>
     requires { 0 < length vertices.old }
     ensures kept { (v : ℕ) → values (vertex_at vertices.new) v ≡ values (vertex_at vertices.old) v }
-    ensures measured { IfOk result (λ _. (v : ℕ) → v < length vertices.old → nexts (vertex_at vertices.new) v ≡ values (vertex_at vertices.old) v -ℤ values (vertex_at vertices.old) 0) }
+    ensures measured { IfOk result (λ _. (v : ℕ) → v < length vertices.old
+        → nexts (vertex_at vertices.new) v ≡ values (vertex_at vertices.old) v -ℤ values
+        (vertex_at vertices.old) 0) }
     ensures past { IfErr result (λ e. IsWholePast e) }
     ensures large { IfErr result (λ _. (n : ℕ) → InRange (values (vertex_at vertices.old)) n → 2 ^ 126 ≤ n) }
 {
@@ -148,7 +151,8 @@ fn decide(
     requires same { length order.old ≡ length vertices.old }
     requires apart { TagsApart edges.now }
     ensures solved { IfOk result (λ found. IfNone found (IsAnswer (arcs_of edges.now) vertices.new)) }
-    ensures contradicted { IfOk result (λ found. IfSome found (λ steps. IsNegativeCycle (arcs_of edges.now) steps.items)) }
+    ensures contradicted { IfOk result (λ found. IfSome found
+        (λ steps. IsNegativeCycle (arcs_of edges.now) steps.items)) }
     ensures stop { IfErr result (λ stop. StopsBy (sizes edges.now) stop) }
 {
     let arcs = arcs(alloc, edges)?;
@@ -213,8 +217,11 @@ impl DistanceTable {
     /// constants that stand sum to.
     pub fn values_are_near(&self)
         requires { table_last self.now ≡ Held }
-        ensures value { (term : ℕ) → term < slice_index (table_limits self.now) 0 → unsigned_abs (value_at self.now term) ≤ constants (table_rows self.now) }
-        ensures difference { (s t : ℕ) → s < slice_index (table_limits self.now) 0 → t < slice_index (table_limits self.now) 0 → unsigned_abs (value_at self.now s -ℤ value_at self.now t) ≤ constants (table_rows self.now) }
+        ensures value { (term : ℕ) → term < slice_index (table_limits self.now) 0
+            → unsigned_abs (value_at self.now term) ≤ constants (table_rows self.now) }
+        ensures difference { (s t : ℕ) → s < slice_index (table_limits self.now) 0
+            → t < slice_index (table_limits self.now) 0
+            → unsigned_abs (value_at self.now s -ℤ value_at self.now t) ≤ constants (table_rows self.now) }
     {
         let _ = &self.edges;
     }

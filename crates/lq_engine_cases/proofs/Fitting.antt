@@ -5,7 +5,7 @@ use Rattle.std.proofs.lemmas.List.Elements.{All-append, All-cons, All-nil}
 use Rattle.lq_pred.specs.Sum.{Sum}
 use Rattle.lq_pred.specs.Comparison.{Comparison, CanGather}
 use Rattle.lq_pred.specs.Formula.{Formula, truth, falsity, flag, compare, objects, negation, conjunction, disjunction, equivalence}
-use Rattle.lq_pred.specs.Implication.{Implication, terms_in}
+use Rattle.lq_pred.specs.ClosedImplication.{ClosedImplication, terms_in}
 use Rattle.lq_pred.specs.Literals.{Signs, positive, negative, both, comparisons_of, comparisons_in, literals_of, each_literals, equal_row, below_row, condition_rows, pair_rows, rows_with, all_pairs, implication_literals}
 use Rattle.lq_pred.specs.Reading.{Reading, Readings, yes, no, row, flag_is, objects_are, all_of, any_of, none, more, reading_of, comparison_reading, AllFitIn, EachFits}
 use Rattle.lq_engine_cases.specs.Askable.{SidesFit, EarlierFit}
@@ -103,7 +103,7 @@ pub pairs_fit : (ts : List Sum) → ((n : ℕ) → n < length ts → EarlierFit 
 pairs_fit ts h = each_pair_fit ts (λ i j s t l e f. h j (slice_get_within ts j t f) i s t l e f)
 
 -- the literals of the implication
-pub implication_fits : (i : Implication) → All (λ p. AllFitIn (reading_of true p)) i.hypotheses → AllFitIn (reading_of false i.goal)
+pub implication_fits : (i : ClosedImplication) → All (λ p. AllFitIn (reading_of true p)) i.hypotheses → AllFitIn (reading_of false i.goal)
     → All CanGather (all_pairs (terms_in i)) → All CanGather (implication_literals i)
 implication_fits i hypotheses goal pairs =
     All-append CanGather (each_literals i.hypotheses ++ literals_of negative i.goal) (all_pairs (terms_in i))

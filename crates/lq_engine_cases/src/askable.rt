@@ -18,7 +18,8 @@ fn row_fits(
     added: i128,
     equal: bool,
 ) -> Result<bool, AllocError>
-    ensures { IfOk result (λ fits. IsTrue fits → CanGather (comparison (sum_of left.now) (sum_of right.now) added equal)) }
+    ensures { IfOk result (λ fits. IsTrue fits → CanGather
+        (comparison (sum_of left.now) (sum_of right.now) added equal)) }
 {
     let mut table = TermTable::new(alloc)?;
     match gather(alloc, left, right, added, equal, &mut table) {
@@ -51,7 +52,8 @@ fn arguments_fit(
     right_first: &Term,
     right_second: &Term,
 ) -> Result<bool, AllocError>
-    ensures { IfOk result (λ fits. IsTrue fits → All CanGather (condition_rows (sum_of left.now) (sum_of left_first.now) (sum_of left_second.now)
+    ensures { IfOk result (λ fits. IsTrue fits → All CanGather
+        (condition_rows (sum_of left.now) (sum_of left_first.now) (sum_of left_second.now)
         (sum_of right.now) (sum_of right_first.now) (sum_of right_second.now))) }
 {
     if !sides_fit(alloc, left_first, right_first)? {
@@ -65,7 +67,8 @@ fn arguments_fit(
 
 // The rows of the condition on two terms.
 fn pair_fits(alloc: Global, left: &Term, right: &Term) -> Result<bool, AllocError>
-    ensures { IfOk result (λ fits. IsTrue fits → All CanGather (pair_rows (sum_of left.now) (sum_of right.now))) }
+    ensures { IfOk result (λ fits. IsTrue fits → All CanGather
+        (pair_rows (sum_of left.now) (sum_of right.now))) }
 {
     match left {
         Term::Mul(a, b) => match right {
@@ -131,7 +134,8 @@ pub(crate) fn reading_fits(alloc: Global, pred: &Pred, positive: bool) -> Result
 }
 
 fn readings_fit(alloc: Global, preds: &[Pred]) -> Result<bool, AllocError>
-    ensures { IfOk result (λ fits. IsTrue fits → All (λ p. AllFitIn (reading_of true (formula_of p))) preds.now) }
+    ensures { IfOk result (λ fits. IsTrue fits → All
+        (λ p. AllFitIn (reading_of true (formula_of p))) preds.now) }
 {
     for pred in preds {
         if !reading_fits(alloc, pred, true)? {
@@ -143,7 +147,8 @@ fn readings_fit(alloc: Global, preds: &[Pred]) -> Result<bool, AllocError>
 
 // Whether each literal of the implication can be gathered.
 pub(crate) fn all_fit(alloc: Global, implication: &Closed) -> Result<bool, AllocError>
-    ensures { IfOk result (λ fits. IsTrue fits → All CanGather (implication_literals (implication_of implication.now))) }
+    ensures { IfOk result (λ fits. IsTrue fits → All CanGather
+        (implication_literals (implication_of implication.now))) }
 {
     if !readings_fit(alloc, implication.hypotheses.as_slice())? {
         return Ok(false);

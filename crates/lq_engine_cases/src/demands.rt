@@ -3,7 +3,7 @@ ghost use Rattle.std.specs.Prelude.{IsTrue, All, IfOk, OnOk};
 ghost use Rattle.lq_pred.specs.PredView.{formula_of};
 ghost use Rattle.lq_pred.specs.Reading.{reading_of, AllFitIn};
 ghost use Rattle.lq_pred.specs.TermView.{sum_of};
-ghost use Rattle.lq_demand.specs.LinesView.{step_of, steps_of};
+ghost use Rattle.lq_demand.specs.LinesView.{line_view, lines_view};
 ghost use Rattle.lq_demand.specs.Plain.{IsVariable, IsWhole, IsOneRow, IsPlain, IsPlainAs, IsPlainStep};
 
 use crate::askable::reading_fits;
@@ -74,7 +74,7 @@ fn is_plain_as(positive: bool, pred: &Pred) -> bool
 
 /// What is known, if it can be asked about.
 fn known(alloc: Global, pred: Pred) -> Result<Line, CaseError>
-    ensures { IfOk result (λ l. IsPlainStep (step_of l)) }
+    ensures { IfOk result (λ l. IsPlainStep (line_view l)) }
 {
     if !is_plain_as(true, &pred) {
         return Err(CaseError::NotACase);
@@ -87,7 +87,7 @@ fn known(alloc: Global, pred: Pred) -> Result<Line, CaseError>
 
 /// What is asked, if it can be.
 fn demanded(pred: Pred) -> Result<Line, CaseError>
-    ensures { IfOk result (λ l. IsPlainStep (step_of l)) }
+    ensures { IfOk result (λ l. IsPlainStep (line_view l)) }
 {
     if !is_plain_as(false, &pred) {
         return Err(CaseError::NotACase);
@@ -96,9 +96,9 @@ fn demanded(pred: Pred) -> Result<Line, CaseError>
 }
 
 fn push(lines: &mut Lines, line: Line) -> Result<(), AllocError>
-    requires lines { All IsPlainStep (steps_of lines.old) }
-    requires line { IsPlainStep (step_of line) }
-    ensures { OnOk result (All IsPlainStep (steps_of lines.new)) }
+    requires lines { All IsPlainStep (lines_view lines.old) }
+    requires line { IsPlainStep (line_view line) }
+    ensures { OnOk result (All IsPlainStep (lines_view lines.new)) }
 {
     lines.push(line)
 }
@@ -122,7 +122,7 @@ fn predicates(alloc: Global, words: &[&str]) -> Result<Vec<(bool, Pred)>, CaseEr
 
 /// The list of the words.
 fn lines_of(alloc: Global, words: &[&str]) -> Result<Lines, CaseError>
-    ensures { IfOk result (λ lines. All IsPlainStep (steps_of lines)) }
+    ensures { IfOk result (λ lines. All IsPlainStep (lines_view lines)) }
 {
     let mut found = predicates(alloc, words)?;
     let mut lines = Lines::new(alloc)?;

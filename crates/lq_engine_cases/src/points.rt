@@ -1,6 +1,6 @@
 // Cases of points: `point asked PREDICATE known HYPOTHESIS .. at NUMBER .. flags v0=yes .. classes v0=1 ..`.
 ghost use Rattle.std.specs.Prelude.{◌≡◌, IfOk, IfSome};
-ghost use Rattle.lq_pred.specs.Implication.{terms_in};
+ghost use Rattle.lq_pred.specs.ClosedImplication.{terms_in};
 ghost use Rattle.lq_pred.specs.PredView.{implication_of};
 ghost use Rattle.lq_point.specs.Evaluation.{EvaluatesAll};
 ghost use Rattle.lq_point.specs.Values.{numbers_of, table_of, values_of};
@@ -81,8 +81,10 @@ struct Values {
 
 /// The point of the values, if they are one, over the implication's own table.
 fn point_of(alloc: Global, implication: &Closed, values: Values) -> Result<Option<Point>, CaseError>
-    ensures table { IfOk result (λ made. IfSome made (λ p. table_of (values_of p) ≡ terms_in (implication_of implication.now))) }
-    ensures evaluates { IfOk result (λ made. IfSome made (λ p. EvaluatesAll (table_of (values_of p)) (numbers_of (values_of p)) (implication_of implication.now))) }
+    ensures table { IfOk result (λ made. IfSome made (λ p. table_of (values_of p)
+        ≡ terms_in (implication_of implication.now))) }
+    ensures evaluates { IfOk result (λ made. IfSome made (λ p. EvaluatesAll (table_of (values_of p))
+        (numbers_of (values_of p)) (implication_of implication.now))) }
 {
     if !all_fit(alloc, implication)? {
         return Err(CaseError::Ungathered);
@@ -108,7 +110,8 @@ fn point_of(alloc: Global, implication: &Closed, values: Values) -> Result<Optio
 /// Whether the negated goal of the implication holds at its point.
 fn negated_goal_holds(alloc: Global, point: &Point, implication: &Closed) -> Result<bool, CaseError>
     requires table { table_of (values_of point.now) ≡ terms_in (implication_of implication.now) }
-    requires evaluates { EvaluatesAll (table_of (values_of point.now)) (numbers_of (values_of point.now)) (implication_of implication.now) }
+    requires evaluates { EvaluatesAll (table_of (values_of point.now)) (numbers_of (values_of point.now))
+        (implication_of implication.now) }
 {
     gathered_readings_can_be_evaluated();
     let mut table = implication.terms(alloc)?;

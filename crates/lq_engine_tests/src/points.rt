@@ -1,6 +1,6 @@
 // The readers of the values of points, and the point of a demand that fails.
 ghost use Rattle.std.specs.Prelude.{◌≡◌, All, IfOk, [], ◌∷◌};
-ghost use Rattle.lq_demand.specs.LinesView.{steps_of};
+ghost use Rattle.lq_demand.specs.LinesView.{lines_view};
 ghost use Rattle.lq_demand.specs.Plain.{IsPlainStep};
 
 use indexmap::IndexMap;
@@ -48,7 +48,7 @@ fn readers(rt: HostRuntime) -> Result<(), Fail> {
 
 // `v5 < 10` is asked where nothing is known.
 fn one_demand(alloc: Global) -> Result<Lines, AllocError>
-    ensures { IfOk result (λ lines. All IsPlainStep (steps_of lines)) }
+    ensures { IfOk result (λ lines. All IsPlainStep (lines_view lines)) }
 {
     let mut lines = Lines::new(alloc)?;
     let below = Pred::Compare(CompareOp::Lt, Term::Var(symbol(5)), Term::Var(symbol(2)));

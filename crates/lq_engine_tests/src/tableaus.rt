@@ -135,8 +135,10 @@ fn after_a_stop_of_a_check(rt: HostRuntime) {
 /// The verdict of an engine, asked through its bound: what it says of the rows that stand, whatever the engine.
 fn verdict<E: LinearEngine>(engine: &mut E) -> Option<Verdict>
     requires { E.last engine.old ≢ Stopped }
-    ensures solved { IfSome result (λ verdict. verdict ≡ Holds → Solves (E.point engine.new) (E.standing engine.old)) }
-    ensures refuted { IfSome result (λ verdict. verdict ≡ Conflict → (v : Valuation) → ¬ (Solves v (E.standing engine.old))) }
+    ensures solved { IfSome result (λ verdict. verdict ≡ Holds
+        → Solves (E.point engine.new) (E.standing engine.old)) }
+    ensures refuted { IfSome result (λ verdict. verdict ≡ Conflict → (v : Valuation)
+        → ¬ (Solves v (E.standing engine.old))) }
 {
     match engine.check() {
         Ok(verdict) => {

@@ -3,8 +3,7 @@
 
 use lq_app::{Words, run_words};
 use lq_io::{RealFolder, RealSink};
-use std::env;
-use std::io;
+use std::{env, io};
 
 fn main(rt: HostRuntime) -> io::Result<()> {
     let alloc = rt.alloc();

@@ -3,7 +3,7 @@
 
 mod error;
 mod kind;
-mod law;
+mod laws;
 mod reader;
 mod rule;
 mod symbol;
@@ -11,7 +11,7 @@ mod table;
 
 pub use error::ReadError;
 pub use kind::Kind;
-pub use law::{levels_of_readings, one_level, one_reading, some_level, within_limit};
+pub use laws::{levels_of_readings, one_level, one_reading, some_level, within_limit};
 pub use reader::read;
 pub use rule::{
     BindingPart, EntryPart, ExpressionPart, PatternPart, PredPart, ProgramPart, Rule, TypePart,

@@ -72,8 +72,10 @@ fn fits(kinds: &[Kind], at: usize, kind: Kind, level: usize, limit: usize) -> bo
 
 // Why no token is taken here: the next one is too deep or a stop, or there is none.
 fn refusal(kinds: &[Kind], at: usize, level: usize, limit: usize) -> ReadError
-    ensures syntax { (place : ℕ) → result ≡ Syntax place → (place ≡ at) × (at < length kinds.now → level ≤ limit) }
-    ensures too_deep { (place : ℕ) → result ≡ TooDeep place → (place ≡ at) × (at < length kinds.now) × (limit < level) }
+    ensures syntax { (place : ℕ) → result ≡ Syntax place → (place ≡ at)
+        × (at < length kinds.now → level ≤ limit) }
+    ensures too_deep { (place : ℕ) → result ≡ TooDeep place → (place ≡ at) × (at < length kinds.now)
+        × (limit < level) }
 {
     if at < kinds.len() && level > limit {
         ReadError::TooDeep(at)

@@ -2,7 +2,7 @@
 use Rattle.std.proofs.Common.{◌≡◌, ℕ, ℤ, ◌<◌, length, List, take, slice_get, Some, Result, Ok, Err, IfOk, refl, sym, ap, ap₂, subst, ◌∙◌, FitsSigned}
 use Rattle.std.proofs.lemmas.Option.{slice_get_within}
 use Rattle.std.specs.Int.{w128}
-use Rattle.lq_math.specs.Forms.{HasSumForm, HasNoSumForm}
+use Rattle.lq_math.specs.NumberForms.{HasSumForm, HasNoSumForm}
 use Rattle.lq_math.specs.Lcm.{lcm_exists}
 use Rattle.lq_math.specs.Rational.{ℚ, whole, ◌*ℚ◌}
 use Rattle.lq_num.specs.declared.frac.Frac.{Frac}

@@ -1,3 +1,4 @@
+// The trait of the engines that decide rows, and what they answer.
 ghost use Rattle.std.specs.Prelude.{◌≡◌, ◌≢◌, ℕ, List, [], ◌∷◌, ◌++◌, ◌≤◌, length, take, slice_get, Some, OnOk, OnErr, IfOk, IfErr, IfSome, IfNone, IsNone};
 ghost use Rattle.lq_math.specs.Rational.{ℚ};
 ghost use Rattle.lq_num.specs.Value.{value_of};
@@ -70,7 +71,9 @@ pub trait LinearEngine {
         ensures stands { OnOk result (standing self.new ≡ standing self.old ++ (tag, row.now) ∷ []) }
         ensures last { OnOk result (last self.new ≡ Nothing) }
         ensures handed { (rows : List Row) → handed self.old rows → handed self.new (rows ++ row.now ∷ []) }
-        ensures stop { IfErr result (λ stop. (rows : List Row) → handed self.old rows → may_stop (limits self.old) (standing self.old ++ (tag, row.now) ∷ []) (rows ++ row.now ∷ []) stop) }
+        ensures stop { IfErr result (λ stop. (rows : List Row) → handed self.old rows
+            → may_stop (limits self.old) (standing self.old ++ (tag, row.now) ∷ []) (rows ++ row.now
+            ∷ []) stop) }
         ensures stopped { OnErr result (last self.new ≡ Stopped) }
         ensures unchanged { OnErr result (standing self.new ≡ standing self.old) }
         ensures limits { limits self.new ≡ limits self.old };
@@ -91,9 +94,11 @@ pub trait LinearEngine {
     fn check(&mut self) -> Result<Verdict, LinearStop>
         requires { last self.old ≢ Stopped }
         ensures solves { last self.new ≡ Held → Solves (point self.new) (standing self.new) }
-        ensures contradicts { last self.new ≡ Conflicted → IsContradiction (standing self.new) (multipliers self.new) }
+        ensures contradicts { last self.new ≡ Conflicted
+            → IsContradiction (standing self.new) (multipliers self.new) }
         ensures answer { IfOk result (λ verdict. last self.new ≡ verdict_of verdict) }
-        ensures stop { IfErr result (λ stop. (rows : List Row) → handed self.old rows → may_stop (limits self.old) (standing self.old) rows stop) }
+        ensures stop { IfErr result (λ stop. (rows : List Row) → handed self.old rows
+            → may_stop (limits self.old) (standing self.old) rows stop) }
         ensures stopped { OnErr result (last self.new ≡ Stopped) }
         ensures stands { standing self.new ≡ standing self.old }
         ensures handed { (rows : List Row) → handed self.old rows → handed self.new rows }
@@ -114,5 +119,6 @@ pub trait LinearEngine {
 /// No valuation solves rows that sum to a contradiction, so an engine's two verdicts never both fit
 /// the rows that stand (the easy half of Farkas' lemma).
 pub fn conflict_or_point()
-    ensures { (v : Valuation) (rows : Tagged) (ms : List (ℕ × ℚ)) → Solves v rows → IsContradiction rows ms → ⊥ }
+    ensures { (v : Valuation) (rows : Tagged) (ms : List (ℕ × ℚ)) → Solves v rows → IsContradiction rows ms
+        → ⊥ }
 {}

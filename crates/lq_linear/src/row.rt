@@ -1,3 +1,4 @@
+// Rows of linear arithmetic.
 ghost use Rattle.std.specs.Prelude.{◌≡◌};
 ghost use Rattle.lq_linear.specs.Row.{IsRow};
 

@@ -1,3 +1,4 @@
+// The level of a row at given values.
 ghost use Rattle.std.specs.Prelude.{◌≡◌, IfOk, IfErr};
 ghost use Rattle.lq_linear.specs.Row.{level};
 ghost use Rattle.lq_linear.specs.Steps.{valuation_of, HasValues, IsStep, IsFormed};
@@ -14,7 +15,8 @@ pub fn level_at(row: &LinearRow, values: &[Frac]) -> Result<Frac, NumberPast>
     ensures exact { IfOk result (λ f. value_of f ≡ level (valuation_of values.now) row.now) }
     ensures formed { IfOk result (λ _. IsFormed (valuation_of values.now) row.now) }
     ensures past { IfErr result IsPast }
-    ensures step { IfErr result (λ e. IsStep (valuation_of values.now) row.now e.op (value_of e.left) (value_of e.right)) }
+    ensures step { IfErr result (λ e. IsStep (valuation_of values.now) row.now e.op (value_of e.left)
+        (value_of e.right)) }
 {
     let mut total = Frac::whole(0);
     for (term, coefficient) in row.parts() {

@@ -1,7 +1,7 @@
 //! Names, binders, places and owned texts, which every layer speaks of.
 #![tactic(auto)]
 
-mod law;
+mod laws;
 mod limits;
 mod name;
 mod name_table;
@@ -10,7 +10,7 @@ mod operation;
 mod place;
 mod text;
 
-pub use law::names_of_lists;
+pub use laws::names_of_lists;
 pub use limits::{LEVEL_LIMIT, LITERAL_LIMIT};
 pub use name::{Binder, Ident, Name};
 pub use name_table::NameTable;

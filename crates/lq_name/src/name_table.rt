@@ -93,7 +93,8 @@ fn set_number(
     text: String,
     number: u32,
 ) -> Result<(), AllocError>
-    ensures number { OnOk result ((q : List ℕ) → get_by_text numbers.new q ≡ update bytes_eq (get_by_text numbers.old) (string_bytes text) (Some number) q) }
+    ensures number { OnOk result ((q : List ℕ) → get_by_text numbers.new q
+        ≡ update bytes_eq (get_by_text numbers.old) (string_bytes text) (Some number) q) }
     ensures unchanged { OnErr result ((q : List ℕ) → get_by_text numbers.new q ≡ get_by_text numbers.old q) }
 {
     numbers.insert(text, number)?;
@@ -110,7 +111,8 @@ fn add(
     requires { length texts.old.items < 2 ^ 32 }
     ensures number { IfOk result (λ n. n ≡ length texts.old.items) }
     ensures texts { OnOk result (texts_of texts.new.items ≡ texts_of texts.old.items ++ text.now ∷ []) }
-    ensures numbers { OnOk result ((q : List ℕ) → get_by_text numbers.new q ≡ update bytes_eq (get_by_text numbers.old) text.now (Some (length texts.old.items)) q) }
+    ensures numbers { OnOk result ((q : List ℕ) → get_by_text numbers.new q
+        ≡ update bytes_eq (get_by_text numbers.old) text.now (Some (length texts.old.items)) q) }
     ensures err { OnErr result (texts.new.items ≡ texts.old.items) }
     ensures unchanged { OnErr result ((q : List ℕ) → get_by_text numbers.new q ≡ get_by_text numbers.old q) }
 {

@@ -4,7 +4,7 @@ use Rattle.std.proofs.Math.IntN.{ℤ, pos, ◌*ℤ◌, ◌+ℤ◌, ◌-ℤ◌}
 use Rattle.std.proofs.Math.Nat.{mul-pos}
 use Rattle.std.specs.Int.{IsGcd, w128}
 use Rattle.std.proofs.lemmas.Int.{to_z-of_z}
-use Rattle.lq_math.specs.Forms.{HasFormBy, HasNoFormBy, HasFormBy-from, HasNoFormBy-from, sum_over, difference_over}
+use Rattle.lq_math.specs.NumberForms.{HasFormBy, HasNoFormBy, HasFormBy-from, HasNoFormBy-from, sum_over, difference_over}
 use Rattle.lq_math.specs.Lcm.{lcm_from_gcd}
 use Rattle.lq_math.specs.Rational.{ratio, ◌+ℚ◌, ◌-ℚ◌}
 use Rattle.lq_math.specs.Reduction.{quotient_some}

@@ -6,7 +6,7 @@ use Rattle.std.specs.Int.{IsGcd, w128}
 use Rattle.std.proofs.lemmas.Int.{ints, to_z-of_z}
 use mathlib.Core.Bool.{beq}
 use Rattle.lq_math.specs.Coprime.{Coprime}
-use Rattle.lq_math.specs.Forms.{HasNoForm, HasNoForm-from}
+use Rattle.lq_math.specs.NumberForms.{HasNoForm, HasNoForm-from}
 use Rattle.lq_math.specs.LowestTerms.{IsLowest}
 use Rattle.std.specs.Int.Signed.{lt_z}
 use Rattle.lq_math.specs.IntRing.{at, nat, ◌⊗◌, ring}

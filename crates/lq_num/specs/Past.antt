@@ -1,5 +1,5 @@
 -- When an operation on fractions has no result within 128 bits.
-use Rattle.lq_math.specs.Forms.{HasNoForm, HasNoSumForm, HasNoDifferenceForm}
+use Rattle.lq_math.specs.NumberForms.{HasNoForm, HasNoSumForm, HasNoDifferenceForm}
 use Rattle.lq_math.specs.Rational.{◌*ℚ◌, neg_ℚ}
 use Rattle.lq_math.specs.RationalQuotient.{◌/ℚ◌}
 use Rattle.lq_num.specs.declared.frac.Frac.{Frac}

@@ -1,3 +1,4 @@
+// Exact fractions in lowest terms, and their operations.
 ghost use Rattle.std.specs.Prelude.{◌≡◌, ℤ, ◌<◌, ◌^◌, ◌*◌, unsigned_abs, IfOk, IfErr, pos, IsTrue, ◌↔◌, IfNone, IfSome};
 ghost use Rattle.lq_math.specs.Coprime.{Coprime};
 ghost use Rattle.lq_num.specs.Sign.{signed, signs_differ};
@@ -30,7 +31,7 @@ impl Frac {
     ghost use Rattle.lq_math.specs.Rational.{ratio, whole, ◌+ℚ◌, ◌-ℚ◌, ◌*ℚ◌, neg_ℚ};
     ghost use Rattle.lq_math.specs.RationalQuotient.{◌/ℚ◌};
     ghost use Rattle.lq_math.specs.RationalOrder.{◌<ℚ◌};
-    ghost use Rattle.lq_math.specs.Forms.{IsForm, HasNoForm, HasSumForm, HasDifferenceForm, HasNoFormBy};
+    ghost use Rattle.lq_math.specs.NumberForms.{IsForm, HasNoForm, HasSumForm, HasDifferenceForm, HasNoFormBy};
     ghost use Rattle.lq_math.specs.LowestTerms.{IsLowest};
     ghost use Rattle.std.specs.Ordering.{MatchOrdering};
     ghost use Rattle.lq_num.specs.Value.{value_of, numer_of, denom_of};
@@ -73,9 +74,15 @@ impl Frac {
     /// multiple, one of the two numerators over it, or their sum is past 128 bits.
     pub fn add(&self, other: &Frac) -> Result<Frac, NumberPast>
         ensures exact { IfOk result (λ f. value_of f ≡ value_of self.now +ℚ value_of other.now) }
-        ensures formed { IfOk result (λ _. HasSumForm (numer_of self.now) (numer_of other.now) (denom_of self.now) (denom_of other.now)) }
+        ensures formed { IfOk result (λ _. HasSumForm (numer_of self.now) (numer_of other.now)
+            (denom_of self.now) (denom_of other.now)) }
         ensures past { IfErr result (λ e. IsPast e) }
-        ensures carries { IfErr result (λ e. e ≡ record { left = self.now; right = other.now; op = NumOp.Add }) }
+        ensures carries { IfErr result (λ e. e ≡ record {
+          left = self.now;
+          right = other.now;
+          op =
+              NumOp.Add;
+        }) }
     {
         let past = NumberPast {
             left: *self,
@@ -94,9 +101,15 @@ impl Frac {
     /// The difference, refused as a sum is.
     pub fn sub(&self, other: &Frac) -> Result<Frac, NumberPast>
         ensures exact { IfOk result (λ f. value_of f ≡ value_of self.now -ℚ value_of other.now) }
-        ensures formed { IfOk result (λ _. HasDifferenceForm (numer_of self.now) (numer_of other.now) (denom_of self.now) (denom_of other.now)) }
+        ensures formed { IfOk result (λ _. HasDifferenceForm (numer_of self.now) (numer_of other.now)
+            (denom_of self.now) (denom_of other.now)) }
         ensures past { IfErr result (λ e. IsPast e) }
-        ensures carries { IfErr result (λ e. e ≡ record { left = self.now; right = other.now; op = NumOp.Sub }) }
+        ensures carries { IfErr result (λ e. e ≡ record {
+          left = self.now;
+          right = other.now;
+          op =
+              NumOp.Sub;
+        }) }
     {
         let past = NumberPast {
             left: *self,
@@ -116,7 +129,12 @@ impl Frac {
     pub fn mul(&self, other: &Frac) -> Result<Frac, NumberPast>
         ensures exact { IfOk result (λ f. value_of f ≡ value_of self.now *ℚ value_of other.now) }
         ensures past { IfErr result (λ e. IsPast e) }
-        ensures carries { IfErr result (λ e. e ≡ record { left = self.now; right = other.now; op = NumOp.Mul }) }
+        ensures carries { IfErr result (λ e. e ≡ record {
+          left = self.now;
+          right = other.now;
+          op =
+              NumOp.Mul;
+        }) }
     {
         let negative = self.differs_in_sign(other);
         let left = self.numer.unsigned_abs();
@@ -136,7 +154,12 @@ impl Frac {
         requires { ¬ (value_of other.now ≡ whole (pos 0)) }
         ensures exact { IfOk result (λ f. value_of f ≡ value_of self.now /ℚ value_of other.now) }
         ensures past { IfErr result (λ e. IsPast e) }
-        ensures carries { IfErr result (λ e. e ≡ record { left = self.now; right = other.now; op = NumOp.Div }) }
+        ensures carries { IfErr result (λ e. e ≡ record {
+          left = self.now;
+          right = other.now;
+          op =
+              NumOp.Div;
+        }) }
     {
         let negative = self.differs_in_sign(other);
         let left = self.numer.unsigned_abs();
@@ -155,7 +178,11 @@ impl Frac {
     pub fn neg(&self) -> Result<Frac, NumberPast>
         ensures exact { IfOk result (λ f. value_of f ≡ neg_ℚ (value_of self.now)) }
         ensures past { IfErr result (λ e. IsPast e) }
-        ensures carries { IfErr result (λ e. e ≡ record { left = self.now; right = self.now; op = NumOp.Neg }) }
+        ensures carries { IfErr result (λ e. e ≡ record {
+          left = self.now;
+          right = self.now;
+          op = NumOp.Neg;
+        }) }
     {
         match self.numer.checked_neg() {
             Some(numer) => Ok(Frac {
@@ -172,7 +199,8 @@ impl Frac {
 
     /// The order of the rationals. Only the very same fraction is `Equal`.
     pub fn cmp(&self, other: &Frac) -> Ordering
-        ensures order { MatchOrdering result (value_of self.now <ℚ value_of other.now) (value_of self.now ≡ value_of other.now) (value_of other.now <ℚ value_of self.now) }
+        ensures order { MatchOrdering result (value_of self.now <ℚ value_of other.now) (value_of self.now
+            ≡ value_of other.now) (value_of other.now <ℚ value_of self.now) }
         ensures same { (result ≡ Ordering.Equal) ↔ (self.now ≡ other.now) }
     {
         compare(self.numer, self.denom, other.numer, other.denom)
@@ -180,8 +208,11 @@ impl Frac {
 
     /// Both fractions over the least common multiple of their denominators, where all three numbers fit.
     fn over_multiple(&self, other: &Frac) -> Option<OverMultiple>
-        ensures some { IfSome result (λ s. IsOver (numer_of self.now) (numer_of other.now) (denom_of self.now) (denom_of other.now) s.first s.second s.denom) }
-        ensures none { IfNone result ((op : ℤ → ℤ → ℤ) → HasNoFormBy op (numer_of self.now) (numer_of other.now) (denom_of self.now) (denom_of other.now)) }
+        ensures some { IfSome result (λ s. IsOver (numer_of self.now) (numer_of other.now)
+            (denom_of self.now) (denom_of other.now) s.first s.second s.denom) }
+        ensures none { IfNone result ((op : ℤ → ℤ → ℤ)
+            → HasNoFormBy op (numer_of self.now) (numer_of other.now) (denom_of self.now)
+            (denom_of other.now)) }
     {
         let shared = gcd(self.denom, other.denom);
         let left = quotient(other.denom, shared);

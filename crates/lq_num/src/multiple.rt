@@ -1,3 +1,4 @@
+// Products within 128 bits.
 ghost use Rattle.std.specs.Prelude.{◌≡◌, ◌<◌, ◌*◌, ◌*ℤ◌, ◌^◌, SomeIff, FitsSigned, pos};
 ghost use Rattle.std.specs.Int.{w128};
 

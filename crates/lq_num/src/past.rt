@@ -1,3 +1,4 @@
+// Operations whose result is past 128 bits.
 use crate::frac::Frac;
 use thiserror::Error;
 

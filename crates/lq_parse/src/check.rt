@@ -19,9 +19,12 @@ pub fn check_text(
     text: &[u8],
     tokens: &Tokens,
 ) -> Result<(), ParseError>
-    ensures ok { IfOk result (λ _. (events : List Event) × IsText kind text.now (tokens_of tokens.now) events) }
-    ensures syntax { (place : Place) → result ≡ Err (Syntax place) → IsSyntax kind text.now (tokens_of tokens.now) (end_place_of tokens.now) place }
-    ensures too_deep { (place : Place) → result ≡ Err (TooDeep place) → IsTooDeep kind text.now (tokens_of tokens.now) (end_place_of tokens.now) place }
+    ensures ok { IfOk result (λ _. (events : List Event)
+        × IsText kind text.now (tokens_of tokens.now) events) }
+    ensures syntax { (place : Place) → result ≡ Err (Syntax place)
+        → IsSyntax kind text.now (tokens_of tokens.now) (end_place_of tokens.now) place }
+    ensures too_deep { (place : Place) → result ≡ Err (TooDeep place)
+        → IsTooDeep kind text.now (tokens_of tokens.now) (end_place_of tokens.now) place }
 {
     steps_of(alloc, kind, text, tokens)?;
     Ok(())

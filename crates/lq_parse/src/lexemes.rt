@@ -73,7 +73,8 @@ pub(crate) fn lexemes_of(
     requires small { length text.now ≤ 2 ^ 24 }
     requires tokens { IsTokens kind text.now (tokens_of tokens.now) }
     requires room { length names.old ≤ 2 ^ 31 }
-    ensures ok { IfOk result (λ ls. map lexeme_view ls.items ≡ map (lexeme_of names.new text.now) (tokens_of tokens.now)) }
+    ensures ok { IfOk result (λ ls. map lexeme_view ls.items ≡ map (lexeme_of names.new text.now)
+        (tokens_of tokens.now)) }
     ensures names { OnOk result (names.new ≡ with_names text.now (tokens_of tokens.now) names.old) }
     ensures kept { take (length names.old) names.new ≡ names.old }
     ensures added { length names.new ≤ length names.old + length (tokens_of tokens.now) }

@@ -3,7 +3,7 @@
 
 mod check;
 mod error;
-mod law;
+mod laws;
 mod lexemes;
 mod parse;
 mod steps;
@@ -11,5 +11,5 @@ mod terminals;
 
 pub use check::check_text;
 pub use error::ParseError;
-pub use law::{one_answer, one_tree};
+pub use laws::{one_answer, one_tree};
 pub use parse::{parse_measures, parse_program, parse_quals};

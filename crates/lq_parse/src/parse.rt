@@ -40,8 +40,10 @@ fn built(
     ensures kept { take (length names.old) names.new ≡ names.old }
     ensures added { length names.new ≤ length names.old + length (tokens_of tokens.now) }
     ensures table { IsNameTable names.new }
-    ensures syntax { (place : Place) → result ≡ Err (Syntax place) → IsSyntax kind text.now (tokens_of tokens.now) (end_place_of tokens.now) place }
-    ensures too_deep { (place : Place) → result ≡ Err (TooDeep place) → IsTooDeep kind text.now (tokens_of tokens.now) (end_place_of tokens.now) place }
+    ensures syntax { (place : Place) → result ≡ Err (Syntax place)
+        → IsSyntax kind text.now (tokens_of tokens.now) (end_place_of tokens.now) place }
+    ensures too_deep { (place : Place) → result ≡ Err (TooDeep place)
+        → IsTooDeep kind text.now (tokens_of tokens.now) (end_place_of tokens.now) place }
     ensures unchanged_by_syntax { (place : Place) → result ≡ Err (Syntax place) → names.new ≡ names.old }
     ensures unchanged_by_depth { (place : Place) → result ≡ Err (TooDeep place) → names.new ≡ names.old }
 {
@@ -67,14 +69,17 @@ pub fn parse_program(
     requires small { length text.now ≤ 2 ^ 24 }
     requires tokens { IsTokens kind.Program text.now (tokens_of tokens.now) }
     requires room { length names.old ≤ 2 ^ 31 }
-    ensures ok { IfOk result (λ p. IsRead kind.Program text.now names.new (tokens_of tokens.now) (items (program_view p))) }
+    ensures ok { IfOk result (λ p. IsRead kind.Program text.now names.new (tokens_of tokens.now)
+        (items (program_view p))) }
     ensures count { IfOk result (λ p. length (program_view p) < 2 ^ 32) }
     ensures names { OnOk result (names.new ≡ with_names text.now (tokens_of tokens.now) names.old) }
     ensures kept { take (length names.old) names.new ≡ names.old }
     ensures added { length names.new ≤ length names.old + length (tokens_of tokens.now) }
     ensures table { IsNameTable names.new }
-    ensures syntax { (place : Place) → result ≡ Err (Syntax place) → IsSyntax kind.Program text.now (tokens_of tokens.now) (end_place_of tokens.now) place }
-    ensures too_deep { (place : Place) → result ≡ Err (TooDeep place) → IsTooDeep kind.Program text.now (tokens_of tokens.now) (end_place_of tokens.now) place }
+    ensures syntax { (place : Place) → result ≡ Err (Syntax place)
+        → IsSyntax kind.Program text.now (tokens_of tokens.now) (end_place_of tokens.now) place }
+    ensures too_deep { (place : Place) → result ≡ Err (TooDeep place)
+        → IsTooDeep kind.Program text.now (tokens_of tokens.now) (end_place_of tokens.now) place }
     ensures unchanged_by_syntax { (place : Place) → result ≡ Err (Syntax place) → names.new ≡ names.old }
     ensures unchanged_by_depth { (place : Place) → result ≡ Err (TooDeep place) → names.new ≡ names.old }
 {
@@ -98,13 +103,16 @@ pub fn parse_quals(
     requires small { length text.now ≤ 2 ^ 24 }
     requires tokens { IsTokens kind.Quals text.now (tokens_of tokens.now) }
     requires room { length names.old ≤ 2 ^ 31 }
-    ensures ok { IfOk result (λ q. IsRead kind.Quals text.now names.new (tokens_of tokens.now) (qualifiers (quals_view q))) }
+    ensures ok { IfOk result (λ q. IsRead kind.Quals text.now names.new (tokens_of tokens.now)
+        (qualifiers (quals_view q))) }
     ensures names { OnOk result (names.new ≡ with_names text.now (tokens_of tokens.now) names.old) }
     ensures kept { take (length names.old) names.new ≡ names.old }
     ensures added { length names.new ≤ length names.old + length (tokens_of tokens.now) }
     ensures table { IsNameTable names.new }
-    ensures syntax { (place : Place) → result ≡ Err (Syntax place) → IsSyntax kind.Quals text.now (tokens_of tokens.now) (end_place_of tokens.now) place }
-    ensures too_deep { (place : Place) → result ≡ Err (TooDeep place) → IsTooDeep kind.Quals text.now (tokens_of tokens.now) (end_place_of tokens.now) place }
+    ensures syntax { (place : Place) → result ≡ Err (Syntax place)
+        → IsSyntax kind.Quals text.now (tokens_of tokens.now) (end_place_of tokens.now) place }
+    ensures too_deep { (place : Place) → result ≡ Err (TooDeep place)
+        → IsTooDeep kind.Quals text.now (tokens_of tokens.now) (end_place_of tokens.now) place }
     ensures unchanged_by_syntax { (place : Place) → result ≡ Err (Syntax place) → names.new ≡ names.old }
     ensures unchanged_by_depth { (place : Place) → result ≡ Err (TooDeep place) → names.new ≡ names.old }
 {
@@ -127,13 +135,16 @@ pub fn parse_measures(
     requires small { length text.now ≤ 2 ^ 24 }
     requires tokens { IsTokens kind.Measures text.now (tokens_of tokens.now) }
     requires room { length names.old ≤ 2 ^ 31 }
-    ensures ok { IfOk result (λ m. IsRead kind.Measures text.now names.new (tokens_of tokens.now) (measures (measures_view m))) }
+    ensures ok { IfOk result (λ m. IsRead kind.Measures text.now names.new (tokens_of tokens.now)
+        (measures (measures_view m))) }
     ensures names { OnOk result (names.new ≡ with_names text.now (tokens_of tokens.now) names.old) }
     ensures kept { take (length names.old) names.new ≡ names.old }
     ensures added { length names.new ≤ length names.old + length (tokens_of tokens.now) }
     ensures table { IsNameTable names.new }
-    ensures syntax { (place : Place) → result ≡ Err (Syntax place) → IsSyntax kind.Measures text.now (tokens_of tokens.now) (end_place_of tokens.now) place }
-    ensures too_deep { (place : Place) → result ≡ Err (TooDeep place) → IsTooDeep kind.Measures text.now (tokens_of tokens.now) (end_place_of tokens.now) place }
+    ensures syntax { (place : Place) → result ≡ Err (Syntax place)
+        → IsSyntax kind.Measures text.now (tokens_of tokens.now) (end_place_of tokens.now) place }
+    ensures too_deep { (place : Place) → result ≡ Err (TooDeep place)
+        → IsTooDeep kind.Measures text.now (tokens_of tokens.now) (end_place_of tokens.now) place }
     ensures unchanged_by_syntax { (place : Place) → result ≡ Err (Syntax place) → names.new ≡ names.old }
     ensures unchanged_by_depth { (place : Place) → result ≡ Err (TooDeep place) → names.new ≡ names.old }
 {

@@ -30,8 +30,10 @@ pub(crate) fn steps_of(
     tokens: &Tokens,
 ) -> Result<Vec<Event>, ParseError>
     ensures ok { IfOk result (λ es. IsText kind text.now (tokens_of tokens.now) es.items) }
-    ensures syntax { (place : Place) → result ≡ Err (Syntax place) → IsSyntax kind text.now (tokens_of tokens.now) (end_place_of tokens.now) place }
-    ensures too_deep { (place : Place) → result ≡ Err (TooDeep place) → IsTooDeep kind text.now (tokens_of tokens.now) (end_place_of tokens.now) place }
+    ensures syntax { (place : Place) → result ≡ Err (Syntax place)
+        → IsSyntax kind text.now (tokens_of tokens.now) (end_place_of tokens.now) place }
+    ensures too_deep { (place : Place) → result ≡ Err (TooDeep place)
+        → IsTooDeep kind text.now (tokens_of tokens.now) (end_place_of tokens.now) place }
     ensures bounded { IfOk result (λ es. length es.items ≤ 80 * length (tokens_of tokens.now) + 43) }
 {
     let kinds = kinds_of(alloc, text, tokens)?;

@@ -4,7 +4,7 @@ use Rattle.lq_math.specs.Rational.{ℚ, whole, ◌-ℚ◌}
 use Rattle.lq_math.specs.RationalOrder.{◌≤ℚ◌}
 use Rattle.lq_pred.specs.Sum.{Sum}
 use Rattle.lq_pred.specs.Points.{Point, form_at}
-use Rattle.lq_pred.specs.Implication.{AgreeOrApart}
+use Rattle.lq_pred.specs.ClosedImplication.{AgreeOrApart}
 use Rattle.lq_point.proofs.Apart.{apart_from_difference, difference_from_apart, equal_from_difference, difference_from_equal}
 
 abbrev pub IsApart : ℚ → Type 0

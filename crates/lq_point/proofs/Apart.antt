@@ -4,7 +4,7 @@ use Rattle.lq_math.specs.Rational.{ℚ, whole, ◌+ℚ◌, ◌-ℚ◌}
 use Rattle.lq_math.specs.RationalOrder.{◌≤ℚ◌}
 use Rattle.lq_math.specs.OrderLaws.{at_most_by}
 use Rattle.lq_math.specs.Solver.{var, con, ◌⊕◌, ◌⊖◌, solve}
-use Rattle.lq_pred.specs.Implication.{AreApart}
+use Rattle.lq_pred.specs.ClosedImplication.{AreApart}
 
 pub apart_from_difference : (x y d : ℚ) → d ≡ x -ℚ y → (d ≤ℚ whole (negsuc 0)) ⊎ (whole (pos 1) ≤ℚ d) → AreApart x y
 apart_from_difference x y d e (inl h) =

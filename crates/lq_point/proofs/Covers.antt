@@ -9,7 +9,7 @@ use Rattle.lq_pred.specs.Growing.{Extends-refl, Extends-trans, Extends-with_term
 use Rattle.lq_pred.specs.Again.{Extends-numbered, numbered_again, Extends-formula}
 use Rattle.lq_pred.specs.Formula.{Formula, truth, falsity, flag, compare, objects, negation, conjunction, disjunction, equivalence}
 use Rattle.lq_pred.specs.Reading.{formula_numbered}
-use Rattle.lq_pred.specs.Implication.{Implication, each_numbered, terms_in}
+use Rattle.lq_pred.specs.ClosedImplication.{ClosedImplication, each_numbered, terms_in}
 use Rattle.lq_pred.specs.PredView.{formula_of}
 use Rattle.lq_pred.specs.declared.pred.Pred.{Pred}
 use Rattle.lq_point.specs.Arguments.{HasArguments}
@@ -98,7 +98,7 @@ pub hypotheses_covered : (l : List Sum) (preds : List Pred) (g : Formula) → Co
 hypotheses_covered l preds g h =
     each_covered [] l preds (covers_less l (each_numbered [] (map formula_of preds)) (formula_numbered (each_numbered [] (map formula_of preds)) g) (Extends-formula (each_numbered [] (map formula_of preds)) g) h)
 
-pub goal_covered : (l : List Sum) (i : Implication) → Covers l (terms_in i) → formula_numbered l i.goal ≡ l
+pub goal_covered : (l : List Sum) (i : ClosedImplication) → Covers l (terms_in i) → formula_numbered l i.goal ≡ l
 goal_covered l i h = formula_covered (each_numbered [] i.hypotheses) l i.goal h
 
 -- ---- lists that have the arguments of their terms
@@ -191,7 +191,7 @@ closed_nothing : IsClosed []
 unfolding IsClosed
 closed_nothing t h = cc
 
-closed_terms : (i : Implication) → IsClosed (terms_in i)
+closed_terms : (i : ClosedImplication) → IsClosed (terms_in i)
 closed_terms i = closed_formula (each_numbered [] i.hypotheses) i.goal (closed_each [] i.hypotheses closed_nothing)
 
 covered_arguments : (l m : List Sum) (t : Sum) → Covers l m → HasArguments m t → HasArguments l t
@@ -215,6 +215,6 @@ covered_arguments l m (sub a b) c h = tt
 covered_arguments l m (len a) c h = tt
 covered_arguments l m (measure f a) c h = tt
 
-pub all_arguments : (l : List Sum) (i : Implication) → Covers l (terms_in i) → HasAllArguments l (terms_in i)
+pub all_arguments : (l : List Sum) (i : ClosedImplication) → Covers l (terms_in i) → HasAllArguments l (terms_in i)
 unfolding IsClosed
 all_arguments l i c k t e = covered_arguments l (terms_in i) t c (closed_terms i t (slice_get-has_term (terms_in i) k t e))

@@ -4,7 +4,7 @@ use Rattle.std.specs.List.{Contains}
 use Rattle.std.proofs.lemmas.List.Elements.{Contains-append_left, Contains-append_right, Contains-append_cases, All-contains, All-contains_itself}
 use Rattle.lq_pred.specs.Comparison.{Comparison, CanGather}
 use Rattle.lq_pred.specs.Formula.{Formula, truth, falsity, flag, compare, objects, negation, conjunction, disjunction, equivalence}
-use Rattle.lq_pred.specs.Implication.{Implication, terms_in}
+use Rattle.lq_pred.specs.ClosedImplication.{ClosedImplication, terms_in}
 use Rattle.lq_pred.specs.Literals.{Signs, positive, negative, both, comparisons_of, literals_of, each_literals, all_pairs, implication_literals}
 use Rattle.lq_pred.specs.Reading.{Reading, reading_of, AllFitIn}
 use Rattle.lq_pred.specs.PredView.{formula_of}
@@ -97,18 +97,18 @@ each_literal (p ∷ preds) zero d w =
 each_literal (p ∷ preds) (suc k) d w =
     to_right (Comparisons true (formula_of (get_or preds k d))) (literals_of positive (formula_of p)) (each_literals (map formula_of preds)) (each_literal preds k d (omega (arith, w)))
 
-pub hypothesis_literal : (preds : List Pred) (i : Implication) → i.hypotheses ≡ map formula_of preds → (k : ℕ) (d : Pred) → k < length preds
+pub hypothesis_literal : (preds : List Pred) (i : ClosedImplication) → i.hypotheses ≡ map formula_of preds → (k : ℕ) (d : Pred) → k < length preds
     → Sub (Comparisons true (formula_of (get_or preds k d))) (implication_literals i)
 hypothesis_literal preds i e k d w c h =
     Contains-append_left (each_literals i.hypotheses ++ literals_of negative i.goal) (all_pairs (terms_in i)) c
     (Contains-append_left (each_literals i.hypotheses) (literals_of negative i.goal) c (subst (λ l. Contains (each_literals l) c) (sym e) (each_literal preds k d w c h)))
 
-pub goal_literal : (i : Implication) → Sub (Comparisons false i.goal) (implication_literals i)
+pub goal_literal : (i : ClosedImplication) → Sub (Comparisons false i.goal) (implication_literals i)
 goal_literal i c h =
     Contains-append_left (each_literals i.hypotheses ++ literals_of negative i.goal) (all_pairs (terms_in i)) c
     (Contains-append_right (each_literals i.hypotheses) (literals_of negative i.goal) c (under_sign false i.goal c h))
 
-pub pair_literal : (i : Implication) → Sub (all_pairs (terms_in i)) (implication_literals i)
+pub pair_literal : (i : ClosedImplication) → Sub (all_pairs (terms_in i)) (implication_literals i)
 pair_literal i c h = Contains-append_right (each_literals i.hypotheses ++ literals_of negative i.goal) (all_pairs (terms_in i)) c h
 
 -- where the literals can be gathered, so can what is among them

@@ -11,7 +11,7 @@ use Rattle.lq_pred.specs.Sum.{Sum, mul, div, rem}
 use Rattle.lq_pred.specs.Table.{index_of}
 use Rattle.lq_pred.specs.Comparison.{Comparison, CanGather}
 use Rattle.lq_pred.specs.Points.{Point}
-use Rattle.lq_pred.specs.Implication.{Agree, AgreeOrApart}
+use Rattle.lq_pred.specs.ClosedImplication.{Agree, AgreeOrApart}
 use Rattle.lq_pred.specs.Literals.{equal_row, below_row, condition_rows, pair_rows}
 use Rattle.lq_point.specs.declared.error.PointError.{PointError}
 use Rattle.lq_point.specs.declared.error.PointError.TheVariants.{Past}

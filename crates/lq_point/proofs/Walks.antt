@@ -12,7 +12,7 @@ use Rattle.lq_pred.specs.Table.{index_of}
 use Rattle.lq_pred.specs.Numbering.{slice_get-index_of, slice_get-has_term, index_of-present}
 use Rattle.lq_pred.specs.Comparison.{Comparison, CanGather}
 use Rattle.lq_pred.specs.Points.{Point, form_at}
-use Rattle.lq_pred.specs.Implication.{Agree, AgreeOrApart, AreApart}
+use Rattle.lq_pred.specs.ClosedImplication.{Agree, AgreeOrApart, AreApart}
 use Rattle.lq_pred.specs.Literals.{pair_rows, rows_with, all_pairs}
 use Rattle.lq_point.specs.declared.agreeing.Function.{Function}
 use Rattle.lq_point.specs.declared.agreeing.Function.TheVariants.{Product, Quotient, Remainder, Length, Measure}

@@ -3,7 +3,7 @@ use Rattle.std.specs.Prelude.{◌≡◌, ℕ, ◌<◌, true, List, Some, slice_g
 use Rattle.lq_pred.specs.Sum.{Sum}
 use Rattle.lq_pred.specs.Table.{has_term}
 use Rattle.lq_pred.specs.Points.{Point}
-use Rattle.lq_pred.specs.Implication.{Agree}
+use Rattle.lq_pred.specs.ClosedImplication.{Agree}
 use Rattle.lq_point.specs.Arguments.{HasArguments}
 
 -- the n-th term agrees with each one before it

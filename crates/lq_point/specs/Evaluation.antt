@@ -7,7 +7,7 @@ use Rattle.lq_linear.specs.Row.{Row, Valuation}
 use Rattle.lq_linear.specs.Steps.{valuation_of, HasValues, IsStep, IsFormed}
 use Rattle.lq_pred.specs.Sum.{Sum}
 use Rattle.lq_pred.specs.Comparison.{Comparison, IsRowOf}
-use Rattle.lq_pred.specs.Implication.{Implication}
+use Rattle.lq_pred.specs.ClosedImplication.{ClosedImplication}
 use Rattle.lq_pred.specs.Reading.{Reading, yes, no, row, flag_is, objects_are, all_of, any_of, Readings, none, more, reading_of}
 
 -- each term of the row has a value, and no operation by which its level is formed is past 128 bits
@@ -46,7 +46,7 @@ abbrev mutual
   EvaluatesEach terms values (more r rs) = Evaluates terms values r × EvaluatesEach terms values rs
 
 -- the readings of the hypotheses and of the negated goal
-pub record EvaluatesAll (terms : List Sum) (values : List Frac) (i : Implication) : Type 0 where
+pub record EvaluatesAll (terms : List Sum) (values : List Frac) (i : ClosedImplication) : Type 0 where
   pub hypotheses : All (λ p. Evaluates terms values (reading_of true p)) i.hypotheses
   pub goal : Evaluates terms values (reading_of false i.goal)
 

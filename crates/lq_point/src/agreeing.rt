@@ -1,3 +1,4 @@
+// The condition of a point on two terms.
 ghost use Rattle.std.specs.Prelude.{◌≡◌, ◌↔◌, ◌⊎◌, ◌<◌, ℕ, Bool, List, IsTrue, IfOk, IfErr, OnOk, [], ◌∷◌, All, length, pos, negsuc, Some, slice_get, unwrap_or, get_or, None};
 ghost use Rattle.lq_linear.specs.Steps.{valuation_of};
 ghost use Rattle.lq_math.specs.Rational.{ℚ, whole, ◌-ℚ◌};
@@ -8,7 +9,7 @@ ghost use Rattle.lq_num.specs.declared.past.NumberPast.{NumberPast};
 ghost use Rattle.lq_pred.specs.declared.symbol.Symbol.{Symbol};
 ghost use Rattle.lq_pred.specs.declared.term.Term.{Term};
 ghost use Rattle.lq_pred.specs.Comparison.{CanGather};
-ghost use Rattle.lq_pred.specs.Implication.{Agree, AgreeOrApart};
+ghost use Rattle.lq_pred.specs.ClosedImplication.{Agree, AgreeOrApart};
 ghost use Rattle.lq_pred.specs.Literals.{equal_row, condition_rows, pair_rows, all_pairs};
 ghost use Rattle.lq_pred.specs.Points.{form_at};
 ghost use Rattle.lq_pred.specs.Sum.{Sum};
@@ -62,15 +63,18 @@ fn difference(
     numbers: &[Frac],
     table: &mut TermTable,
 ) -> Result<Frac, PointError>
-    requires has { numbered (numbered (terms_of table.old) (sum_of left.now)) (sum_of right.now) ≡ terms_of table.old }
+    requires has { numbered (numbered (terms_of table.old) (sum_of left.now)) (sum_of right.now)
+        ≡ terms_of table.old }
     requires fits { CanGather (equal_row (sum_of left.now) (sum_of right.now)) }
     requires one_each { length numbers.now ≡ length (terms_of table.old) }
     ensures same { OnOk result (terms_of table.new ≡ terms_of table.old) }
-    ensures value { IfOk result (λ f. (flags : List (Symbol × Bool)) (classes : List (Term × ℕ)) → let p = point_from (terms_of table.old) numbers.now flags classes in
-        value_of f ≡ form_at p (sum_of left.now) -ℚ form_at p (sum_of right.now)) }
+    ensures value { IfOk result (λ f. (flags : List (Symbol × Bool)) (classes : List (Term × ℕ))
+        → let p = point_from (terms_of table.old) numbers.now flags classes in value_of f
+        ≡ form_at p (sum_of left.now) -ℚ form_at p (sum_of right.now)) }
     ensures past { IfErr result (λ e. (n : NumberPast) → e ≡ PointError.Past n → IsPast n) }
     ensures step { IfErr result (λ e. (n : NumberPast) → e ≡ PointError.Past n
-        → IsStepOf (equal_row (sum_of left.now) (sum_of right.now) ∷ []) (terms_of table.old) numbers.now n) }
+        → IsStepOf (equal_row (sum_of left.now) (sum_of right.now) ∷ [])
+        (terms_of table.old) numbers.now n) }
 {
     rows_say_what_comparisons_say();
     let _terms = table.len();
@@ -83,7 +87,8 @@ fn difference(
 
 // Whether two numbers with this difference are at least 1 apart.
 fn is_apart(difference: &Frac) -> bool
-    ensures { IsTrue result ↔ ((value_of difference.now ≤ℚ whole (negsuc 0)) ⊎ (whole (pos 1) ≤ℚ value_of difference.now)) }
+    ensures { IsTrue result ↔ ((value_of difference.now ≤ℚ whole (negsuc 0))
+        ⊎ (whole (pos 1) ≤ℚ value_of difference.now)) }
 {
     is_at_most(difference, &Frac::whole(-1)) || is_at_most(&Frac::whole(1), difference)
 }
@@ -111,7 +116,8 @@ fn number_of(term: &Term, numbers: &[Frac], table: &TermTable) -> Frac
 // Whether two terms have one number.
 fn is_same_number(left: &Term, right: &Term, numbers: &[Frac], table: &TermTable) -> bool
     requires { length numbers.now ≡ length (terms_of table.now) }
-    ensures { IsTrue result ↔ (valuation_of numbers.now (index_of (terms_of table.now) (sum_of left.now)) ≡ valuation_of numbers.now (index_of (terms_of table.now) (sum_of right.now))) }
+    ensures { IsTrue result ↔ (valuation_of numbers.now (index_of (terms_of table.now) (sum_of left.now))
+        ≡ valuation_of numbers.now (index_of (terms_of table.now) (sum_of right.now))) }
 {
     is_equal(
         &number_of(left, numbers, table),
@@ -137,8 +143,10 @@ fn values_agree(
     table: &TermTable,
 ) -> bool
     requires { length numbers.now ≡ length (terms_of table.now) }
-    ensures { IsTrue result ↔ (unwrap_or (class_value classes.now.entries (sum_of left_object.now)) 0 ≡ unwrap_or (class_value classes.now.entries (sum_of right_object.now)) 0
-        → valuation_of numbers.now (index_of (terms_of table.now) (sum_of left.now)) ≡ valuation_of numbers.now (index_of (terms_of table.now) (sum_of right.now))) }
+    ensures { IsTrue result ↔ (unwrap_or (class_value classes.now.entries (sum_of left_object.now)) 0
+        ≡ unwrap_or (class_value classes.now.entries (sum_of right_object.now)) 0
+        → valuation_of numbers.now (index_of (terms_of table.now) (sum_of left.now))
+        ≡ valuation_of numbers.now (index_of (terms_of table.now) (sum_of right.now))) }
 {
     if class_of(left_object, classes) != class_of(right_object, classes) {
         return true;
@@ -170,11 +178,15 @@ fn arguments_agree(
     requires second_fits { CanGather (equal_row (sum_of left.1.now) (sum_of right.1.now)) }
     requires one_each { length numbers.now ≡ length (terms_of table.old) }
     ensures same { OnOk result (terms_of table.new ≡ terms_of table.old) }
-    ensures answer { IfOk result (λ answer. (flags : List (Symbol × Bool)) (classes : List (Term × ℕ)) (r s : ℚ) → (IsTrue same_result ↔ (r ≡ s))
-        → IsTrue answer ↔ AgreeOrApart (point_from (terms_of table.old) numbers.now flags classes) (sum_of left.entry.0.now) (sum_of left.entry.1.now) (sum_of right.entry.0.now) (sum_of right.entry.1.now) r s) }
+    ensures answer { IfOk result (λ answer. (flags : List (Symbol × Bool)) (classes : List (Term × ℕ))
+        (r s : ℚ) → (IsTrue same_result ↔ (r ≡ s)) → IsTrue answer
+        ↔ AgreeOrApart (point_from (terms_of table.old) numbers.now flags classes) (sum_of left.entry.0.now)
+        (sum_of left.entry.1.now) (sum_of right.entry.0.now) (sum_of right.entry.1.now) r s) }
     ensures past { IfErr result (λ e. (n : NumberPast) → e ≡ PointError.Past n → IsPast n) }
     ensures step { IfErr result (λ e. (n : NumberPast) → e ≡ PointError.Past n
-        → IsStepOf (equal_row (sum_of left.entry.0.now) (sum_of right.entry.0.now) ∷ (equal_row (sum_of left.entry.1.now) (sum_of right.entry.1.now) ∷ [])) (terms_of table.old) numbers.now n) }
+        → IsStepOf (equal_row (sum_of left.entry.0.now) (sum_of right.entry.0.now)
+        ∷ (equal_row (sum_of left.entry.1.now) (sum_of right.entry.1.now) ∷ []))
+        (terms_of table.old) numbers.now n) }
 {
     let first = difference(alloc, left.0, right.0, numbers, table)?;
     if is_apart(&first) {
@@ -202,8 +214,9 @@ pub(crate) fn agree(
     requires fits { All CanGather (pair_rows (sum_of left.now) (sum_of right.now)) }
     requires one_each { length numbers.now ≡ length (terms_of table.old) }
     ensures same { OnOk result (terms_of table.new ≡ terms_of table.old) }
-    ensures answer { IfOk result (λ answer. (flags : List (Symbol × Bool))
-        → IsTrue answer ↔ Agree (point_from (terms_of table.old) numbers.now flags classes.now.entries) (sum_of left.now) (sum_of right.now)) }
+    ensures answer { IfOk result (λ answer. (flags : List (Symbol × Bool)) → IsTrue answer
+        ↔ Agree (point_from (terms_of table.old) numbers.now flags classes.now.entries) (sum_of left.now)
+        (sum_of right.now)) }
     ensures past { IfErr result (λ e. (n : NumberPast) → e ≡ PointError.Past n → IsPast n) }
     ensures step { IfErr result (λ e. (n : NumberPast) → e ≡ PointError.Past n
         → IsStepOf (pair_rows (sum_of left.now) (sum_of right.now)) (terms_of table.old) numbers.now n) }

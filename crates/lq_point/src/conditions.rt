@@ -1,10 +1,11 @@
+// Whether values are a point of an implication.
 ghost use Rattle.std.specs.Prelude.{◌≡◌, ◌↔◌, Bool, List, IsTrue, IfOk, IfErr, OnOk, All, length, true};
 ghost use Rattle.lq_num.specs.Past.{IsPast};
 ghost use Rattle.lq_num.specs.declared.past.NumberPast.{NumberPast};
 ghost use Rattle.lq_pred.specs.declared.pred.Pred.{Pred};
 ghost use Rattle.lq_pred.specs.declared.symbol.Symbol.{Symbol};
 ghost use Rattle.lq_pred.specs.Comparison.{Comparison, CanGather};
-ghost use Rattle.lq_pred.specs.Implication.{terms_in, IsPoint};
+ghost use Rattle.lq_pred.specs.ClosedImplication.{terms_in, IsPoint};
 ghost use Rattle.lq_pred.specs.Literals.{comparisons_of, implication_literals};
 ghost use Rattle.lq_pred.specs.PredView.{formula_of, implication_of};
 ghost use Rattle.lq_pred.specs.Reading.{reading_of, formula_numbered, AllFitIn};
@@ -29,14 +30,17 @@ fn evaluate_each(
     numbers: &[Frac],
     table: &mut TermTable,
 ) -> Result<(), PointError>
-    requires has { All (λ p. formula_numbered (terms_of table.old) (formula_of p) ≡ terms_of table.old) preds.now }
+    requires has { All (λ p. formula_numbered (terms_of table.old) (formula_of p)
+        ≡ terms_of table.old) preds.now }
     requires fits { All (λ p. AllFitIn (reading_of true (formula_of p))) preds.now }
     requires one_each { length numbers.now ≡ length (terms_of table.old) }
     ensures same { OnOk result (terms_of table.new ≡ terms_of table.old) }
-    ensures ok { OnOk result (All (λ p. Evaluates (terms_of table.old) numbers.now (reading_of true (formula_of p))) preds.now) }
+    ensures ok { OnOk result (All (λ p. Evaluates (terms_of table.old) numbers.now
+        (reading_of true (formula_of p))) preds.now) }
     ensures past { IfErr result (λ e. (n : NumberPast) → e ≡ PointError.Past n → IsPast n) }
     ensures step { IfErr result (λ e. (n : NumberPast) → e ≡ PointError.Past n
-        → (literals : List Comparison) → All (λ p. AreAmong literals (comparisons_of (reading_of true (formula_of p)))) preds.now
+        → (literals : List Comparison) → All (λ p. AreAmong literals
+        (comparisons_of (reading_of true (formula_of p)))) preds.now
         → IsStepOf literals (terms_of table.old) numbers.now n) }
 {
     for pred in preds {
@@ -55,15 +59,19 @@ pub(crate) fn is_point(
     implication: &Closed,
 ) -> Result<bool, PointError>
     requires gathers { All CanGather (implication_literals (implication_of implication.now)) }
-    requires terms { (t : Sum) → IsTrue (has_term (terms_in (implication_of implication.now)) t) → IsTrue (has_term (terms_of table.old) t) }
+    requires terms { (t : Sum) → IsTrue (has_term (terms_in (implication_of implication.now)) t)
+        → IsTrue (has_term (terms_of table.old) t) }
     requires one_each { length numbers.now ≡ length (terms_of table.old) }
     ensures same { OnOk result (terms_of table.new ≡ terms_of table.old) }
-    ensures answer { IfOk result (λ answer. (flags : List (Symbol × Bool))
-        → IsTrue answer ↔ IsPoint (implication_of implication.now) (point_from (terms_of table.old) numbers.now flags classes.now.entries)) }
-    ensures evaluates { OnOk result (EvaluatesAll (terms_of table.old) numbers.now (implication_of implication.now)) }
+    ensures answer { IfOk result (λ answer. (flags : List (Symbol × Bool)) → IsTrue answer
+        ↔ IsPoint (implication_of implication.now)
+        (point_from (terms_of table.old) numbers.now flags classes.now.entries)) }
+    ensures evaluates { OnOk result (EvaluatesAll (terms_of table.old) numbers.now
+        (implication_of implication.now)) }
     ensures past { IfErr result (λ e. (n : NumberPast) → e ≡ PointError.Past n → IsPast n) }
     ensures step { IfErr result (λ e. (n : NumberPast) → e ≡ PointError.Past n
-        → IsStepOf (implication_literals (implication_of implication.now)) (terms_of table.old) numbers.now n) }
+        → IsStepOf (implication_literals (implication_of implication.now))
+        (terms_of table.old) numbers.now n) }
 {
     evaluate_each(alloc, implication.hypotheses.as_slice(), numbers, table)?;
     evaluate(alloc, &implication.goal, false, numbers, table)?;

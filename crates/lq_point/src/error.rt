@@ -1,3 +1,4 @@
+// Why a point isn't made.
 ghost use Rattle.std.specs.Prelude.{◌≡◌};
 ghost use Rattle.lq_point.specs.declared.error.PointError.TheVariants.{Past, Memory};
 

@@ -1,3 +1,4 @@
+// The rows of readings, evaluated.
 ghost use Rattle.std.specs.Prelude.{◌≡◌, OnOk, IfErr, length};
 ghost use Rattle.lq_linear.specs.Steps.{valuation_of};
 ghost use Rattle.lq_num.specs.Past.{IsPast};
@@ -58,10 +59,12 @@ pub(crate) fn evaluate(
     requires fits { AllFitIn (reading_of positive (formula_of pred.now)) }
     requires one_each { length numbers.now ≡ length (terms_of table.old) }
     ensures same { OnOk result (terms_of table.new ≡ terms_of table.old) }
-    ensures ok { OnOk result (Evaluates (terms_of table.old) numbers.now (reading_of positive (formula_of pred.now))) }
+    ensures ok { OnOk result (Evaluates (terms_of table.old) numbers.now
+        (reading_of positive (formula_of pred.now))) }
     ensures past { IfErr result (λ e. (n : NumberPast) → e ≡ PointError.Past n → IsPast n) }
     ensures step { IfErr result (λ e. (n : NumberPast) → e ≡ PointError.Past n
-        → IsStepOf (comparisons_of (reading_of positive (formula_of pred.now))) (terms_of table.old) numbers.now n) }
+        → IsStepOf (comparisons_of (reading_of positive (formula_of pred.now)))
+        (terms_of table.old) numbers.now n) }
 {
     rows_say_what_comparisons_say();
     match tighten(alloc, pred, positive, table) {

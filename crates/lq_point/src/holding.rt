@@ -1,3 +1,4 @@
+// What holds at a point.
 ghost use Rattle.std.specs.Prelude.{◌≡◌, ◌↔◌, ◌<◌, IsTrue, length, false, unwrap_or, pos, MatchBool};
 ghost use Rattle.lq_linear.specs.Row.{RowHolds};
 ghost use Rattle.lq_linear.specs.Steps.{valuation_of};
@@ -21,9 +22,11 @@ use std::cmp::Ordering;
 /// table of a hypothesis or of the negated goal can all be evaluated, and so can those of its parts.
 pub fn holds(point: &Point, nnf: &Nnf) -> bool
     requires { CanEvaluate (numbers_of (values_of point.now)) (nnf_view nnf.now) }
-    ensures rows { IsTrue result ↔ MeetsRows (valuation_of (numbers_of (values_of point.now))) (as_point point.now) (nnf_view nnf.now) }
-    ensures reading { (reading : Reading Comparison) → Gathers (table_of (values_of point.now)) reading (nnf_view nnf.now)
-        → IsTrue result ↔ Meets (as_point point.now) reading }
+    ensures rows { IsTrue result ↔ MeetsRows (valuation_of (numbers_of (values_of point.now)))
+        (as_point point.now) (nnf_view nnf.now) }
+    ensures reading { (reading : Reading Comparison)
+        → Gathers (table_of (values_of point.now)) reading (nnf_view nnf.now) → IsTrue result
+        ↔ Meets (as_point point.now) reading }
 {
     rows_say_what_comparisons_say();
     let values = point.values();
@@ -36,7 +39,8 @@ impl PointValues {
     #[cycle(meets)]
     fn meets(&self, nnf: &Nnf) -> bool
         requires { CanEvaluate (numbers_of self.now) (nnf_view nnf.now) }
-        ensures { IsTrue result ↔ MeetsRows (valuation_of (numbers_of self.now)) (point_of_values self.now) (nnf_view nnf.now) }
+        ensures { IsTrue result ↔ MeetsRows (valuation_of (numbers_of self.now)) (point_of_values self.now)
+            (nnf_view nnf.now) }
     {
         match nnf {
             Nnf::Yes => true,
@@ -54,7 +58,8 @@ impl PointValues {
     #[cycle(meets)]
     fn meets_all(&self, all: &Nnfs) -> bool
         requires { CanEvaluateEach (numbers_of self.now) (nnfs_view all.now) }
-        ensures { IsTrue result ↔ MeetsAllRows (valuation_of (numbers_of self.now)) (point_of_values self.now) (nnfs_view all.now) }
+        ensures { IsTrue result ↔ MeetsAllRows (valuation_of (numbers_of self.now))
+            (point_of_values self.now) (nnfs_view all.now) }
     {
         for nnf in all.as_slice() {
             if !self.meets(nnf) {
@@ -67,7 +72,8 @@ impl PointValues {
     #[cycle(meets)]
     fn meets_any(&self, any: &Nnfs) -> bool
         requires { CanEvaluateEach (numbers_of self.now) (nnfs_view any.now) }
-        ensures { IsTrue result ↔ MeetsAnyRow (valuation_of (numbers_of self.now)) (point_of_values self.now) (nnfs_view any.now) }
+        ensures { IsTrue result ↔ MeetsAnyRow (valuation_of (numbers_of self.now))
+            (point_of_values self.now) (nnfs_view any.now) }
     {
         for nnf in any.as_slice() {
             if self.meets(nnf) {
@@ -91,7 +97,8 @@ fn row_holds(row: &LinearRow, numbers: &[Frac]) -> bool
 
 // Whether a level is 0, or at most 0.
 fn is_met(level: &Frac, equal: bool) -> bool
-    ensures { IsTrue result ↔ MatchBool equal (value_of level.now ≡ whole (pos 0)) (value_of level.now ≤ℚ whole (pos 0)) }
+    ensures { IsTrue result ↔ MatchBool equal (value_of level.now ≡ whole (pos 0))
+        (value_of level.now ≤ℚ whole (pos 0)) }
 {
     if equal {
         level.is_zero()

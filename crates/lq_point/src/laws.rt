@@ -1,3 +1,4 @@
+// Which readings can be evaluated at a point.
 ghost use Rattle.std.specs.Prelude.{IsTrue, List};
 ghost use Rattle.lq_linear.specs.Row.{Row};
 ghost use Rattle.lq_num.specs.declared.frac.Frac.{Frac};
@@ -13,8 +14,9 @@ use lq_pred::rows_say_what_comparisons_say;
 /// at a point `holds` may be asked of every tightened reading of a hypothesis or of the negated goal, and
 /// of each of its parts.
 pub fn gathered_readings_can_be_evaluated()
-    ensures { (terms : List Sum) (values : List Frac) (reading : Reading Comparison) (rows : Reading Row) → IsTrue (all_differ terms)
-        → Gathers terms reading rows → Evaluates terms values reading → CanEvaluate values rows }
+    ensures { (terms : List Sum) (values : List Frac) (reading : Reading Comparison) (rows : Reading Row)
+        → IsTrue (all_differ terms) → Gathers terms reading rows → Evaluates terms values reading
+        → CanEvaluate values rows }
 {
     rows_say_what_comparisons_say();
 }

@@ -1,3 +1,4 @@
+// The pairs of terms that apply one function.
 ghost use Rattle.std.specs.Prelude.{◌≡◌, ◌↔◌, ◌<◌, ◌+◌, ℕ, Bool, List, IsTrue, IfOk, IfErr, OnOk, All, length};
 ghost use Rattle.lq_num.specs.Past.{IsPast};
 ghost use Rattle.lq_num.specs.declared.past.NumberPast.{NumberPast};
@@ -27,7 +28,8 @@ fn replace(
     at: u64,
 ) -> Result<Option<u64>, AllocError>
     ensures old { IfOk result (λ old. old ≡ old_place latest.old.entries (applied (sum_of term.now))) }
-    ensures new { OnOk result ((f : Function) → place_of latest.new.entries f ≡ new_place (applied (sum_of term.now)) at f (place_of latest.old.entries f)) }
+    ensures new { OnOk result ((f : Function) → place_of latest.new.entries f
+        ≡ new_place (applied (sum_of term.now)) at f (place_of latest.old.entries f)) }
 {
     match function_of(term) {
         Some(function) => Ok(latest.insert(function, at)?),
@@ -38,7 +40,8 @@ fn replace(
 // For each term the place of the nearest one before it that applies the same function.
 fn nearest_earlier(alloc: Global, terms: &TermTable) -> Result<Vec<Option<u64>>, AllocError>
     ensures length { IfOk result (λ earlier. length earlier.items ≡ length (terms_of terms.now)) }
-    ensures earlier { IfOk result (λ earlier. HasEarlier (terms_of terms.now) (length (terms_of terms.now)) earlier.items) }
+    ensures earlier { IfOk result (λ earlier. HasEarlier (terms_of terms.now)
+        (length (terms_of terms.now)) earlier.items) }
 {
     let mut latest = IndexMap::new(alloc);
     let mut earlier = Vec::new(alloc);
@@ -67,10 +70,12 @@ fn agrees_with_earlier(
     requires fits { All CanGather (all_pairs (terms_of terms.now)) }
     requires one_each { length numbers.now ≡ length (terms_of table.old) }
     ensures same { OnOk result (terms_of table.new ≡ terms_of table.old) }
-    ensures answer { IfOk result (λ answer. (flags : List (Symbol × Bool))
-        → IsTrue answer ↔ AgreesBefore (point_from (terms_of table.old) numbers.now flags classes.now.entries) (terms_of terms.now) at) }
+    ensures answer { IfOk result (λ answer. (flags : List (Symbol × Bool)) → IsTrue answer
+        ↔ AgreesBefore (point_from (terms_of table.old) numbers.now flags classes.now.entries)
+        (terms_of terms.now) at) }
     ensures past { IfErr result (λ e. (n : NumberPast) → e ≡ PointError.Past n → IsPast n) }
-    ensures step { IfErr result (λ e. (n : NumberPast) → e ≡ PointError.Past n → IsStepOf (all_pairs (terms_of terms.now)) (terms_of table.old) numbers.now n) }
+    ensures step { IfErr result (λ e. (n : NumberPast) → e ≡ PointError.Past n
+        → IsStepOf (all_pairs (terms_of terms.now)) (terms_of table.old) numbers.now n) }
 {
     let term = terms.term(at);
     let mut next = earlier[at as usize];
@@ -96,10 +101,12 @@ pub(crate) fn all_agree(
     requires fits { All CanGather (all_pairs (terms_of terms.now)) }
     requires one_each { length numbers.now ≡ length (terms_of table.old) }
     ensures same { OnOk result (terms_of table.new ≡ terms_of table.old) }
-    ensures answer { IfOk result (λ answer. (flags : List (Symbol × Bool))
-        → IsTrue answer ↔ AllAgree (point_from (terms_of table.old) numbers.now flags classes.now.entries) (terms_of terms.now)) }
+    ensures answer { IfOk result (λ answer. (flags : List (Symbol × Bool)) → IsTrue answer
+        ↔ AllAgree (point_from (terms_of table.old) numbers.now flags classes.now.entries)
+        (terms_of terms.now)) }
     ensures past { IfErr result (λ e. (n : NumberPast) → e ≡ PointError.Past n → IsPast n) }
-    ensures step { IfErr result (λ e. (n : NumberPast) → e ≡ PointError.Past n → IsStepOf (all_pairs (terms_of terms.now)) (terms_of table.old) numbers.now n) }
+    ensures step { IfErr result (λ e. (n : NumberPast) → e ≡ PointError.Past n
+        → IsStepOf (all_pairs (terms_of terms.now)) (terms_of table.old) numbers.now n) }
 {
     let earlier = nearest_earlier(alloc, terms)?;
     for at in 0..terms.len() {

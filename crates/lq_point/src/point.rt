@@ -1,8 +1,9 @@
+// Points of implications.
 ghost use Rattle.std.specs.Prelude.{◌≡◌, IfOk, IfErr, IfSome, IfNone, IsTrue, All};
 ghost use Rattle.lq_num.specs.Past.{IsPast};
 ghost use Rattle.lq_num.specs.declared.past.NumberPast.{NumberPast};
 ghost use Rattle.lq_pred.specs.Comparison.{CanGather};
-ghost use Rattle.lq_pred.specs.Implication.{terms_in, IsPoint};
+ghost use Rattle.lq_pred.specs.ClosedImplication.{terms_in, IsPoint};
 ghost use Rattle.lq_pred.specs.Literals.{implication_literals};
 ghost use Rattle.lq_pred.specs.PredView.{implication_of};
 ghost use Rattle.lq_pred.specs.Sum.{Sum};
@@ -34,14 +35,20 @@ impl Point {
         implication: &Closed,
     ) -> Result<Option<Point>, PointError>
         requires gathers { All CanGather (implication_literals (implication_of implication.now)) }
-        requires terms { (t : Sum) → IsTrue (has_term (terms_in (implication_of implication.now)) t) → IsTrue (has_term (table_of values) t) }
-        ensures some { IfOk result (λ made. IfSome made (λ point. IsPoint (implication_of implication.now) (as_point point))) }
-        ensures none { IfOk result (λ made. IfNone made (IsPoint (implication_of implication.now) (point_of_values values) → ⊥)) }
+        requires terms { (t : Sum) → IsTrue (has_term (terms_in (implication_of implication.now)) t)
+            → IsTrue (has_term (table_of values) t) }
+        ensures some { IfOk result (λ made. IfSome made (λ point. IsPoint (implication_of implication.now)
+            (as_point point))) }
+        ensures none { IfOk result (λ made. IfNone made (IsPoint (implication_of implication.now)
+            (point_of_values values) → ⊥)) }
         ensures values { IfOk result (λ made. IfSome made (λ point. AreSame (values_of point) values)) }
-        ensures evaluates { IfOk result (λ made. IfSome made (λ point. EvaluatesAll (table_of (values_of point)) (numbers_of (values_of point)) (implication_of implication.now))) }
+        ensures evaluates { IfOk result (λ made. IfSome made
+            (λ point. EvaluatesAll (table_of (values_of point)) (numbers_of (values_of point))
+            (implication_of implication.now))) }
         ensures past { IfErr result (λ e. (n : NumberPast) → e ≡ PointError.Past n → IsPast n) }
         ensures step { IfErr result (λ e. (n : NumberPast) → e ≡ PointError.Past n
-            → IsStepOf (implication_literals (implication_of implication.now)) (table_of values) (numbers_of values) n) }
+            → IsStepOf (implication_literals (implication_of implication.now)) (table_of values)
+            (numbers_of values) n) }
     {
         let PointValues {
             numbers,

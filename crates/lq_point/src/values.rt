@@ -1,3 +1,4 @@
+// The values of points.
 ghost use Rattle.std.specs.Prelude.{◌≡◌, length};
 ghost use Rattle.lq_pred.specs.TableView.{terms_of};
 

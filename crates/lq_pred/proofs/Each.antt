@@ -4,7 +4,7 @@ use Rattle.std.proofs.lemmas.List.{take_more, map_push}
 use Rattle.lq_pred.specs.Sum.{Sum}
 use Rattle.lq_pred.specs.Formula.{Formula}
 use Rattle.lq_pred.specs.Reading.{formula_numbered}
-use Rattle.lq_pred.specs.Implication.{each_numbered}
+use Rattle.lq_pred.specs.ClosedImplication.{each_numbered}
 use Rattle.lq_pred.specs.PredView.{formula_of}
 use Rattle.lq_pred.specs.declared.pred.Pred.{Pred}
 

@@ -12,7 +12,7 @@ use Rattle.lq_pred.specs.Sum.{Sum, whole, var, neg, add, sub, mul, div, rem, len
 use Rattle.lq_pred.specs.Formula.{Formula}
 use Rattle.lq_pred.specs.Truth.{Meaning, term_value, truth_of, IsTrueIn, quotient, remainder}
 use Rattle.lq_pred.specs.Points.{form_at, point_of}
-use Rattle.lq_pred.specs.Implication.{Implication, AreApart, AgreeOrApart, Agree, IsPoint, MeetsEach, EachTrueIn, IsValid}
+use Rattle.lq_pred.specs.ClosedImplication.{ClosedImplication, AreApart, AgreeOrApart, Agree, IsPoint, MeetsEach, EachTrueIn, IsValid}
 use Rattle.lq_pred.proofs.WholeNumbers.{form_value, one_below, reading_holds}
 
 one_apart : (x y : ℤ) → lt_z x y ≡ true → (rational x +ℚ rational (pos 1)) ≤ℚ rational y
@@ -61,14 +61,14 @@ agrees m (neg a) t = tt
 agrees m (add a b) t = tt
 agrees m (sub a b) t = tt
 
-pub whole_point : (m : Meaning) (i : Implication) → IsPoint i (point_of m)
+pub whole_point : (m : Meaning) (i : ClosedImplication) → IsPoint i (point_of m)
 whole_point m i s t p q = agrees m s t
 
 each_meets : (m : Meaning) (ps : List Formula) → EachTrueIn m ps → MeetsEach (point_of m) ps
 each_meets m [] h = tt
 each_meets m (p ∷ ps) h = (reading_holds m p true h.0, each_meets m ps h.1)
 
-pub valid_is_true : (m : Meaning) (i : Implication) → IsValid i → EachTrueIn m i.hypotheses → IsTrueIn m i.goal
+pub valid_is_true : (m : Meaning) (i : ClosedImplication) → IsValid i → EachTrueIn m i.hypotheses → IsTrueIn m i.goal
 valid_is_true m i v h = by (truth_of m i.goal) refl
   where
     by : (b : Bool) → truth_of m i.goal ≡ b → b ≡ true

@@ -14,7 +14,7 @@ pub mod NnfView
 pub mod Relation
 pub mod Truth
 pub mod Points
-pub mod Implication
+pub mod ClosedImplication
 pub mod Literals
 pub mod RowMeaning
 pub mod Numbering

@@ -1,9 +1,9 @@
 -- The literals of an implication, in their order.
 use Rattle.std.specs.Prelude.{pos, true, false, ◌==◌, List, [], ◌∷◌, ◌++◌, if◌then◌else◌}
-use Rattle.lq_pred.specs.Sum.{Sum, mul, div, rem, len, measure}
+use Rattle.lq_pred.specs.Sum.{Sum, whole, var, neg, add, sub, mul, div, rem, len, measure}
 use Rattle.lq_pred.specs.Comparison.{Comparison, comparison}
 use Rattle.lq_pred.specs.Formula.{Formula, truth, falsity, flag, compare, objects, negation, conjunction, disjunction, equivalence}
-use Rattle.lq_pred.specs.Implication.{Implication, terms_in}
+use Rattle.lq_pred.specs.ClosedImplication.{ClosedImplication, terms_in}
 use Rattle.lq_pred.specs.Reading.{Reading, yes, no, row, flag_is, objects_are, all_of, any_of, Readings, none, more, comparison_reading}
 
 -- with which signs a predicate is read: under an equivalence with both
@@ -64,7 +64,16 @@ pair_rows (div a b) (div c d) = condition_rows (div a b) a b (div c d) c d
 pair_rows (rem a b) (rem c d) = condition_rows (rem a b) a b (rem c d) c d
 pair_rows (len a) (len b) = equal_row (len a) (len b) ∷ []
 pair_rows (measure f a) (measure g b) = if f.0 == g.0 then equal_row (measure f a) (measure g b) ∷ [] else []
-pair_rows _ _ = []
+pair_rows (mul a b) _ = []
+pair_rows (div a b) _ = []
+pair_rows (rem a b) _ = []
+pair_rows (len a) _ = []
+pair_rows (measure f a) _ = []
+pair_rows (whole n) _ = []
+pair_rows (var x) _ = []
+pair_rows (neg a) _ = []
+pair_rows (add a b) _ = []
+pair_rows (sub a b) _ = []
 
 abbrev pub rows_with : Sum → List Sum → List Comparison
 rows_with s [] = []
@@ -80,5 +89,5 @@ each_literals [] = []
 each_literals (p ∷ ps) = literals_of positive p ++ each_literals ps
 
 -- the hypotheses in order, then the negated goal, then the rows for each two applications of one function
-abbrev pub implication_literals : Implication → List Comparison
+abbrev pub implication_literals : ClosedImplication → List Comparison
 implication_literals i = each_literals i.hypotheses ++ literals_of negative i.goal ++ all_pairs (terms_in i)

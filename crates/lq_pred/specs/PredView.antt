@@ -2,7 +2,7 @@
 use Rattle.std.specs.Prelude.{List, map}
 use Rattle.lq_pred.specs.Formula.{Formula, truth, falsity, flag, compare, objects, negation, conjunction, disjunction, equivalence}
 use Rattle.lq_pred.specs.TermView.{sum_of}
-use Rattle.lq_pred.specs.Implication.{Implication}
+use Rattle.lq_pred.specs.ClosedImplication.{ClosedImplication}
 use Rattle.lq_pred.specs.declared.pred.Closed.{Closed}
 use Rattle.lq_pred.specs.declared.pred.Preds.{Preds}
 use Rattle.lq_pred.specs.declared.pred.Pred.{Pred, True, False, Flag, Compare, Same, Not', And', Or', Iff'}
@@ -23,5 +23,5 @@ abbrev pub pred_items : Preds → List Pred
 pred_items preds = preds.items.items
 
 -- the implication that a closed one of the code stands for
-abbrev pub implication_of : Closed → Implication
+abbrev pub implication_of : Closed → ClosedImplication
 implication_of i = record { hypotheses = map formula_of (pred_items i.hypotheses); goal = formula_of i.goal }

@@ -1,3 +1,4 @@
+// Why a comparison isn't gathered.
 ghost use Rattle.std.specs.Prelude.{◌≡◌};
 ghost use Rattle.lq_pred.specs.declared.error.GatherError.TheVariants.{Memory};
 

@@ -1,3 +1,4 @@
+// Linear forms: coefficients by the numbers of terms, and a constant.
 ghost use Rattle.std.specs.Prelude.{◌≡◌, true, false, ◌==◌, if◌then◌else◌, ◌+ℤ◌, ◌-ℤ◌, ◌*ℤ◌, ℕ, ℤ, pos, FitsSigned, IfOk, OnOk, IsErrOf};
 ghost use Rattle.std.specs.Int.{w128};
 ghost use Rattle.std.specs.Option.{SomeIff};
@@ -48,9 +49,9 @@ pub(crate) fn merge(
 
 // Each coefficient times n.
 pub(crate) fn scale(
+    alloc: Global,
     n: i128,
     mut from: BTreeMap<u64, i128>,
-    alloc: Global,
 ) -> Result<BTreeMap<u64, i128>, GatherError>
     ensures scaled { IfOk result (λ m. (q : ℕ) → at m q ≡ n *ℤ at from q) }
     ensures fit { IfOk result AllFit }
@@ -68,7 +69,7 @@ pub(crate) fn scale(
 
 impl Form {
     // A constant alone.
-    pub(crate) fn constant(n: i128, alloc: Global) -> Form
+    pub(crate) fn constant(alloc: Global, n: i128) -> Form
         ensures constant { result.constant ≡ n }
         ensures fit { FormFits result }
         ensures coefficients { (q : ℕ) → at result.coefficients q ≡ pos 0 }
@@ -80,10 +81,11 @@ impl Form {
     }
 
     // One term alone, by its number.
-    pub(crate) fn of_number(number: u64, alloc: Global) -> Result<Form, AllocError>
+    pub(crate) fn of_number(alloc: Global, number: u64) -> Result<Form, AllocError>
         ensures constant { IfOk result (λ f. f.constant ≡ pos 0) }
         ensures fit { IfOk result FormFits }
-        ensures coefficients { IfOk result (λ f. (q : ℕ) → at f.coefficients q ≡ (if number == q then pos 1 else pos 0)) }
+        ensures coefficients { IfOk result (λ f. (q : ℕ)
+            → at f.coefficients q ≡ (if number == q then pos 1 else pos 0)) }
     {
         let mut coefficients = BTreeMap::new(alloc);
         coefficients.insert(number, 1)?;
@@ -97,7 +99,8 @@ impl Form {
         requires left { AllFit self.coefficients }
         requires right { AllFit right.coefficients }
         ensures constant { IfOk result (λ f. f.constant ≡ self.constant +ℤ right.constant) }
-        ensures coefficients { IfOk result (λ f. IsCombined false self.coefficients right.coefficients f.coefficients) }
+        ensures coefficients { IfOk result (λ f. IsCombined false self.coefficients right.coefficients
+            f.coefficients) }
         ensures fit { IfOk result FormFits }
         ensures past { IsErrOf result GatherError.Past → FitsSigned w128 (self.constant +ℤ right.constant)
             → CanCombine false self.coefficients right.coefficients → ⊥ }
@@ -115,7 +118,8 @@ impl Form {
     pub(crate) fn minus(self, right: Form) -> Result<Form, GatherError>
         requires { AllFit self.coefficients }
         ensures constant { IfOk result (λ f. f.constant ≡ self.constant -ℤ right.constant) }
-        ensures coefficients { IfOk result (λ f. IsCombined true self.coefficients right.coefficients f.coefficients) }
+        ensures coefficients { IfOk result (λ f. IsCombined true self.coefficients right.coefficients
+            f.coefficients) }
         ensures fit { IfOk result FormFits }
         ensures past { IsErrOf result GatherError.Past → FitsSigned w128 (self.constant -ℤ right.constant)
             → CanCombine true self.coefficients right.coefficients → ⊥ }
@@ -131,9 +135,10 @@ impl Form {
         })
     }
 
-    pub(crate) fn times(self, n: i128, alloc: Global) -> Result<Form, GatherError>
+    pub(crate) fn times(self, alloc: Global, n: i128) -> Result<Form, GatherError>
         ensures constant { IfOk result (λ f. f.constant ≡ n *ℤ self.constant) }
-        ensures coefficients { IfOk result (λ f. (q : ℕ) → at f.coefficients q ≡ n *ℤ at self.coefficients q) }
+        ensures coefficients { IfOk result (λ f. (q : ℕ)
+            → at f.coefficients q ≡ n *ℤ at self.coefficients q) }
         ensures fit { IfOk result FormFits }
         ensures past { IsErrOf result GatherError.Past → FitsSigned w128 (n *ℤ self.constant)
             → ((q : ℕ) → FitsSigned w128 (n *ℤ at self.coefficients q)) → ⊥ }
@@ -141,7 +146,7 @@ impl Form {
         let Some(constant) = n.checked_mul(self.constant) else {
             return Err(GatherError::Past);
         };
-        let coefficients = scale(n, self.coefficients, alloc)?;
+        let coefficients = scale(alloc, n, self.coefficients)?;
         Ok(Form {
             coefficients,
             constant,

@@ -1,3 +1,4 @@
+// Comparisons gathered into rows.
 ghost use Rattle.std.specs.Prelude.{◌≡◌, ℕ, pos, ◌+ℤ◌, ◌-ℤ◌, FitsSigned, IfOk, OnOk, IsErrOf};
 ghost use Rattle.std.specs.Int.{w128};
 ghost use Rattle.std.specs.Option.{SomeIff};
@@ -20,8 +21,8 @@ use std::collections::BTreeMap;
 // Numbers the terms of a term that a table numbers, an inner one before the outer.
 #[tactic(auto, using(crate::specs::Growing::growing))]
 pub(crate) fn number_terms(
-    term: &Term,
     alloc: Global,
+    term: &Term,
     table: &mut TermTable,
 ) -> Result<(), AllocError>
     ensures numbered { OnOk result (terms_of table.new ≡ numbered (terms_of table.old) (sum_of term.now)) }
@@ -29,27 +30,27 @@ pub(crate) fn number_terms(
 {
     match term {
         Term::Whole(_) => Ok(()),
-        Term::Neg(a) => number_terms(a, alloc, table),
+        Term::Neg(a) => number_terms(alloc, a, table),
         Term::Add(a, b) | Term::Sub(a, b) => {
-            number_terms(a, alloc, table)?;
-            number_terms(b, alloc, table)
+            number_terms(alloc, a, table)?;
+            number_terms(alloc, b, table)
         }
         Term::Mul(a, b) => {
-            number_terms(a, alloc, table)?;
-            number_terms(b, alloc, table)?;
+            number_terms(alloc, a, table)?;
+            number_terms(alloc, b, table)?;
             if a.literal().is_none() && b.literal().is_none() {
-                table.number(term, alloc)?;
+                table.number(alloc, term)?;
             }
             Ok(())
         }
         Term::Div(a, b) | Term::Mod(a, b) => {
-            number_terms(a, alloc, table)?;
-            number_terms(b, alloc, table)?;
-            table.number(term, alloc)?;
+            number_terms(alloc, a, table)?;
+            number_terms(alloc, b, table)?;
+            table.number(alloc, term)?;
             Ok(())
         }
         Term::Var(_) | Term::Length(_) | Term::Measure(_, _) => {
-            table.number(term, alloc)?;
+            table.number(alloc, term)?;
             Ok(())
         }
     }
@@ -57,38 +58,40 @@ pub(crate) fn number_terms(
 
 // The form of a variable or an application whose inner terms are numbered.
 #[tactic(auto, using(crate::specs::Growing::growing))]
-fn atom(term: &Term, alloc: Global, table: &mut TermTable) -> Result<Form, GatherError>
+fn atom(alloc: Global, term: &Term, table: &mut TermTable) -> Result<Form, GatherError>
     ensures numbered { OnOk result (terms_of table.new ≡ with_term (terms_of table.old) (sum_of term.now)) }
     ensures form { IfOk result (λ f. HasForm (terms_of table.new) f (pos 0) (one_at (sum_of term.now))) }
     ensures past { IsErrOf result GatherError.Past → ⊥ }
     ensures grows { Extends (terms_of table.old) (terms_of table.new) }
 {
-    let number = table.number(term, alloc)?;
-    Ok(Form::of_number(number, alloc)?)
+    let number = table.number(alloc, term)?;
+    Ok(Form::of_number(alloc, number)?)
 }
 
 // The form of an application of two arguments.
 #[tactic(auto, using(crate::specs::Growing::growing))]
 fn application(
+    alloc: Global,
     term: &Term,
     left: &Term,
     right: &Term,
-    alloc: Global,
     table: &mut TermTable,
 ) -> Result<Form, GatherError>
-    ensures numbered { OnOk result (terms_of table.new ≡ with_term (numbered (numbered (terms_of table.old) (sum_of left.now)) (sum_of right.now)) (sum_of term.now)) }
+    ensures numbered { OnOk result (terms_of table.new
+        ≡ with_term (numbered (numbered (terms_of table.old) (sum_of left.now)) (sum_of right.now))
+        (sum_of term.now)) }
     ensures form { IfOk result (λ f. HasForm (terms_of table.new) f (pos 0) (one_at (sum_of term.now))) }
     ensures past { IsErrOf result GatherError.Past → ⊥ }
     ensures grows { Extends (terms_of table.old) (terms_of table.new) }
 {
-    number_terms(left, alloc, table)?;
-    number_terms(right, alloc, table)?;
-    atom(term, alloc, table)
+    number_terms(alloc, left, table)?;
+    number_terms(alloc, right, table)?;
+    atom(alloc, term, table)
 }
 
 // The linear form of a term.
 #[tactic(auto, using(crate::specs::Growing::growing))]
-fn form(term: &Term, alloc: Global, table: &mut TermTable) -> Result<Form, GatherError>
+fn form(alloc: Global, term: &Term, table: &mut TermTable) -> Result<Form, GatherError>
     ensures numbered { OnOk result (terms_of table.new ≡ numbered (terms_of table.old) (sum_of term.now)) }
     ensures form { IfOk result (λ f. IsFormOf (terms_of table.new) f (sum_of term.now)) }
     ensures fit { OnOk result (IsFit (sum_of term.now)) }
@@ -96,43 +99,43 @@ fn form(term: &Term, alloc: Global, table: &mut TermTable) -> Result<Form, Gathe
     ensures grows { Extends (terms_of table.old) (terms_of table.new) }
 {
     match term {
-        Term::Whole(n) => Ok(Form::constant(*n, alloc)),
+        Term::Whole(n) => Ok(Form::constant(alloc, *n)),
         Term::Neg(a) => {
-            let inner = form(a, alloc, table)?;
-            inner.times(-1, alloc)
+            let inner = form(alloc, a, table)?;
+            inner.times(alloc, -1)
         }
         Term::Add(a, b) => {
-            let left = form(a, alloc, table)?;
-            let right = form(b, alloc, table)?;
+            let left = form(alloc, a, table)?;
+            let right = form(alloc, b, table)?;
             left.plus(right)
         }
         Term::Sub(a, b) => {
-            let left = form(a, alloc, table)?;
-            let right = form(b, alloc, table)?;
+            let left = form(alloc, a, table)?;
+            let right = form(alloc, b, table)?;
             left.minus(right)
         }
         Term::Mul(a, b) => {
             if let Some(n) = a.literal() {
-                let right = form(b, alloc, table)?;
-                return right.times(n, alloc);
+                let right = form(alloc, b, table)?;
+                return right.times(alloc, n);
             }
             if let Some(n) = b.literal() {
-                let left = form(a, alloc, table)?;
-                return left.times(n, alloc);
+                let left = form(alloc, a, table)?;
+                return left.times(alloc, n);
             }
-            application(term, a, b, alloc, table)
+            application(alloc, term, a, b, table)
         }
-        Term::Div(a, b) | Term::Mod(a, b) => application(term, a, b, alloc, table),
-        Term::Var(_) | Term::Length(_) | Term::Measure(_, _) => atom(term, alloc, table),
+        Term::Div(a, b) | Term::Mod(a, b) => application(alloc, term, a, b, table),
+        Term::Var(_) | Term::Length(_) | Term::Measure(_, _) => atom(alloc, term, table),
     }
 }
 
 // The row of these coefficients, those that are 0 left out.
 fn row_of(
+    alloc: Global,
     coefficients: BTreeMap<u64, i128>,
     constant: i128,
     equal: bool,
-    alloc: Global,
 ) -> Result<LinearRow, AllocError>
     ensures constant { IfOk result (λ row. row.constant ≡ constant) }
     ensures equal { IfOk result (λ row. row.equal ≡ equal) }
@@ -167,18 +170,21 @@ pub fn gather(
     equal: bool,
     table: &mut TermTable,
 ) -> Result<LinearRow, GatherError>
-    ensures numbered { OnOk result (terms_of table.new ≡ numbered (numbered (terms_of table.old) (sum_of left.now)) (sum_of right.now)) }
-    ensures row { IfOk result (λ row. IsRowOf (terms_of table.new) (comparison (sum_of left.now) (sum_of right.now) added equal) row) }
+    ensures numbered { OnOk result (terms_of table.new
+        ≡ numbered (numbered (terms_of table.old) (sum_of left.now)) (sum_of right.now)) }
+    ensures row { IfOk result (λ row. IsRowOf (terms_of table.new)
+        (comparison (sum_of left.now) (sum_of right.now) added equal) row) }
     ensures can { OnOk result (CanGather (comparison (sum_of left.now) (sum_of right.now) added equal)) }
-    ensures past { IsErrOf result GatherError.Past → CanGather (comparison (sum_of left.now) (sum_of right.now) added equal) → ⊥ }
+    ensures past { IsErrOf result GatherError.Past
+        → CanGather (comparison (sum_of left.now) (sum_of right.now) added equal) → ⊥ }
     ensures grows { Extends (terms_of table.old) (terms_of table.new) }
 {
-    let first = form(left, alloc, table)?;
-    let second = form(right, alloc, table)?;
+    let first = form(alloc, left, table)?;
+    let second = form(alloc, right, table)?;
     let Some(constant) = whole_constant(first.constant, second.constant, added) else {
         return Err(GatherError::Past);
     };
     let mut coefficients = first.coefficients;
     merge(true, &mut coefficients, second.coefficients)?;
-    Ok(row_of(coefficients, constant, equal, alloc)?)
+    Ok(row_of(alloc, coefficients, constant, equal)?)
 }

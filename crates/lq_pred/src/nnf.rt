@@ -1,3 +1,4 @@
+// Tightened readings.
 ghost use Rattle.std.specs.Prelude.{◌≡◌, [], ◌∷◌, ◌++◌, length, slice_get, option_copied, OnOk, OnErr, IfOk};
 
 use crate::symbol::Symbol;

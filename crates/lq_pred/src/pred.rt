@@ -1,3 +1,4 @@
+// Predicates, implications without unknowns, and why an implication has no verdict.
 ghost use Rattle.std.specs.Prelude.{◌≡◌, [], ◌∷◌, ◌++◌, length, slice_get, IfOk, OnOk, OnErr};
 ghost use Rattle.std.specs.Option.{option_copied};
 
@@ -61,14 +62,15 @@ impl Pred {
     /// before the outer.
     #[tactic(auto, using(crate::specs::Growing::growing))]
     pub fn number_terms(&self, alloc: Global, table: &mut TermTable) -> Result<(), AllocError>
-        ensures numbered { OnOk result (terms_of table.new ≡ formula_numbered (terms_of table.old) (formula_of self.now)) }
+        ensures numbered { OnOk result (terms_of table.new ≡ formula_numbered (terms_of table.old)
+            (formula_of self.now)) }
         ensures grows { Extends (terms_of table.old) (terms_of table.new) }
     {
         match self {
             Pred::True | Pred::False | Pred::Flag(_) | Pred::Same(_, _) => Ok(()),
             Pred::Compare(_, a, b) => {
-                number_terms(a, alloc, table)?;
-                number_terms(b, alloc, table)
+                number_terms(alloc, a, table)?;
+                number_terms(alloc, b, table)
             }
             Pred::Not(p) => p.number_terms(alloc, table),
             Pred::And(p, q) | Pred::Or(p, q) | Pred::Iff(p, q) => {
@@ -138,7 +140,8 @@ impl Preds {
 
     /// Equal predicates in the same order.
     pub fn copy(&self, alloc: Global) -> Result<Preds, AllocError>
-        ensures { IfOk result (λ preds. map formula_of (pred_items preds) ≡ map formula_of (pred_items self.now)) }
+        ensures { IfOk result (λ preds. map formula_of (pred_items preds)
+            ≡ map formula_of (pred_items self.now)) }
     {
         let mut copied = Vec::new(alloc);
         for pred in &self.items {
@@ -159,7 +162,7 @@ pub struct Closed {
 
 impl Closed {
     ghost use Rattle.std.specs.Prelude.{◌≡◌, IfOk};
-    ghost use Rattle.lq_pred.specs.Implication.{terms_in};
+    ghost use Rattle.lq_pred.specs.ClosedImplication.{terms_in};
     ghost use Rattle.lq_pred.specs.PredView.{implication_of};
     ghost use Rattle.lq_pred.specs.TableView.{terms_of};
 

@@ -1,3 +1,4 @@
+// The names in a predicate, and the kinds of what they stand for.
 use lq_name::{Binder, Name};
 
 /// A name in a predicate.

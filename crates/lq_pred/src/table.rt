@@ -1,3 +1,4 @@
+// The table that numbers terms.
 ghost use Rattle.std.specs.Prelude.{IsTrue, map};
 ghost use Rattle.lq_pred.specs.Table.{all_differ};
 ghost use Rattle.lq_pred.specs.TermView.{sum_of};
@@ -54,7 +55,7 @@ impl TermTable {
     }
 
     // The number of a term, the next one where the table lacks it.
-    pub(crate) fn number(&mut self, term: &Term, alloc: Global) -> Result<u64, AllocError>
+    pub(crate) fn number(&mut self, alloc: Global, term: &Term) -> Result<u64, AllocError>
         ensures added { OnOk result (terms_of self.new ≡ with_term (terms_of self.old) (sum_of term.now)) }
         ensures number { IfOk result (λ at. at ≡ index_of (terms_of self.new) (sum_of term.now)) }
         ensures err { OnErr result (terms_of self.new ≡ terms_of self.old) }

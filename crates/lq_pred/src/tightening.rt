@@ -1,3 +1,4 @@
+// Predicates read as tightened readings.
 ghost use Rattle.std.specs.Prelude.{◌≡◌, IfOk, OnOk, IsErrOf};
 ghost use Rattle.lq_pred.specs.Comparison.{comparison, CanGather};
 ghost use Rattle.lq_pred.specs.Relation.{relation_reading};
@@ -30,17 +31,20 @@ pub fn tighten(
     positive: bool,
     table: &mut TermTable,
 ) -> Result<Nnf, GatherError>
-    ensures numbered { OnOk result (terms_of table.new ≡ formula_numbered (terms_of table.old) (formula_of pred.now)) }
-    ensures reading { IfOk result (λ nnf. Gathers (terms_of table.new) (reading_of positive (formula_of pred.now)) (nnf_view nnf)) }
+    ensures numbered { OnOk result (terms_of table.new ≡ formula_numbered (terms_of table.old)
+        (formula_of pred.now)) }
+    ensures reading { IfOk result (λ nnf. Gathers (terms_of table.new)
+        (reading_of positive (formula_of pred.now)) (nnf_view nnf)) }
     ensures fits { OnOk result (AllFitIn (reading_of positive (formula_of pred.now))) }
-    ensures past { IsErrOf result GatherError.Past → AllFitIn (reading_of positive (formula_of pred.now)) → ⊥ }
+    ensures past { IsErrOf result GatherError.Past → AllFitIn (reading_of positive (formula_of pred.now))
+        → ⊥ }
     ensures grows { Extends (terms_of table.old) (terms_of table.new) }
 {
     match pred {
         Pred::True => Ok(constant(positive)),
         Pred::False => Ok(constant(!positive)),
         Pred::Flag(x) => Ok(Nnf::Flag(*x, positive)),
-        Pred::Compare(op, left, right) => compare(*op, positive, left, right, alloc, table),
+        Pred::Compare(op, left, right) => compare(alloc, *op, positive, left, right, table),
         Pred::Same(left, right) => {
             let first = left.copy(alloc)?;
             let second = right.copy(alloc)?;
@@ -50,21 +54,21 @@ pub fn tighten(
         Pred::And(left, right) => {
             let first = tighten(alloc, left, positive, table)?;
             let second = tighten(alloc, right, positive, table)?;
-            Ok(joined(positive, first, second, alloc)?)
+            Ok(joined(alloc, positive, first, second)?)
         }
         Pred::Or(left, right) => {
             let first = tighten(alloc, left, positive, table)?;
             let second = tighten(alloc, right, positive, table)?;
-            Ok(joined(!positive, first, second, alloc)?)
+            Ok(joined(alloc, !positive, first, second)?)
         }
         Pred::Iff(left, right) => {
             let yes = tighten(alloc, left, true, table)?;
             let no = tighten(alloc, left, false, table)?;
             let same = tighten(alloc, right, positive, table)?;
             let other = tighten(alloc, right, !positive, table)?;
-            let both = joined(true, yes, same, alloc)?;
-            let neither = joined(true, no, other, alloc)?;
-            Ok(joined(false, both, neither, alloc)?)
+            let both = joined(alloc, true, yes, same)?;
+            let neither = joined(alloc, true, no, other)?;
+            Ok(joined(alloc, false, both, neither)?)
         }
     }
 }
@@ -77,7 +81,7 @@ fn constant(holds: bool) -> Nnf
 }
 
 // All or any of two readings.
-fn joined(all: bool, first: Nnf, second: Nnf, alloc: Global) -> Result<Nnf, AllocError>
+fn joined(alloc: Global, all: bool, first: Nnf, second: Nnf) -> Result<Nnf, AllocError>
     ensures { IfOk result (λ nnf. nnf_view nnf ≡ joined_reading all (nnf_view first) (nnf_view second)) }
 {
     let mut both = Nnfs::new(alloc)?;
@@ -129,69 +133,80 @@ fn asked_relation(op: CompareOp, positive: bool) -> Relation
 // The reading of a comparison or of its negation.
 #[tactic(auto, using(crate::specs::Growing::growing))]
 fn compare(
+    alloc: Global,
     op: CompareOp,
     positive: bool,
     left: &Term,
     right: &Term,
-    alloc: Global,
     table: &mut TermTable,
 ) -> Result<Nnf, GatherError>
-    ensures numbered { OnOk result (terms_of table.new ≡ numbered (numbered (terms_of table.old) (sum_of left.now)) (sum_of right.now)) }
-    ensures reading { IfOk result (λ nnf. Gathers (terms_of table.new) (comparison_reading positive op (sum_of left.now) (sum_of right.now)) (nnf_view nnf)) }
-    ensures fits { OnOk result (AllFitIn (comparison_reading positive op (sum_of left.now) (sum_of right.now))) }
-    ensures past { IsErrOf result GatherError.Past → AllFitIn (comparison_reading positive op (sum_of left.now) (sum_of right.now)) → ⊥ }
+    ensures numbered { OnOk result (terms_of table.new
+        ≡ numbered (numbered (terms_of table.old) (sum_of left.now)) (sum_of right.now)) }
+    ensures reading { IfOk result (λ nnf. Gathers (terms_of table.new)
+        (comparison_reading positive op (sum_of left.now) (sum_of right.now)) (nnf_view nnf)) }
+    ensures fits { OnOk result (AllFitIn (comparison_reading positive op (sum_of left.now)
+        (sum_of right.now))) }
+    ensures past { IsErrOf result GatherError.Past
+        → AllFitIn (comparison_reading positive op (sum_of left.now) (sum_of right.now)) → ⊥ }
     ensures grows { Extends (terms_of table.old) (terms_of table.new) }
 {
     let relation = asked_relation(op, positive);
-    number_terms(left, alloc, table)?;
-    number_terms(right, alloc, table)?;
-    read(relation, left, right, alloc, table)
+    number_terms(alloc, left, table)?;
+    number_terms(alloc, right, table)?;
+    read(alloc, relation, left, right, table)
 }
 
 // The reading of a relation of two terms whose terms are numbered.
 fn read(
+    alloc: Global,
     relation: Relation,
     left: &Term,
     right: &Term,
-    alloc: Global,
     table: &mut TermTable,
 ) -> Result<Nnf, GatherError>
-    requires numbered { numbered (numbered (terms_of table.old) (sum_of left.now)) (sum_of right.now) ≡ terms_of table.old }
-    requires turned { numbered (numbered (terms_of table.old) (sum_of right.now)) (sum_of left.now) ≡ terms_of table.old }
+    requires numbered { numbered (numbered (terms_of table.old) (sum_of left.now)) (sum_of right.now)
+        ≡ terms_of table.old }
+    requires turned { numbered (numbered (terms_of table.old) (sum_of right.now)) (sum_of left.now)
+        ≡ terms_of table.old }
     ensures same { OnOk result (terms_of table.new ≡ terms_of table.old) }
-    ensures reading { IfOk result (λ nnf. Gathers (terms_of table.old) (relation_reading relation (sum_of left.now) (sum_of right.now)) (nnf_view nnf)) }
+    ensures reading { IfOk result (λ nnf. Gathers (terms_of table.old)
+        (relation_reading relation (sum_of left.now) (sum_of right.now)) (nnf_view nnf)) }
     ensures fits { OnOk result (AllFitIn (relation_reading relation (sum_of left.now) (sum_of right.now))) }
-    ensures past { IsErrOf result GatherError.Past → AllFitIn (relation_reading relation (sum_of left.now) (sum_of right.now)) → ⊥ }
+    ensures past { IsErrOf result GatherError.Past
+        → AllFitIn (relation_reading relation (sum_of left.now) (sum_of right.now)) → ⊥ }
     ensures grows { Extends (terms_of table.old) (terms_of table.new) }
 {
     match relation {
-        Relation::AtMost => read_row(left, right, 0, false, alloc, table),
-        Relation::AtLeast => read_row(right, left, 0, false, alloc, table),
-        Relation::Below => read_row(left, right, 1, false, alloc, table),
-        Relation::Above => read_row(right, left, 1, false, alloc, table),
-        Relation::Equal => read_row(left, right, 0, true, alloc, table),
+        Relation::AtMost => read_row(alloc, left, right, 0, false, table),
+        Relation::AtLeast => read_row(alloc, right, left, 0, false, table),
+        Relation::Below => read_row(alloc, left, right, 1, false, table),
+        Relation::Above => read_row(alloc, right, left, 1, false, table),
+        Relation::Equal => read_row(alloc, left, right, 0, true, table),
         Relation::Apart => {
-            let first = read_row(left, right, 1, false, alloc, table)?;
-            let second = read_row(right, left, 1, false, alloc, table)?;
-            Ok(joined(false, first, second, alloc)?)
+            let first = read_row(alloc, left, right, 1, false, table)?;
+            let second = read_row(alloc, right, left, 1, false, table)?;
+            Ok(joined(alloc, false, first, second)?)
         }
     }
 }
 
 // One row as a reading.
 fn read_row(
+    alloc: Global,
     left: &Term,
     right: &Term,
     added: i128,
     equal: bool,
-    alloc: Global,
     table: &mut TermTable,
 ) -> Result<Nnf, GatherError>
-    requires { numbered (numbered (terms_of table.old) (sum_of left.now)) (sum_of right.now) ≡ terms_of table.old }
+    requires { numbered (numbered (terms_of table.old) (sum_of left.now)) (sum_of right.now)
+        ≡ terms_of table.old }
     ensures same { OnOk result (terms_of table.new ≡ terms_of table.old) }
-    ensures reading { IfOk result (λ nnf. Gathers (terms_of table.old) (row (comparison (sum_of left.now) (sum_of right.now) added equal)) (nnf_view nnf)) }
+    ensures reading { IfOk result (λ nnf. Gathers (terms_of table.old)
+        (row (comparison (sum_of left.now) (sum_of right.now) added equal)) (nnf_view nnf)) }
     ensures fits { OnOk result (CanGather (comparison (sum_of left.now) (sum_of right.now) added equal)) }
-    ensures past { IsErrOf result GatherError.Past → CanGather (comparison (sum_of left.now) (sum_of right.now) added equal) → ⊥ }
+    ensures past { IsErrOf result GatherError.Past
+        → CanGather (comparison (sum_of left.now) (sum_of right.now) added equal) → ⊥ }
     ensures grows { Extends (terms_of table.old) (terms_of table.new) }
 {
     Ok(Nnf::Row(gather(alloc, left, right, added, equal, table)?))

@@ -3,18 +3,18 @@ use lq_lex::lex;
 use lq_name::{Binder, TextKind};
 use lq_parse::parse_program;
 use lq_straight::{
-    FormError, Item, ItemNode, NameAt, Order, Printed, Right, ScopeError, Sum, name_table,
+    FormError, Item, ItemNode, NameAt, Operand, Order, Printed, Right, ScopeError, name_table,
     ordinals, recognise, resolve,
 };
 use std::alloc::{AllocError, Global};
 
-fn sum_text(alloc: Global, sum: Sum<Binder>) -> Result<String, AllocError> {
+fn sum_text(alloc: Global, sum: Operand<Binder>) -> Result<String, AllocError> {
     match sum {
-        Sum::Use(Binder(x)) => format!(in alloc; "#{x}"),
-        Sum::Add(Binder(x), n) => format!(in alloc; "#{x} + {n}"),
-        Sum::Sub(Binder(x), n) => format!(in alloc; "#{x} - {n}"),
-        Sum::Whole(n) => format!(in alloc; "{n}"),
-        Sum::Negative(n) => format!(in alloc; "-{n}"),
+        Operand::Use(Binder(x)) => format!(in alloc; "#{x}"),
+        Operand::Add(Binder(x), n) => format!(in alloc; "#{x} + {n}"),
+        Operand::Sub(Binder(x), n) => format!(in alloc; "#{x} - {n}"),
+        Operand::Whole(n) => format!(in alloc; "{n}"),
+        Operand::Negative(n) => format!(in alloc; "-{n}"),
     }
 }
 
@@ -24,13 +24,13 @@ fn right_text(alloc: Global, right: Right<Binder>) -> Result<String, AllocError>
             let (line, column) = (place.line, place.column);
             format!(in alloc; "read at {line}:{column}")
         }
-        Right::Sum(sum) => sum_text(alloc, sum),
+        Right::Operand(sum) => sum_text(alloc, sum),
     }
 }
 
 fn printed_text(alloc: Global, printed: Printed<Binder>) -> Result<String, AllocError> {
     match printed {
-        Printed::Sum(sum) => sum_text(alloc, sum),
+        Printed::Operand(sum) => sum_text(alloc, sum),
         Printed::Add(m, n) => format!(in alloc; "{m} + {n}"),
         Printed::Sub(m, n) => format!(in alloc; "{m} - {n}"),
     }

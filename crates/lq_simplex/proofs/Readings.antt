@@ -11,12 +11,12 @@ use Rattle.lq_math.specs.Rational.{ℚ, whole, ◌+ℚ◌, ◌-ℚ◌, ◌*ℚ�
 use Rattle.lq_math.specs.Whole.{whole-product, whole-negation, whole_below}
 use Rattle.lq_math.specs.OrderLaws.{<ℚ_apart}
 use Rattle.lq_math.specs.RationalQuotient.{◌/ℚ◌, /ℚ_is}
-use Rattle.lq_math.specs.Forms.{HasNoForm, HasNoForm-from}
+use Rattle.lq_math.specs.NumberForms.{HasNoForm, HasNoForm-from}
 use Rattle.lq_math.specs.Solver.{var, con, ◌⊕◌, ◌⊖◌, ◌⊗◌, solve}
 use Rattle.lq_linear.specs.Row.{Valuation, sum_at}
 use Rattle.lq_simplex.specs.Systems.{Parts, TermsBelow, DividesAll, IsAbove, FirstAbove, IsNormal}
 use Rattle.lq_simplex.specs.Standing.{signed}
-use Rattle.lq_simplex.specs.Reading.{IsGreatest, turned_by, IsTurned, IsDivided}
+use Rattle.lq_simplex.specs.RowParts.{IsGreatest, turned_by, IsTurned, IsDivided}
 
 -- ---- parts that grow at their end
 pub divides_more : (d e : ℕ) (parts : Parts) → DividesAll d parts → e ∣ d → DividesAll e parts

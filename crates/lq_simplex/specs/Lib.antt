@@ -1,7 +1,7 @@
 pub mod Lines
 pub mod Systems
 pub mod Standing
-pub mod Reading
+pub mod RowParts
 pub mod Bounds
 pub mod Conflicts
 pub mod Configurations

@@ -6,8 +6,8 @@ use Rattle.lq_num.specs.Past.{IsPast}
 use Rattle.lq_num.specs.Value.{value_of}
 use Rattle.lq_linear.specs.Row.{Valuation}
 use Rattle.lq_simplex.specs.declared.line.Entry.{Entry}
-use Rattle.lq_simplex.specs.declared.stop.Stop.{Stop}
-use Rattle.lq_simplex.specs.declared.stop.Stop.TheVariants.{Past, Spent, Memory}
+use Rattle.lq_simplex.specs.declared.error.TableauError.{TableauError}
+use Rattle.lq_simplex.specs.declared.error.TableauError.TheVariants.{Past, Spent, Memory}
 
 abbrev pub combine : Valuation → List Entry → ℚ
 combine x [] = whole (pos 0)
@@ -55,7 +55,7 @@ pub data IsPut (old : List Entry) (variable : ℕ) (factor : Frac) (new : List E
   left_out : value_of factor ≡ whole (pos 0) → new ≡ old → IsPut old variable factor new
 
 -- an operation on two fractions that has no result within 128 bits, a spent limit, or want of memory
-abbrev pub IsStop : Stop → Type 0
-IsStop (Past e) = IsPast e
-IsStop Spent = Unit {0}
-IsStop Memory = Unit {0}
+abbrev pub IsTableauError : TableauError → Type 0
+IsTableauError (Past e) = IsPast e
+IsTableauError Spent = Unit {0}
+IsTableauError Memory = Unit {0}

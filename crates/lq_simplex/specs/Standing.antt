@@ -10,7 +10,7 @@ use Rattle.lq_linear.specs.Contradiction.{Tagged}
 use Rattle.lq_simplex.specs.declared.row.Bound.{Bound}
 use Rattle.lq_simplex.specs.declared.row.Standing.{Standing}
 use Rattle.lq_simplex.specs.Systems.{Parts, form_at}
-use Rattle.lq_simplex.specs.Reading.{AreMultiples}
+use Rattle.lq_simplex.specs.RowParts.{AreMultiples}
 
 abbrev pub standing_of : List Standing → Tagged
 standing_of [] = []

@@ -1,15 +1,16 @@
+// The variables, their combinations of the free ones, and their values.
 ghost use Rattle.std.specs.Prelude.{◌≡◌, ◌≢◌, true, ℕ, pos, ◌<◌, ◌≤◌, ◌+◌, List, length, slice_get, Some, IfOk, IfErr, IfSome, IfNone, OnOk, OnErr, ◌++◌, ◌∷◌, []};
 ghost use Rattle.lq_math.specs.Rational.{whole, ◌+ℚ◌, ◌-ℚ◌, ◌*ℚ◌};
 ghost use Rattle.lq_linear.specs.Row.{Valuation, sum_at};
 ghost use Rattle.lq_linear.specs.Steps.{valuation_of};
 ghost use Rattle.lq_num.specs.Past.{IsPast};
 ghost use Rattle.lq_num.specs.Value.{value_of};
-ghost use Rattle.lq_simplex.specs.Lines.{combine, factor_of, IsLine, IsOwnLine, IsStop};
+ghost use Rattle.lq_simplex.specs.Lines.{combine, factor_of, IsLine, IsOwnLine, IsTableauError};
 ghost use Rattle.lq_simplex.specs.Systems.{form_at, line_at, change_at, after, TermsBelow, IsNormal, IsChange, IsAdded, IsShifted, IsSystem, GoesOn};
 ghost use Rattle.lq_simplex.specs.Configurations.{StandsIn, AllStay, Brings};
 
+use crate::error::TableauError;
 use crate::line::{Entry, Line, factor, sum};
-use crate::stop::Stop;
 use lq_num::{Frac, NumberPast};
 use std::alloc::{AllocError, Global};
 use std::marker::Model;
@@ -65,7 +66,8 @@ impl Model for Basis {
 /// The value of a variable after another, which is free, has moved.
 fn moved(value: &Frac, line: &[Entry], variable: usize, by: &Frac) -> Result<Frac, NumberPast>
     requires { IsLine line.now }
-    ensures exact { IfOk result (λ f. value_of f ≡ value_of value.now +ℚ factor_of line.now variable *ℚ value_of by.now) }
+    ensures exact { IfOk result (λ f. value_of f ≡ value_of value.now +ℚ factor_of line.now variable *ℚ
+        value_of by.now) }
     ensures stop { IfErr result IsPast }
 {
     match factor(line, variable) {
@@ -81,11 +83,12 @@ fn shifted(
     values: &[Frac],
     variable: usize,
     by: &Frac,
-) -> Result<Vec<Frac>, Stop>
+) -> Result<Vec<Frac>, TableauError>
     requires valued { length values.now ≡ length lines.now }
     requires lines { (k : ℕ) → IsLine (line_at lines.now k) }
-    ensures shifted { IfOk result (λ new. IsShifted lines.now values.now variable (value_of by.now) new.items) }
-    ensures stop { IfErr result IsStop }
+    ensures shifted { IfOk result (λ new. IsShifted lines.now values.now variable
+        (value_of by.now) new.items) }
+    ensures stop { IfErr result IsTableauError }
 {
     let mut shifted = Vec::new(alloc);
     for (at, line) in lines.iter().enumerate() {
@@ -100,11 +103,11 @@ fn change(
     line: &[Entry],
     variable: usize,
     zero: &[Entry],
-) -> Result<Option<Line>, Stop>
+) -> Result<Option<Line>, TableauError>
     requires line { IsLine line.now }
     requires zero { IsLine zero.now }
     ensures change { IfOk result (λ new. IsChange line.now variable zero.now new) }
-    ensures stop { IfErr result IsStop }
+    ensures stop { IfErr result IsTableauError }
 {
     match factor(line, variable) {
         None => Ok(None),
@@ -118,11 +121,11 @@ fn changed(
     lines: &[Line],
     variable: usize,
     zero: &[Entry],
-) -> Result<Vec<Option<Line>>, Stop>
+) -> Result<Vec<Option<Line>>, TableauError>
     requires lines { (k : ℕ) → IsLine (line_at lines.now k) }
     requires zero { IsLine zero.now }
     ensures added { IfOk result (λ changed. IsAdded lines.now variable zero.now changed.items) }
-    ensures stop { IfErr result IsStop }
+    ensures stop { IfErr result IsTableauError }
 {
     let mut changed = Vec::new(alloc);
     for line in lines {
@@ -144,12 +147,18 @@ fn install(lines: &mut [Line], mut changed: Vec<Option<Line>>)
 }
 
 /// A combination that is 0 everywhere: it has the factor -1 for the entering variable, and else the leaving one and the free ones.
-fn relation(alloc: Global, line: &[Entry], leaving: usize, factor: &Frac) -> Result<Line, Stop>
+fn relation(
+    alloc: Global,
+    line: &[Entry],
+    leaving: usize,
+    factor: &Frac,
+) -> Result<Line, TableauError>
     requires line { IsLine line.now }
     requires apart { ¬ (value_of factor.now ≡ whole (pos 0)) }
-    ensures sum { IfOk result (λ zero. (x : Valuation) → combine x zero *ℚ value_of factor.now ≡ x leaving -ℚ combine x line.now) }
+    ensures sum { IfOk result (λ zero. (x : Valuation)
+        → combine x zero *ℚ value_of factor.now ≡ x leaving -ℚ combine x line.now) }
     ensures line { IfOk result IsLine }
-    ensures stop { IfErr result IsStop }
+    ensures stop { IfErr result IsTableauError }
 {
     let inverse = Frac::whole(1).div(factor)?;
     let times = inverse.neg()?;
@@ -161,12 +170,13 @@ fn relation(alloc: Global, line: &[Entry], leaving: usize, factor: &Frac) -> Res
 }
 
 /// The line of a form: the sum of its coefficients times the lines of its terms.
-fn line_of(alloc: Global, lines: &[Line], parts: &[(u64, i128)]) -> Result<Line, Stop>
+fn line_of(alloc: Global, lines: &[Line], parts: &[(u64, i128)]) -> Result<Line, TableauError>
     requires lines { (k : ℕ) → IsLine (line_at lines.now k) }
     requires below { TermsBelow (length lines.now) parts.now }
-    ensures sum { IfOk result (λ line. (x : Valuation) → combine x line ≡ sum_at (λ t. combine x (line_at lines.now t)) parts.now) }
+    ensures sum { IfOk result (λ line. (x : Valuation)
+        → combine x line ≡ sum_at (λ t. combine x (line_at lines.now t)) parts.now) }
     ensures line { IfOk result IsLine }
-    ensures stop { IfErr result IsStop }
+    ensures stop { IfErr result IsTableauError }
 {
     let mut line = Line::new(Vec::new(alloc));
     for (term, coefficient) in parts {
@@ -324,14 +334,14 @@ impl Basis {
     }
 
     /// The number of a form, which is added where it isn't there yet.
-    pub(crate) fn variable(&mut self, alloc: Global, form: Form) -> Result<usize, Stop>
+    pub(crate) fn variable(&mut self, alloc: Global, form: Form) -> Result<usize, TableauError>
         requires below { TermsBelow self.old.terms form }
         requires normal { IsNormal form }
         ensures found { IfOk result (λ k. (k < length self.new.forms) × (form_at self.new.forms k ≡ form)) }
         ensures terms { self.new.terms ≡ self.old.terms }
         ensures forms { GoesOn self.old.forms self.new.forms }
         ensures stays { AllStay self.old self.new }
-        ensures stop { IfErr result IsStop }
+        ensures stop { IfErr result IsTableauError }
     {
         if let Some(found) = find(&self.forms, form.parts()) {
             return Ok(found);
@@ -348,7 +358,8 @@ impl Basis {
         requires normal { IsNormal form }
         requires absent { (k : ℕ) → k < length self.old.forms → form_at self.old.forms k ≢ form }
         requires line { IsLine line }
-        requires sum { (x : Valuation) → combine x line ≡ sum_at (λ t. combine x (line_at self.old.lines t)) form }
+        requires sum { (x : Valuation) → combine x line
+            ≡ sum_at (λ t. combine x (line_at self.old.lines t)) form }
         requires value { value_of value ≡ sum_at (valuation_of self.old.values) form }
         ensures added { OnOk result (self.new.forms ≡ self.old.forms ++ form ∷ []) }
         ensures kept { OnErr result (self.new.forms ≡ self.old.forms) }
@@ -367,13 +378,18 @@ impl Basis {
     }
 
     /// Brings a free variable to a bound, and moves those that depend on it.
-    pub(crate) fn shift(&mut self, alloc: Global, variable: usize, bound: &Frac) -> Result<(), Stop>
+    pub(crate) fn shift(
+        &mut self,
+        alloc: Global,
+        variable: usize,
+        bound: &Frac,
+    ) -> Result<(), TableauError>
         requires { StandsIn (line_at self.old.lines variable) variable }
         ensures brought { OnOk result (Brings self.old self.new variable (value_of bound.now)) }
         ensures kept { OnErr result (self.new ≡ self.old) }
         ensures terms { self.new.terms ≡ self.old.terms }
         ensures forms { self.new.forms ≡ self.old.forms }
-        ensures stop { IfErr result IsStop }
+        ensures stop { IfErr result IsTableauError }
     {
         let by = bound.sub(&self.values[variable])?;
         self.values = shifted(alloc, &self.lines, &self.values, variable, &by)?;
@@ -387,7 +403,7 @@ impl Basis {
         leaving: usize,
         entering: Entry,
         bound: &Frac,
-    ) -> Result<(), Stop>
+    ) -> Result<(), TableauError>
         requires inside { leaving < length self.old.forms }
         requires entry { (at : ℕ) × (slice_get (line_at self.old.lines leaving) at ≡ Some entering) }
         requires apart { entering.variable ≢ leaving }
@@ -395,7 +411,7 @@ impl Basis {
         ensures kept { OnErr result (self.new ≡ self.old) }
         ensures terms { self.new.terms ≡ self.old.terms }
         ensures forms { self.new.forms ≡ self.old.forms }
-        ensures stop { IfErr result IsStop }
+        ensures stop { IfErr result IsTableauError }
     {
         let way = bound.sub(&self.values[leaving])?;
         let by = way.div(&entering.factor)?;
@@ -419,14 +435,14 @@ impl Basis {
         variable: usize,
         entry: Entry,
         bound: &Frac,
-    ) -> Result<(), Stop>
+    ) -> Result<(), TableauError>
         requires inside { variable < length self.old.forms }
         requires entry { (at : ℕ) × (slice_get (line_at self.old.lines variable) at ≡ Some entry) }
         ensures brought { OnOk result (Brings self.old self.new variable (value_of bound.now)) }
         ensures kept { OnErr result (self.new ≡ self.old) }
         ensures terms { self.new.terms ≡ self.old.terms }
         ensures forms { self.new.forms ≡ self.old.forms }
-        ensures stop { IfErr result IsStop }
+        ensures stop { IfErr result IsTableauError }
     {
         if entry.variable == variable {
             self.shift(alloc, variable, bound)

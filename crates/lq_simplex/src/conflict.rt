@@ -1,17 +1,18 @@
+// The multipliers of a conflict.
 ghost use Rattle.std.specs.Prelude.{◌≡◌, ℕ, pos, IfOk, IfErr};
 ghost use Rattle.std.specs.Int.Signed.{◌<ℤ◌};
 ghost use Rattle.lq_math.specs.Rational.{◌*ℚ◌};
 ghost use Rattle.lq_num.specs.Past.{IsPast};
 ghost use Rattle.lq_num.specs.Value.{value_of};
 ghost use Rattle.lq_linear.specs.Contradiction.{IsContradiction};
-ghost use Rattle.lq_simplex.specs.Lines.{IsStop};
+ghost use Rattle.lq_simplex.specs.Lines.{IsTableauError};
 ghost use Rattle.lq_simplex.specs.Standing.{scale_of, standing_of, multipliers_of};
 ghost use Rattle.lq_simplex.specs.Conflicts.{toward, negates, Names, IsKept};
 
+use crate::error::TableauError;
 use crate::limits::{Broken, Limit, Limits, Side, blocking, opposite};
 use crate::line::Entry;
 use crate::row::{Bound, Standing};
-use crate::stop::Stop;
 use lq_num::{Frac, NumberPast};
 use std::alloc::Global;
 
@@ -49,7 +50,8 @@ fn share(
     requires given { (tag : ℕ) × Names rows.now tag limit.now }
     requires divides { pos 0 <ℤ limit.now.bound.divisor }
     ensures names { IfOk result (λ m. Names rows.now m.0 limit.now) }
-    ensures exact { IfOk result (λ m. value_of m.1 *ℚ scale_of limit.now.bound ≡ toward side (value_of factor.now)) }
+    ensures exact { IfOk result (λ m. value_of m.1 *ℚ scale_of limit.now.bound
+        ≡ toward side (value_of factor.now)) }
     ensures stop { IfErr result IsPast }
 {
     let multiplier = multiplier(factor, &limit.bound, side)?;
@@ -63,10 +65,11 @@ pub(crate) fn explain(
     limits: &Limits,
     broken: &Broken,
     line: &[Entry],
-) -> Result<Vec<(u64, Frac)>, Stop>
+) -> Result<Vec<(u64, Frac)>, TableauError>
     requires { IsKept rows.now limits.now broken.now line.now }
-    ensures contradicts { IfOk result (λ found. IsContradiction (standing_of rows.now) (multipliers_of found.items)) }
-    ensures stop { IfErr result IsStop }
+    ensures contradicts { IfOk result (λ found. IsContradiction (standing_of rows.now)
+        (multipliers_of found.items)) }
+    ensures stop { IfErr result IsTableauError }
 {
     let mut found = Vec::new(alloc);
     let own = share(rows, &broken.limit, &Frac::whole(1), opposite(broken.side))?;

@@ -3,11 +3,11 @@
 
 mod basis;
 mod conflict;
+mod error;
 mod limits;
 mod line;
 mod reading;
 mod row;
-mod stop;
 mod tableau;
 
 pub use tableau::Tableau;

@@ -1,3 +1,4 @@
+// The tightest bounds of the variables.
 ghost use Rattle.std.specs.Prelude.{◌≡◌, ℕ, ◌<◌, ◌≤◌, Bool, true, false, List, length, take, Option, Some, slice_get, IfOk, IfSome, IfNone};
 ghost use Rattle.lq_math.specs.Rational.{whole};
 ghost use Rattle.lq_math.specs.RationalOrder.{◌≤ℚ◌, ◌<ℚ◌};
@@ -169,7 +170,8 @@ impl Limits {
 
     /// The bound on this side that a value of the variable breaks.
     fn broken_on(&self, side: Side, variable: usize, value: &Frac) -> Option<Broken>
-        ensures some { IfSome result (λ b. (b.variable ≡ variable) × (b.side ≡ side) × Breaks self.now (value_of value.now) b) }
+        ensures some { IfSome result (λ b. (b.variable ≡ variable) × (b.side ≡ side)
+            × Breaks self.now (value_of value.now) b) }
         ensures none { IfNone result (Keeps side (value_of value.now) (limit_at self.now side variable)) }
     {
         let limit = self.at(side, variable)?;
@@ -187,7 +189,8 @@ impl Limits {
     /// The bound that a value of the variable breaks.
     pub(crate) fn broken_at(&self, variable: usize, value: &Frac) -> Option<Broken>
         ensures some { IfSome result (λ b. (b.variable ≡ variable) × Breaks self.now (value_of value.now) b) }
-        ensures none { IfNone result ((side : Side) → Keeps side (value_of value.now) (limit_at self.now side variable)) }
+        ensures none { IfNone result ((side : Side)
+            → Keeps side (value_of value.now) (limit_at self.now side variable)) }
     {
         match self.broken_on(Side::Lower, variable, value) {
             None => self.broken_on(Side::Upper, variable, value),
@@ -197,9 +200,12 @@ impl Limits {
 
     /// The variable of least number that breaks a bound.
     pub(crate) fn broken(&self, values: &[Frac]) -> Option<Broken>
-        ensures some { IfSome result (λ b. (b.variable < length values.now) × Breaks self.now (valuation_of values.now b.variable) b) }
-        ensures least { IfSome result (λ b. (k : ℕ) → k < b.variable → (side : Side) → Keeps side (valuation_of values.now k) (limit_at self.now side k)) }
-        ensures none { IfNone result ((k : ℕ) → k < length values.now → (side : Side) → Keeps side (valuation_of values.now k) (limit_at self.now side k)) }
+        ensures some { IfSome result (λ b. (b.variable < length values.now)
+            × Breaks self.now (valuation_of values.now b.variable) b) }
+        ensures least { IfSome result (λ b. (k : ℕ) → k < b.variable → (side : Side)
+            → Keeps side (valuation_of values.now k) (limit_at self.now side k)) }
+        ensures none { IfNone result ((k : ℕ) → k < length values.now → (side : Side)
+            → Keeps side (valuation_of values.now k) (limit_at self.now side k)) }
     {
         for (variable, value) in values.iter().enumerate() {
             if let Some(broken) = self.broken_at(variable, value) {
@@ -211,7 +217,8 @@ impl Limits {
 
     /// The variable of least number whose lower bound is above its upper one, with its lower bound.
     pub(crate) fn crossed(&self, variables: usize) -> Option<Broken>
-        ensures { IfSome result (λ b. (upper : Limit) × (b.side ≡ Lower) × (limit_at self.now Upper b.variable ≡ Some upper) × Breaks self.now (bound_value upper) b) }
+        ensures { IfSome result (λ b. (upper : Limit) × (b.side ≡ Lower)
+            × (limit_at self.now Upper b.variable ≡ Some upper) × Breaks self.now (bound_value upper) b) }
     {
         for variable in 0..variables {
             if let Some(upper) = self.at(Side::Upper, variable) {
@@ -225,8 +232,10 @@ impl Limits {
 
     /// Whether a value is at the bound of its variable on this side, or past it.
     fn is_stuck(&self, side: Side, variable: usize, value: &Frac) -> bool
-        ensures yes { result ≡ true → (limit : Limit) × (limit_at self.now side variable ≡ Some limit) × Within (other side) (value_of value.now) (bound_value limit) }
-        ensures no { result ≡ false → (limit : Limit) → limit_at self.now side variable ≡ Some limit → ¬ Within (other side) (value_of value.now) (bound_value limit) }
+        ensures yes { result ≡ true → (limit : Limit) × (limit_at self.now side variable ≡ Some limit)
+            × Within (other side) (value_of value.now) (bound_value limit) }
+        ensures no { result ≡ false → (limit : Limit) → limit_at self.now side variable ≡ Some limit
+            → ¬ Within (other side) (value_of value.now) (bound_value limit) }
     {
         match self.at(side, variable) {
             None => false,
@@ -237,7 +246,8 @@ impl Limits {
     /// The first entry of a line whose variable can move so that the line's variable gets nearer to its bound on this side.
     pub(crate) fn entering(&self, line: &[Entry], side: Side, values: &[Frac]) -> Option<Entry>
         requires { VariablesBelow (length values.now) line.now }
-        ensures some { IfSome result (λ e. (at : ℕ) × (slice_get line.now at ≡ Some e) × AllBlocked self.now side (valuation_of values.now) (take at line.now)) }
+        ensures some { IfSome result (λ e. (at : ℕ) × (slice_get line.now at ≡ Some e)
+            × AllBlocked self.now side (valuation_of values.now) (take at line.now)) }
         ensures moves { IfSome result (λ e. ¬ IsBlocked self.now side (valuation_of values.now) e) }
         ensures none { IfNone result (AllBlocked self.now side (valuation_of values.now) line.now) }
     {

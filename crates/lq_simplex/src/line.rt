@@ -1,12 +1,13 @@
+// Linear combinations of variables.
 ghost use Rattle.std.specs.Prelude.{◌≡◌, ◌≢◌, ℕ, pos, ◌+◌, ◌<◌, ◌≤◌, ◌⊎◌, List, length, slice_index_or, IfOk, IfErr, IfSome, IfNone};
 ghost use Rattle.lq_math.specs.Rational.{whole, ◌+ℚ◌, ◌*ℚ◌};
 ghost use Rattle.lq_num.specs.Value.{value_of};
 ghost use Rattle.lq_linear.specs.Row.{Valuation};
 ghost use Rattle.lq_linear.specs.Steps.{value_or_zero};
 ghost use Rattle.lq_num.specs.Past.{IsPast};
-ghost use Rattle.lq_simplex.specs.Lines.{combine, factor_of, IsLine, IsHead, IsPut, variable_at, IsStop};
+ghost use Rattle.lq_simplex.specs.Lines.{combine, factor_of, IsLine, IsHead, IsPut, variable_at, IsTableauError};
 
-use crate::stop::Stop;
+use crate::error::TableauError;
 use lq_num::{Frac, NumberPast};
 use std::alloc::Global;
 use std::marker::Model;
@@ -50,7 +51,8 @@ impl Line {
 /// The factor of a variable, if it stands there.
 pub(crate) fn factor(entries: &[Entry], variable: usize) -> Option<Frac>
     requires { IsLine entries.now }
-    ensures some { IfSome result (λ f. (value_of f ≡ factor_of entries.now variable) × ¬ (value_of f ≡ whole (pos 0))) }
+    ensures some { IfSome result (λ f. (value_of f ≡ factor_of entries.now variable)
+        × ¬ (value_of f ≡ whole (pos 0))) }
     ensures none { IfNone result (factor_of entries.now variable ≡ whole (pos 0)) }
 {
     for entry in entries {
@@ -74,7 +76,8 @@ fn least(left: &[Entry], i: usize, right: &[Entry], j: usize) -> usize
     requires { (i < length left.now) ⊎ (j < length right.now) }
     ensures left { i < length left.now → result ≤ variable_at left.now i }
     ensures right { j < length right.now → result ≤ variable_at right.now j }
-    ensures one { ((i < length left.now) × (result ≡ variable_at left.now i)) ⊎ ((j < length right.now) × (result ≡ variable_at right.now j)) }
+    ensures one { ((i < length left.now) × (result ≡ variable_at left.now i))
+        ⊎ ((j < length right.now) × (result ≡ variable_at right.now j)) }
 {
     if i >= left.len() {
         return variable(right, j);
@@ -115,7 +118,8 @@ fn head(entries: &[Entry], at: usize, sought: usize) -> Front
 
 /// The sum of a factor, or 0, and so many times another, or 0.
 fn joined(left: Option<Frac>, times: &Frac, right: Option<Frac>) -> Result<Frac, NumberPast>
-    ensures exact { IfOk result (λ f. value_of f ≡ value_or_zero left +ℚ value_of times.now *ℚ value_or_zero right) }
+    ensures exact { IfOk result (λ f. value_of f ≡ value_or_zero left +ℚ value_of times.now *ℚ value_or_zero
+        right) }
     ensures stop { IfErr result IsPast }
 {
     match right {
@@ -134,9 +138,9 @@ fn joined(left: Option<Frac>, times: &Frac, right: Option<Frac>) -> Result<Frac,
 }
 
 /// Adds an entry, unless its factor is 0.
-fn put(entries: &mut Vec<Entry>, variable: usize, factor: Frac) -> Result<(), Stop>
+fn put(entries: &mut Vec<Entry>, variable: usize, factor: Frac) -> Result<(), TableauError>
     ensures put { IfOk result (λ _. IsPut entries.old.items variable factor entries.new.items) }
-    ensures stop { IfErr result IsStop }
+    ensures stop { IfErr result IsTableauError }
 {
     if !factor.is_zero() {
         entries.push(Entry { variable, factor })?;
@@ -150,12 +154,13 @@ pub(crate) fn sum(
     left: &[Entry],
     times: &Frac,
     right: &[Entry],
-) -> Result<Line, Stop>
+) -> Result<Line, TableauError>
     requires left { IsLine left.now }
     requires right { IsLine right.now }
-    ensures sum { IfOk result (λ line. (x : Valuation) → combine x line ≡ combine x left.now +ℚ value_of times.now *ℚ combine x right.now) }
+    ensures sum { IfOk result (λ line. (x : Valuation)
+        → combine x line ≡ combine x left.now +ℚ value_of times.now *ℚ combine x right.now) }
     ensures line { IfOk result IsLine }
-    ensures stop { IfErr result IsStop }
+    ensures stop { IfErr result IsTableauError }
 {
     let mut entries = Vec::new(alloc);
     let mut i = 0;

@@ -1,34 +1,20 @@
-ghost use Rattle.std.specs.Prelude.{◌≡◌, ◌≢◌, pos, ◌<◌, ◌^◌, false, length, All, int_div, IfOk, IfErr};
-ghost use Rattle.std.specs.Int.{IsGcd};
+// Rows as bounds of forms in lowest terms.
+ghost use Rattle.std.specs.Prelude.{◌≡◌, ◌≢◌, pos, ◌<◌, ◌^◌, false, length, All, IfOk, IfErr};
 ghost use Rattle.lq_math.specs.Rational.{whole, ◌*ℚ◌, neg_ℚ};
 ghost use Rattle.lq_num.specs.Past.{IsPast};
 ghost use Rattle.lq_num.specs.Value.{value_of};
-ghost use Rattle.lq_simplex.specs.Lines.{IsStop};
+ghost use Rattle.lq_simplex.specs.Lines.{IsTableauError};
 ghost use Rattle.lq_simplex.specs.Systems.{TermsBelow, DividesAll, FirstAbove, GoesOn};
 ghost use Rattle.lq_simplex.specs.Standing.{signed, ReadsBy};
 ghost use Rattle.lq_simplex.specs.Configurations.{AllStay};
-ghost use Rattle.lq_simplex.specs.Reading.{IsGreatest, turned_by, IsTurned, IsDivided};
+ghost use Rattle.lq_simplex.specs.RowParts.{IsGreatest, turned_by, IsTurned, IsDivided};
 
 use crate::basis::{Basis, Form};
+use crate::error::TableauError;
 use crate::row::Bound;
-use crate::stop::Stop;
 use lq_linear::LinearRow;
-use lq_num::{Frac, NumOp, NumberPast};
+use lq_num::{Frac, NumOp, NumberPast, gcd, over};
 use std::alloc::{AllocError, Global};
-
-/// The greatest common divisor, by Euclid's steps.
-fn gcd(a: u128, b: u128) -> u128
-    ensures { IsGcd a b result }
-{
-    let mut x = a;
-    let mut y = b;
-    while y != 0 {
-        let rest = x % y;
-        x = y;
-        y = rest;
-    }
-    x
-}
 
 /// The greatest common divisor of the coefficients.
 fn divisor(parts: &[(u64, i128)]) -> u128
@@ -61,9 +47,13 @@ fn turn_one(coefficient: i128, turned: bool) -> Result<i128, NumberPast>
 }
 
 /// The parts, with their coefficients negated where they are turned.
-fn turn(alloc: Global, parts: &[(u64, i128)], turned: bool) -> Result<Vec<(u64, i128)>, Stop>
+fn turn(
+    alloc: Global,
+    parts: &[(u64, i128)],
+    turned: bool,
+) -> Result<Vec<(u64, i128)>, TableauError>
     ensures turned { IfOk result (λ made. IsTurned turned parts.now made.items) }
-    ensures stop { IfErr result IsStop }
+    ensures stop { IfErr result IsTableauError }
 {
     let mut signed = Vec::new(alloc);
     for (term, coefficient) in parts {
@@ -84,15 +74,6 @@ fn shared(parts: &[(u64, i128)]) -> u128
     gcd(parts[0].1.unsigned_abs(), divisor(parts))
 }
 
-/// An exact quotient.
-fn quotient(coefficient: i128, by: u128) -> i128
-    requires some { 0 < by }
-    requires small { by < 2 ^ 127 }
-    ensures { result ≡ int_div coefficient (pos by) }
-{
-    coefficient / by as i128
-}
-
 /// The parts, with their coefficients divided.
 fn divided(alloc: Global, parts: &[(u64, i128)], by: u128) -> Result<Vec<(u64, i128)>, AllocError>
     requires some { 0 < by }
@@ -102,7 +83,7 @@ fn divided(alloc: Global, parts: &[(u64, i128)], by: u128) -> Result<Vec<(u64, i
 {
     let mut divided = Vec::new(alloc);
     for (term, coefficient) in parts {
-        let coefficient = quotient(*coefficient, by);
+        let coefficient = over(*coefficient, by);
         divided.push((*term, coefficient))?;
     }
     Ok(divided)
@@ -121,7 +102,8 @@ fn numerator(constant: i128, turned: bool) -> Result<Frac, NumberPast>
 fn bound_value(constant: i128, divisor: u128, turned: bool) -> Result<Frac, NumberPast>
     requires some { 0 < divisor }
     requires small { divisor < 2 ^ 127 }
-    ensures exact { IfOk result (λ f. signed turned (whole (pos divisor) *ℚ value_of f) ≡ neg_ℚ (whole constant)) }
+    ensures exact { IfOk result (λ f. signed turned (whole (pos divisor) *ℚ value_of f)
+        ≡ neg_ℚ (whole constant)) }
     ensures stop { IfErr result IsPast }
 {
     let numerator = numerator(constant, turned)?;
@@ -139,13 +121,17 @@ fn is_turned(parts: &[(u64, i128)]) -> bool
 
 /// Reads a row as a bound of a variable of the basis, or as none where it has no terms. Its form is added to the basis where it
 /// isn't there yet.
-pub(crate) fn read(alloc: Global, basis: &mut Basis, row: &LinearRow) -> Result<Option<Bound>, Stop>
+pub(crate) fn read(
+    alloc: Global,
+    basis: &mut Basis,
+    row: &LinearRow,
+) -> Result<Option<Bound>, TableauError>
     requires { TermsBelow basis.old.terms row.now.parts }
     ensures reads { IfOk result (λ bound. ReadsBy basis.new.forms row.now bound) }
     ensures terms { basis.new.terms ≡ basis.old.terms }
     ensures forms { GoesOn basis.old.forms basis.new.forms }
     ensures stays { AllStay basis.old basis.new }
-    ensures stop { IfErr result IsStop }
+    ensures stop { IfErr result IsTableauError }
 {
     let parts = row.parts();
     if parts.is_empty() {

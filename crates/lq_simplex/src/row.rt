@@ -1,3 +1,4 @@
+// Rows that stand, with the bounds that they give.
 ghost use Rattle.std.specs.Prelude.{◌≡◌, ◌<◌, length, take, ◌∷◌, [], pos, IfOk, IfErr, IfSome, IfNone, IsNone};
 ghost use Rattle.lq_linear.specs.Row.{RowHolds};
 

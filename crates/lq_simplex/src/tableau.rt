@@ -1,3 +1,4 @@
+// The tableau: an engine of all rows.
 ghost use Rattle.std.specs.Prelude.{◌≡◌, List, [], ◌∷◌, ◌++◌, pos, MatchBool, true, false, IfOk, IfErr, IfSome, IfNone, IsNone, OnOk, OnErr};
 ghost use Rattle.lq_math.specs.Rational.{whole, ◌*ℚ◌};
 ghost use Rattle.lq_math.specs.RationalOrder.{◌≤ℚ◌, ◌<ℚ◌, NotNegative};
@@ -5,7 +6,7 @@ ghost use Rattle.lq_num.specs.Value.{value_of};
 ghost use Rattle.lq_linear.specs.Row.{Row};
 ghost use Rattle.lq_linear.specs.Contradiction.{tagged, Solves, IsContradiction};
 ghost use Rattle.lq_linear.specs.Steps.{valuation_of};
-ghost use Rattle.lq_simplex.specs.Lines.{IsStop};
+ghost use Rattle.lq_simplex.specs.Lines.{IsTableauError};
 ghost use Rattle.lq_simplex.specs.Systems.{Parts, TermsBelow};
 ghost use Rattle.lq_simplex.specs.Standing.{standing_of, multipliers_of, AllRead, TagsApart, AllBare};
 ghost use Rattle.lq_simplex.specs.Conflicts.{AllGiven, AllKeep};
@@ -14,11 +15,11 @@ ghost use Rattle.lq_simplex.specs.Table.{StopsAt};
 
 use crate::basis::Basis;
 use crate::conflict::explain;
+use crate::error::TableauError;
 use crate::limits::Limits;
 use crate::line::Entry;
 use crate::reading::read;
 use crate::row::{Standing, copy};
-use crate::stop::Stop;
 use lq_linear::{LinearEngine, LinearRow, LinearStop, Mark, Verdict};
 use lq_num::Frac;
 use std::alloc::{AllocError, Global};
@@ -58,7 +59,8 @@ impl Model for Tableau {
 fn refuting(constant: i128, equal: bool) -> Option<Frac>
     ensures above { IfSome result (λ m. whole (pos 0) <ℚ (value_of m *ℚ whole constant)) }
     ensures fair { IfSome result (λ m. MatchBool equal (Unit {0}) (NotNegative (value_of m))) }
-    ensures none { IfNone result (MatchBool equal (whole constant ≡ whole (pos 0)) (whole constant ≤ℚ whole (pos 0))) }
+    ensures none { IfNone result (MatchBool equal (whole constant ≡ whole (pos 0))
+        (whole constant ≤ℚ whole (pos 0))) }
 {
     if constant > 0 {
         Some(Frac::whole(1))
@@ -82,7 +84,8 @@ fn single(alloc: Global, tag: u64, multiplier: Frac) -> Result<Vec<(u64, Frac)>,
 fn refuted(alloc: Global, rows: &[Standing]) -> Result<Option<Vec<(u64, Frac)>>, AllocError>
     requires read { (forms : List Parts) × AllRead forms rows.now }
     requires apart { TagsApart rows.now }
-    ensures contradicted { IfOk result (λ found. IfSome found (λ ms. IsContradiction (standing_of rows.now) (multipliers_of ms.items))) }
+    ensures contradicted { IfOk result (λ found. IfSome found (λ ms. IsContradiction (standing_of rows.now)
+        (multipliers_of ms.items))) }
     ensures none { IfOk result (λ found. IfNone found (AllBare rows.now)) }
 {
     for standing in rows {
@@ -96,11 +99,11 @@ fn refuted(alloc: Global, rows: &[Standing]) -> Result<Option<Vec<(u64, Frac)>>,
 }
 
 /// Brings the free variables to the bounds that they break.
-fn settle(alloc: Global, basis: &mut Basis, limits: &Limits) -> Result<(), Stop>
+fn settle(alloc: Global, basis: &mut Basis, limits: &Limits) -> Result<(), TableauError>
     ensures settles { Settles limits.now basis.old basis.new }
     ensures terms { basis.new.terms ≡ basis.old.terms }
     ensures forms { basis.new.forms ≡ basis.old.forms }
-    ensures stop { IfErr result IsStop }
+    ensures stop { IfErr result IsTableauError }
 {
     for variable in 0..basis.len() {
         let value = basis.values()[variable];
@@ -121,16 +124,17 @@ fn pivots(
     rows: &[Standing],
     limits: &Limits,
     limit: u64,
-) -> Result<Option<Vec<(u64, Frac)>>, Stop>
+) -> Result<Option<Vec<(u64, Frac)>>, TableauError>
     requires read { AllRead basis.old.forms rows.now }
     requires apart { TagsApart rows.now }
     requires given { AllGiven rows.now limits.now }
     ensures solved { IfOk result (λ found. IfNone found (AllKeep limits.now basis.new)) }
     ensures settles { Settles limits.now basis.old basis.new }
-    ensures contradicted { IfOk result (λ found. IfSome found (λ ms. IsContradiction (standing_of rows.now) (multipliers_of ms.items))) }
+    ensures contradicted { IfOk result (λ found. IfSome found (λ ms. IsContradiction (standing_of rows.now)
+        (multipliers_of ms.items))) }
     ensures terms { basis.new.terms ≡ basis.old.terms }
     ensures forms { basis.new.forms ≡ basis.old.forms }
-    ensures stop { IfErr result IsStop }
+    ensures stop { IfErr result IsTableauError }
 {
     let mut left = limit;
     loop {
@@ -142,7 +146,7 @@ fn pivots(
             return Ok(Some(explain(alloc, rows, limits, &broken, line)?));
         };
         if left == 0 {
-            return Err(Stop::Spent);
+            return Err(TableauError::Spent);
         }
         left -= 1;
         basis.bring(alloc, broken.variable, entry, &broken.limit.bound.value)?;
@@ -155,15 +159,17 @@ fn decide(
     basis: &mut Basis,
     rows: &[Standing],
     limit: u64,
-) -> Result<Option<Vec<(u64, Frac)>>, Stop>
+) -> Result<Option<Vec<(u64, Frac)>>, TableauError>
     requires read { AllRead basis.old.forms rows.now }
     requires apart { TagsApart rows.now }
-    ensures solved { IfOk result (λ found. IfNone found (Solves (valuation_of basis.new.values) (standing_of rows.now))) }
+    ensures solved { IfOk result (λ found. IfNone found
+        (Solves (valuation_of basis.new.values) (standing_of rows.now))) }
     ensures rests { (ever : List Row) → AllAmong ever rows.now → Rests ever basis.old → Rests ever basis.new }
-    ensures contradicted { IfOk result (λ found. IfSome found (λ ms. IsContradiction (standing_of rows.now) (multipliers_of ms.items))) }
+    ensures contradicted { IfOk result (λ found. IfSome found (λ ms. IsContradiction (standing_of rows.now)
+        (multipliers_of ms.items))) }
     ensures terms { basis.new.terms ≡ basis.old.terms }
     ensures forms { basis.new.forms ≡ basis.old.forms }
-    ensures stop { IfErr result IsStop }
+    ensures stop { IfErr result IsTableauError }
 {
     if let Some(found) = refuted(alloc, rows)? {
         return Ok(Some(found));
@@ -187,19 +193,21 @@ fn stand(
     rows: &mut Vec<Standing>,
     row: &LinearRow,
     tag: u64,
-) -> Result<(), Stop>
+) -> Result<(), TableauError>
     requires below { TermsBelow basis.old.terms row.now.parts }
     requires read { AllRead basis.old.forms rows.old.items }
     requires apart { TagsApart rows.old.items }
     requires fresh { IsNone (tagged (standing_of rows.old.items) tag) }
-    ensures added { OnOk result (standing_of rows.new.items ≡ standing_of rows.old.items ++ (tag, row.now) ∷ []) }
+    ensures added { OnOk result (standing_of rows.new.items ≡ standing_of rows.old.items ++ (tag, row.now)
+        ∷ []) }
     ensures kept { OnErr result (rows.new.items ≡ rows.old.items) }
     ensures read { AllRead basis.new.forms rows.new.items }
     ensures apart { TagsApart rows.new.items }
-    ensures among { (ever : List Row) → AllAmong ever rows.old.items → AllAmong (ever ++ row.now ∷ []) rows.new.items }
+    ensures among { (ever : List Row) → AllAmong ever rows.old.items
+        → AllAmong (ever ++ row.now ∷ []) rows.new.items }
     ensures rests { (ever : List Row) → Rests ever basis.old → Rests (ever ++ row.now ∷ []) basis.new }
     ensures terms { basis.new.terms ≡ basis.old.terms }
-    ensures stop { IfErr result IsStop }
+    ensures stop { IfErr result IsTableauError }
 {
     let bound = read(alloc, basis, row)?;
     let row = copy(alloc, row)?;
@@ -208,14 +216,14 @@ fn stand(
 }
 
 /// What the engine answers.
-fn stop_of(stop: Stop, limit: u64) -> LinearStop
-    requires { IsStop stop }
+fn stop_of(stop: TableauError, limit: u64) -> LinearStop
+    requires { IsTableauError stop }
     ensures { StopsAt limit result }
 {
     match stop {
-        Stop::Past(past) => LinearStop::Number(past),
-        Stop::Spent => LinearStop::Pivots(limit),
-        Stop::Memory => LinearStop::Memory,
+        TableauError::Past(past) => LinearStop::Number(past),
+        TableauError::Spent => LinearStop::Pivots(limit),
+        TableauError::Memory => LinearStop::Memory,
     }
 }
 

@@ -4,8 +4,8 @@ use Rattle.std.proofs.Common.{◌≡◌, ℕ, suc, ◌+◌, ◌<◌, List, [], �
 use Rattle.std.proofs.lemmas.Option.{slice_get_within, slice_get-get_or}
 use Rattle.lq_name.specs.declared.name.Binder.{Binder}
 use Rattle.lq_straight.specs.declared.item.NameAt.{NameAt}
-use Rattle.lq_straight.specs.declared.item.Sum.{Sum}
-use Rattle.lq_straight.specs.declared.item.Sum.TheVariants as sum
+use Rattle.lq_straight.specs.declared.item.Operand.{Operand}
+use Rattle.lq_straight.specs.declared.item.Operand.TheVariants as sum
 use Rattle.lq_straight.specs.declared.item.Right.{Right}
 use Rattle.lq_straight.specs.declared.item.Right.TheVariants as right
 use Rattle.lq_straight.specs.declared.item.Printed.{Printed}
@@ -47,7 +47,7 @@ IsDefinition items y = (name : ℕ) × Defines items y name
 nearest_before : (items : List (Item NameAt)) (at name y : ℕ) → IsNearest items at name y → Before (IsDefinition items) at y
 nearest_before items at name y near = (near.before, (name, near.defines))
 
-sum_bound : (items : List (Item NameAt)) (at : ℕ) (s : Sum NameAt) (t : Sum Binder) → IsBoundSum items at s t → Each (Before (IsDefinition items) at) (used_by_sum t)
+sum_bound : (items : List (Item NameAt)) (at : ℕ) (s : Operand NameAt) (t : Operand Binder) → IsBoundSum items at s t → Each (Before (IsDefinition items) at) (used_by_sum t)
 sum_bound items at (sum.Use x) (sum.Use b) is = (nearest_before items at x.name.0 b.0 is, tt)
 sum_bound items at (sum.Add x n) (sum.Add b m) is = (nearest_before items at x.name.0 b.0 is.0, tt)
 sum_bound items at (sum.Sub x n) (sum.Sub b m) is = (nearest_before items at x.name.0 b.0 is.0, tt)
@@ -57,11 +57,11 @@ sum_bound items at s t is = absurd is
 
 right_bound : (items : List (Item NameAt)) (at : ℕ) (r : Right NameAt) (q : Right Binder) → IsBoundRight items at r q → Each (Before (IsDefinition items) at) (used_by_right q)
 right_bound items at (right.Read p) (right.Read q) is = tt
-right_bound items at (right.Sum s) (right.Sum t) is = sum_bound items at s t is
+right_bound items at (right.Operand s) (right.Operand t) is = sum_bound items at s t is
 right_bound items at r q is = absurd is
 
 printed_bound : (items : List (Item NameAt)) (at : ℕ) (e : Printed NameAt) (f : Printed Binder) → IsBoundPrinted items at e f → Each (Before (IsDefinition items) at) (used_by_printed f)
-printed_bound items at (printed.Sum s) (printed.Sum t) is = sum_bound items at s t is
+printed_bound items at (printed.Operand s) (printed.Operand t) is = sum_bound items at s t is
 printed_bound items at (printed.Add m n) (printed.Add k l) is = tt
 printed_bound items at (printed.Sub m n) (printed.Sub k l) is = tt
 printed_bound items at e f is = absurd is

@@ -13,8 +13,8 @@ use Rattle.lq_model.specs.Operations.{World, compares, read_act}
 use Rattle.lq_model.specs.Step.{done}
 use Rattle.lq_model.specs.Program.{Item, let_item, close_items, State, Turn, to, item_next, turn_of, after_turn, outcome_from, IsCalm}
 use Rattle.lq_model.specs.FromTree.{core_of}
-use Rattle.lq_straight.specs.declared.item.Sum.{Sum}
-use Rattle.lq_straight.specs.declared.item.Sum.TheVariants as sum
+use Rattle.lq_straight.specs.declared.item.Operand.{Operand}
+use Rattle.lq_straight.specs.declared.item.Operand.TheVariants as sum
 use Rattle.lq_straight.specs.declared.item.Printed.{Printed}
 use Rattle.lq_straight.specs.declared.item.Printed.TheVariants as printed
 use Rattle.lq_straight.specs.Uses.{used_by_sum, used_by_printed}
@@ -50,7 +50,7 @@ number_in of (Position i) = pos 0
 abbrev pub meaning : (ℕ → ℤ) → Meaning
 meaning of = record { number = number_in of; holds = λ x. false; object = λ x. 0; length = λ n. pos 0; measured = λ f n. pos 0 }
 
-abbrev pub amount : (ℕ → ℤ) → Sum Binder → ℤ
+abbrev pub amount : (ℕ → ℤ) → Operand Binder → ℤ
 amount of t = term_value (meaning of) (term_of t)
 
 -- the binder has its number for a value
@@ -72,7 +72,7 @@ record Steps (q : Parameter) (whole : Core → Core) (is : List Item) (w : World
   taken : (m n : ℤ) → turn_of (let_item q (whole (minus m n)) ∷ is) w ≡ to (left_with q (whole (number (m -ℤ n))) is w)
 
 -- a run is calm where it is with the number in place of the sum
-sum_calm : (ps : Pairs) (of : ℕ → ℤ) (p : Place) (t : Sum Binder) (q : Parameter) (whole : Core → Core) (is : List Item) (w : World) → Each (HasNumber ps of) (used_by_sum t)
+sum_calm : (ps : Pairs) (of : ℕ → ℤ) (p : Place) (t : Operand Binder) (q : Parameter) (whole : Core → Core) (is : List Item) (w : World) → Each (HasNumber ps of) (used_by_sum t)
     → Steps q whole is w → Calm (let_item q (whole (number (amount of t))) ∷ is) w → Calm (let_item q (whole (close ps (core_of (sum_tree p t)))) ∷ is) w
 sum_calm ps of p (sum.Use x) q whole is w has steps calm = rw has.0 calm
 sum_calm ps of p (sum.Add x n) q whole is w has steps calm =
@@ -90,7 +90,7 @@ sum_calm ps of p (sum.Negative n) q whole is w has steps calm = calm
 value_calm : (p : Place) (x : ℕ) (n : ℤ) (is : List Item) (w : World) → Calm (close_items ((x, v_whole n) ∷ []) is) w → Calm (let_item (variable x) (number n) ∷ is) w
 value_calm p x n is w calm = stepped (let_item (variable x) (number n)) is w (record { items = close_items ((x, v_whole n) ∷ []) is; world = w }) refl calm
 
-pub sum_defined_calm : (ps : Pairs) (of : ℕ → ℤ) (p : Place) (x : ℕ) (t : Sum Binder) (is : List Item) (w : World) → Each (HasNumber ps of) (used_by_sum t)
+pub sum_defined_calm : (ps : Pairs) (of : ℕ → ℤ) (p : Place) (x : ℕ) (t : Operand Binder) (is : List Item) (w : World) → Each (HasNumber ps of) (used_by_sum t)
     → Calm (close_items ((x, v_whole (amount of t)) ∷ []) is) w → Calm (let_item (variable x) (close ps (core_of (sum_tree p t))) ∷ is) w
 sum_defined_calm ps of p x t is w has calm =
     sum_calm ps of p t (variable x) (λ e. e) is w has (record { added = λ m n. refl; taken = λ m n. refl }) (value_calm p x (amount of t) is w calm)
@@ -122,7 +122,7 @@ compared_calm p r o m n is w holds calm =
     stepped (let_item empty (one (assert r) (two (comparison o) (number m) (number n)))) is w
     (left_with empty (one (assert r) (val (v_flag (compares o m n)))) is w) refl (rw holds (true_calm p r is w calm))
 
-pub asserted_calm : (ps : Pairs) (of : ℕ → ℤ) (p r : Place) (o : CompareOp) (a b : Sum Binder) (is : List Item) (w : World) → Each (HasNumber ps of) (used_by_sum a) → Each (HasNumber ps of) (used_by_sum b)
+pub asserted_calm : (ps : Pairs) (of : ℕ → ℤ) (p r : Place) (o : CompareOp) (a b : Operand Binder) (is : List Item) (w : World) → Each (HasNumber ps of) (used_by_sum a) → Each (HasNumber ps of) (used_by_sum b)
     → compares o (amount of a) (amount of b) ≡ true → Calm is w
     → Calm (let_item empty (one (assert r) (two (comparison o) (close ps (core_of (sum_tree p a))) (close ps (core_of (sum_tree p b))))) ∷ is) w
 asserted_calm ps of p r o a b is w left right holds calm =
@@ -139,7 +139,7 @@ number_printed_calm p n is w calm =
 
 pub printed_calm : (ps : Pairs) (of : ℕ → ℤ) (p : Place) (e : Printed Binder) (is : List Item) (w : World) → Each (HasNumber ps of) (used_by_printed e) → ((v : World) → Calm is v)
     → Calm (let_item empty (one print (close ps (core_of (printed_tree p e)))) ∷ is) w
-printed_calm ps of p (printed.Sum t) is w has calm =
+printed_calm ps of p (printed.Operand t) is w has calm =
     sum_calm ps of p t empty (λ e. one print e) is w has (record { added = λ m n. refl; taken = λ m n. refl })
     (number_printed_calm p (amount of t) is w (calm (record w { output = w.output ++ amount of t ∷ [] })))
 printed_calm ps of p (printed.Add m n) is w has calm =

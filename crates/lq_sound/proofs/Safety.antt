@@ -11,14 +11,14 @@ use Rattle.lq_pred.specs.declared.symbol.Symbol.TheVariants.{Bound}
 use Rattle.lq_pred.specs.Sum.{var}
 use Rattle.lq_pred.specs.Formula.{Formula, compare}
 use Rattle.lq_pred.specs.Truth.{Meaning, compares as is_so, IsTrueIn}
-use Rattle.lq_pred.specs.Implication.{Implication, EachTrueIn, IsValid}
+use Rattle.lq_pred.specs.ClosedImplication.{ClosedImplication, EachTrueIn, IsValid}
 use Rattle.lq_model.specs.Core.{v_whole, Pairs, without}
 use Rattle.lq_model.specs.Operations.{World, compares}
 use Rattle.lq_model.specs.Program as model
 use Rattle.lq_model.specs.Program.{close_items}
 use Rattle.lq_model.specs.FromTree.{with_item}
-use Rattle.lq_straight.specs.declared.item.Sum.{Sum}
-use Rattle.lq_straight.specs.declared.item.Sum.TheVariants as sum
+use Rattle.lq_straight.specs.declared.item.Operand.{Operand}
+use Rattle.lq_straight.specs.declared.item.Operand.TheVariants as sum
 use Rattle.lq_straight.specs.declared.item.Right.TheVariants as right
 use Rattle.lq_straight.specs.declared.item.Order.{Order}
 use Rattle.lq_straight.specs.declared.item.Order.TheVariants.{Less, AtMost, Greater, AtLeast}
@@ -35,7 +35,7 @@ use Rattle.lq_sound.proofs.Running.{Calm, done_calm, meaning, amount, HasNumber,
 -- what is true of valid implications, and of closing
 pub record Laws : Type 0 where
   -- a valid implication whose hypotheses are true has a true goal
-  pub valid : (m : Meaning) (i : Implication) → IsValid i → EachTrueIn m i.hypotheses → IsTrueIn m i.goal
+  pub valid : (m : Meaning) (i : ClosedImplication) → IsValid i → EachTrueIn m i.hypotheses → IsTrueIn m i.goal
   pub closing : Closing
 
 -- ---- the values so far
@@ -97,7 +97,7 @@ agrees_before at x v of num e agree y lt =
 hold_still : (at x : ℕ) (v : ℤ) (of : ℕ → ℤ) (known : List Formula) → x ≡ at → HoldIn at of known → HoldIn (suc at) (with_number x v of) known
 hold_still at x v of known e hold num agree = hold num (agrees_before at x v of num e agree)
 
-same_amount : (num of : ℕ → ℤ) (t : Sum Binder) → Each (λ y. num y ≡ of y) (used_by_sum t) → amount num t ≡ amount of t
+same_amount : (num of : ℕ → ℤ) (t : Operand Binder) → Each (λ y. num y ≡ of y) (used_by_sum t) → amount num t ≡ amount of t
 same_amount num of (sum.Use x) is = is.0
 same_amount num of (sum.Add x n) is = ap (λ (v : ℤ). v +ℤ pos n) is.0
 same_amount num of (sum.Sub x n) is = ap (λ (v : ℤ). v -ℤ pos n) is.0
@@ -108,7 +108,7 @@ each_true_push : (m : Meaning) (known : List Formula) (p : Formula) → EachTrue
 each_true_push m [] p each is = (is, tt)
 each_true_push m (q ∷ known) p each is = (each.0, each_true_push m known p each.1 is)
 
-hold_more : (Is : ℕ → Type 0) (at : ℕ) (x : Binder) (t : Sum Binder) (of : ℕ → ℤ) (known : List Formula) → x.0 ≡ at → Each (Before Is at) (used_by_sum t) → HoldIn at of known
+hold_more : (Is : ℕ → Type 0) (at : ℕ) (x : Binder) (t : Operand Binder) (of : ℕ → ℤ) (known : List Formula) → x.0 ≡ at → Each (Before Is at) (used_by_sum t) → HoldIn at of known
     → HoldIn (suc at) (with_number x.0 (amount of t) of) (known ++ compare Eq (var (Bound x)) (term_of t) ∷ [])
 hold_more Is at x t of known e uses hold num agree =
     let before = agrees_before at x.0 (amount of t) of num e agree in
@@ -143,13 +143,13 @@ past_calm laws Is at known is none rest ps of fills hold w =
     subst (λ (l : List model.Item). Calm l w) (sym (close_past laws.closing ps is)) (rest ps of (fill_past Is at ps of none fills) (hold_past at of known hold) w)
 
 -- an item is calm where those behind it are
-node_calm : Laws → (Is : ℕ → Type 0) (at : ℕ) (p : Place) (n : ItemNode Binder) (known : List Formula) (later : List Implication) (is : List model.Item) → IsBoundAt Is at n
+node_calm : Laws → (Is : ℕ → Type 0) (at : ℕ) (p : Place) (n : ItemNode Binder) (known : List Formula) (later : List ClosedImplication) (is : List model.Item) → IsBoundAt Is at n
     → All IsValid (with_demand known n later) → AreCalm Is (suc at) (known_behind known n) is → AreCalm Is at known (with_item (node_tree p n) is)
 node_calm laws Is at p (Define x (right.Read r)) known later is bound valid rest ps of fills hold w =
     read_calm p r x.0 (close_items (without (x.0 ∷ []) ps) is) w (λ v after. behind_calm laws Is at x.0 v known is bound.0 rest ps of fills (hold_still at x.0 v of known bound.0 hold) after)
-node_calm laws Is at p (Define x (right.Sum t)) known later is bound valid rest ps of fills hold w =
+node_calm laws Is at p (Define x (right.Operand t)) known later is bound valid rest ps of fills hold w =
     sum_defined_calm ps of p x.0 t (close_items (without (x.0 ∷ []) ps) is) w (each_also (Before Is at) (HasNumber ps of) fills (used_by_sum t) bound.1)
-    (behind_calm laws Is at x.0 (amount of t) (known_behind known (Define x (right.Sum t))) is bound.0 rest ps of fills (hold_more Is at x t of known bound.0 bound.1 hold) w)
+    (behind_calm laws Is at x.0 (amount of t) (known_behind known (Define x (right.Operand t))) is bound.0 rest ps of fills (hold_more Is at x t of known bound.0 bound.1 hold) w)
 node_calm laws Is at p (Assert a) known later is bound valid rest ps of fills hold w =
     let goal_is = laws.valid (meaning of) (record { hypotheses = known; goal = goal_of a }) (All-head IsValid _ later valid) (hold of (λ y lt. refl)) in
     asserted_calm ps of p a.place (op_of a.order) a.left a.right (close_items (without [] ps) is) w
@@ -159,7 +159,7 @@ node_calm laws Is at p (Print e) known later is bound valid rest ps of fills hol
     printed_calm ps of p e (close_items (without [] ps) is) w (each_also (Before Is at) (HasNumber ps of) fills (used_by_printed e) bound.1)
     (λ after. past_calm laws Is at known is bound.0 rest ps of fills hold after)
 
-later_valid : (known : List Formula) (n : ItemNode Binder) (later : List Implication) → All IsValid (with_demand known n later) → All IsValid later
+later_valid : (known : List Formula) (n : ItemNode Binder) (later : List ClosedImplication) → All IsValid (with_demand known n later) → All IsValid later
 later_valid known (Define x r) later valid = valid
 later_valid known (Assert a) later valid = All-tail IsValid _ later valid
 later_valid known (Print e) later valid = valid

@@ -10,8 +10,8 @@ use Rattle.lq_tree.specs.Items.{ItemForm, let_of}
 use Rattle.lq_tree.specs.Pattern.{pattern, bind, nothing}
 use Rattle.lq_tree.specs.Tree.{Tree, tree, whole, unit, use_of, call, arithmetic, compare, assert, print, read}
 use Rattle.lq_straight.specs.declared.item.NameAt.{NameAt}
-use Rattle.lq_straight.specs.declared.item.Sum.{Sum}
-use Rattle.lq_straight.specs.declared.item.Sum.TheVariants as sum
+use Rattle.lq_straight.specs.declared.item.Operand.{Operand}
+use Rattle.lq_straight.specs.declared.item.Operand.TheVariants as sum
 use Rattle.lq_straight.specs.declared.item.Right.{Right}
 use Rattle.lq_straight.specs.declared.item.Right.TheVariants as right
 use Rattle.lq_straight.specs.declared.item.Order.{Order}
@@ -49,8 +49,8 @@ module _ (items : List (Item NameAt)) (at : ℕ) (Name : ℕ → ℕ → Type 0)
   literal_same (tree i p (whole (pos n))) = λ q. same_whole i 0 p q (pos n)
   literal_same (tree i p f) = tt
 
-  abbrev IsSum : Tree → Sum NameAt → Type 0
-  IsSum e s = (t : Sum Binder) (q : Place) → IsSameSum (Means items at) s t → IsSameTree Name e (sum_tree q t)
+  abbrev IsSum : Tree → Operand NameAt → Type 0
+  IsSum e s = (t : Operand Binder) (q : Place) → IsSameSum (Means items at) s t → IsSameTree Name e (sum_tree q t)
 
   whole_same : (i : ℕ) (p : Place) (n : ℕ) → IsSum (tree i p (whole (pos n))) (sum.Whole n)
   whole_same i p n (sum.Whole m) q same = subst (λ (k : ℕ). IsSameTree Name (tree i p (whole (pos n))) (sum_tree q (sum.Whole k))) same (same_whole i 0 p q (pos n))
@@ -101,15 +101,15 @@ module _ (items : List (Item NameAt)) (at : ℕ) (Name : ℕ → ℕ → Type 0)
   abbrev IsRight : Tree → Right NameAt → Type 0
   IsRight e r = (t : Right Binder) (q : Place) → IsSameRight (Means items at) r t → IsSameTree Name e (right_tree q t)
 
-  right_sum_same : (e : Tree) (s : Sum NameAt) → IsSum e s → IsRight e (right.Sum s)
-  right_sum_same e s sum (right.Sum t) q same = sum t q same
+  right_sum_same : (e : Tree) (s : Operand NameAt) → IsSum e s → IsRight e (right.Operand s)
+  right_sum_same e s sum (right.Operand t) q same = sum t q same
   right_sum_same e s sum (right.Read r) q same = absurd same
 
   read_same : (i j k x : ℕ) (p o l : Place) → x ≡ read_name → IsRight (tree i p (call (tree j o (use_of x)) (tree k l unit))) (right.Read p)
   read_same i j k x p o l named (right.Read r) q same =
       subst (λ (y : ℕ). IsSameTree Name (tree i p (call (tree j o (use_of y)) (tree k l unit))) (node r (read (node q unit)))) (sym named)
       (subst (λ (s : Place). IsSameTree Name (tree i p (call (tree j o (use_of read_name)) (tree k l unit))) (node s (read (node q unit)))) same (same_read i j k 0 0 p o l q))
-  read_same i j k x p o l named (right.Sum t) q same = absurd same
+  read_same i j k x p o l named (right.Operand t) q same = absurd same
 
   unit_same : (i j x : ℕ) (p o : Place) (a : Tree) → x ≡ read_name → IsFoundAnd (IsRight (tree i p (call (tree j o (use_of x)) a))) (unit_in (right.Read p) a)
   unit_same i j x p o (tree k l unit) named = read_same i j k x p o l named
@@ -119,19 +119,19 @@ module _ (items : List (Item NameAt)) (at : ℕ) (Name : ℕ → ℕ → Type 0)
   right_same (tree i p (call (tree j o (use_of x)) a)) =
       choice_and (IsRight (tree i p (call (tree j o (use_of x)) a))) (x == read_name) (unit_in (right.Read p) a) (unbuilt o) (λ e. unit_same i j x p o a (eqb-true x read_name e)) (λ e. tt)
   right_same (tree i p (call (tree j o f) a)) = tt
-  right_same e = then_and (IsSum e) (IsRight e) (λ s. is (right.Sum s)) (λ s sum. right_sum_same e s sum) (sum_in e) (sum_same e)
+  right_same e = then_and (IsSum e) (IsRight e) (λ s. is (right.Operand s)) (λ s sum. right_sum_same e s sum) (sum_in e) (sum_same e)
 
   -- ---- what is printed
 
   abbrev IsPrinted : Tree → Printed NameAt → Type 0
   IsPrinted e s = (t : Printed Binder) (q : Place) → IsSamePrinted (Means items at) s t → IsSameTree Name e (printed_tree q t)
 
-  printed_sum_same : (e : Tree) (s : Sum NameAt) → IsSum e s → IsPrinted e (printed.Sum s)
-  printed_sum_same e s sum (printed.Sum t) q same = sum t q same
+  printed_sum_same : (e : Tree) (s : Operand NameAt) → IsSum e s → IsPrinted e (printed.Operand s)
+  printed_sum_same e s sum (printed.Operand t) q same = sum t q same
   printed_sum_same e s sum t q same = absurd same
 
-  as_printed_same : (e : Tree) → IsFoundAnd (IsPrinted e) (then_found (sum_in e) (λ s. is (printed.Sum s)))
-  as_printed_same e = then_and (IsSum e) (IsPrinted e) (λ s. is (printed.Sum s)) (λ s sum. printed_sum_same e s sum) (sum_in e) (sum_same e)
+  as_printed_same : (e : Tree) → IsFoundAnd (IsPrinted e) (then_found (sum_in e) (λ s. is (printed.Operand s)))
+  as_printed_same e = then_and (IsSum e) (IsPrinted e) (λ s. is (printed.Operand s)) (λ s sum. printed_sum_same e s sum) (sum_in e) (sum_same e)
 
   two_added_same : (i : ℕ) (p : Place) (a b : Tree) (m n : ℕ) → IsLiteral a m → IsLiteral b n → IsPrinted (tree i p (arithmetic arith.Add a b)) (printed.Add m n)
   two_added_same i p a b m n left right (printed.Add k l) q same =
@@ -167,7 +167,7 @@ module _ (items : List (Item NameAt)) (at : ℕ) (Name : ℕ → ℕ → Type 0)
   abbrev action : Place → Tree → ItemForm
   action o e = let_of (pattern o nothing) e
 
-  compared_same : (o : Place) (i j : ℕ) (p r : Place) (order : Order) (a b : Tree) (s t : Sum NameAt) → IsSum a s → IsSum b t
+  compared_same : (o : Place) (i j : ℕ) (p r : Place) (order : Order) (a b : Tree) (s t : Operand NameAt) → IsSum a s → IsSum b t
       → IsForm (action o (tree i p (assert (tree j r (compare (op_of order) a b))))) (Assert (record { place = p; left = s; order = order; right = t }))
   compared_same o i j p r order a b s t left right (Assert c) q same =
       let Is : Place → Order → Type 0 = λ u v. IsSameForm Name at (action o (tree i p (assert (tree j r (compare (op_of order) a b)))))
@@ -181,7 +181,7 @@ module _ (items : List (Item NameAt)) (at : ℕ) (Name : ℕ → ℕ → Type 0)
   assertion_same : (o : Place) (i j : ℕ) (p r : Place) (order : Order) (a b : Tree) → IsFoundAnd (IsForm (action o (tree i p (assert (tree j r (compare (op_of order) a b)))))) (assertion_of p order a b)
   assertion_same o i j p r order a b =
       let f = action o (tree i p (assert (tree j r (compare (op_of order) a b)))) in
-      let made : Sum NameAt → Sum NameAt → ItemNode NameAt = λ s t. Assert (record { place = p; left = s; order = order; right = t }) in
+      let made : Operand NameAt → Operand NameAt → ItemNode NameAt = λ s t. Assert (record { place = p; left = s; order = order; right = t }) in
       then_and (IsSum a) (IsForm f) (λ s. then_found (sum_in b) (λ t. is (made s t)))
       (λ s left. then_and (IsSum b) (IsForm f) (λ t. is (made s t)) (λ t right. compared_same o i j p r order a b s t left right) (sum_in b) (sum_same b))
       (sum_in a) (sum_same a)

@@ -9,7 +9,7 @@ use Rattle.lq_tree.specs.Items.{ItemTree, ItemForm, let_of}
 use Rattle.lq_tree.specs.Pattern.{pattern, bind, nothing}
 use Rattle.lq_tree.specs.Tree.{Tree, tree, use_of, call, compare, assert}
 use Rattle.lq_straight.specs.declared.item.NameAt.{NameAt}
-use Rattle.lq_straight.specs.declared.item.Sum.{Sum}
+use Rattle.lq_straight.specs.declared.item.Operand.{Operand}
 use Rattle.lq_straight.specs.declared.item.Right.{Right}
 use Rattle.lq_straight.specs.declared.item.Order.{Order}
 use Rattle.lq_straight.specs.declared.item.Order.TheVariants.{Less, AtMost, Greater, AtLeast}
@@ -34,9 +34,9 @@ IsNone n = (x : ℕ) → IsDefinitionOf x n → ⊥
 
 assertion_none : (p : Place) (order : Order) (a b : Tree) → IsFoundAnd IsNone (assertion_of p order a b)
 assertion_none p order a b =
-    let made : Sum NameAt → Sum NameAt → ItemNode NameAt = λ s t. Assert (record { place = p; left = s; order = order; right = t }) in
-    then_and (λ (s : Sum NameAt). Unit {0}) IsNone (λ s. then_found (sum_in b) (λ t. is (made s t)))
-    (λ s so. then_and (λ (t : Sum NameAt). Unit {0}) IsNone (λ t. is (made s t)) (λ t also x h. h) (sum_in b) (found_any (sum_in b)))
+    let made : Operand NameAt → Operand NameAt → ItemNode NameAt = λ s t. Assert (record { place = p; left = s; order = order; right = t }) in
+    then_and (λ (s : Operand NameAt). Unit {0}) IsNone (λ s. then_found (sum_in b) (λ t. is (made s t)))
+    (λ s so. then_and (λ (t : Operand NameAt). Unit {0}) IsNone (λ t. is (made s t)) (λ t also x h. h) (sum_in b) (found_any (sum_in b)))
     (sum_in a) (found_any (sum_in a))
 
 done_none : (e : Tree) → IsFoundAnd IsNone (done_in e)

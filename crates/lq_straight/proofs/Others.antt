@@ -55,11 +55,11 @@ primitive_other name e variable = ap (λ (t : Tree). primitive_in {A = Unit {0}}
     by_form (use_of x) other = absurd other
     by_form f other = refl
 
-pub right_other : (e : Expr Name) → ((f a : Box (Expr Name) Global) → e.node ≡ node.Call f a → ⊥) → right_in (parsed_view e) ≡ then_found (sum_in (parsed_view e)) (λ s. is (right.Sum s))
+pub right_other : (e : Expr Name) → ((f a : Box (Expr Name) Global) → e.node ≡ node.Call f a → ⊥) → right_in (parsed_view e) ≡ then_found (sum_in (parsed_view e)) (λ s. is (right.Operand s))
 right_other e called =
-    ap right_in (tree_is e) ∙ by_form (form_of e) (no_call e.node called) ∙ ap (λ (t : Tree). then_found (sum_in t) (λ s. is (right.Sum s))) (sym (tree_is e))
+    ap right_in (tree_is e) ∙ by_form (form_of e) (no_call e.node called) ∙ ap (λ (t : Tree). then_found (sum_in t) (λ s. is (right.Operand s))) (sym (tree_is e))
   where
-    by_form : (f : Form) → IsNoCall f → right_in (tree e.id e.place f) ≡ then_found (sum_in (tree e.id e.place f)) (λ s. is (right.Sum s))
+    by_form : (f : Form) → IsNoCall f → right_in (tree e.id e.place f) ≡ then_found (sum_in (tree e.id e.place f)) (λ s. is (right.Operand s))
     by_form (call f a) other = absurd other
     by_form f other = refl
 

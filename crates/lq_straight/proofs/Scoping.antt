@@ -6,7 +6,7 @@ use Rattle.std.proofs.lemmas.Bool.{cases_lt}
 use Rattle.std.proofs.lemmas.List.{length_push}
 use Rattle.lq_name.specs.declared.name.Binder.{Binder}
 use Rattle.lq_straight.specs.declared.item.NameAt.{NameAt}
-use Rattle.lq_straight.specs.declared.item.Sum.{Sum}
+use Rattle.lq_straight.specs.declared.item.Operand.{Operand}
 use Rattle.lq_straight.specs.declared.item.Right.{Right}
 use Rattle.lq_straight.specs.declared.item.Item.{Item}
 use Rattle.lq_straight.specs.declared.item.ItemNode.{ItemNode}
@@ -108,7 +108,7 @@ bound_found : (items : List (Item NameAt)) (at : ℕ) (kept new : ℕ → Option
 bound_found items at kept new i bound up found = record { place = found.place; node = node_found items at kept new i.node bound.node up found.node }
 
 -- the names of uses that are found are kept
-pub sum_kept : (kept : ℕ → Option Binder) (s : Sum NameAt) (t : Sum Binder) → IsSameSum (Keeps kept) s t → EachName (IsKept kept) (used_by_sum s)
+pub sum_kept : (kept : ℕ → Option Binder) (s : Operand NameAt) (t : Operand Binder) → IsSameSum (Keeps kept) s t → EachName (IsKept kept) (used_by_sum s)
 sum_kept kept s t found = sum_each (Keeps kept) (IsKept kept) (λ x b is. (b, is)) s t found
 
 node_kept : (at : ℕ) (kept new : ℕ → Option Binder) (i : ItemNode NameAt) (bound : ItemNode Binder) → IsFoundNode at kept new i bound → EachName (IsKept kept) (used_by_node i)

@@ -4,8 +4,8 @@ use Rattle.std.proofs.Common.{◌≡◌, ℕ, zero, suc, ◌^◌, ◌<◌, List,
 use Rattle.std.proofs.lemmas.Option.{slice_get_within}
 use Rattle.lq_name.specs.declared.name.Binder.{Binder}
 use Rattle.lq_straight.specs.declared.item.NameAt.{NameAt}
-use Rattle.lq_straight.specs.declared.item.Sum.{Sum}
-use Rattle.lq_straight.specs.declared.item.Sum.TheVariants as sum
+use Rattle.lq_straight.specs.declared.item.Operand.{Operand}
+use Rattle.lq_straight.specs.declared.item.Operand.TheVariants as sum
 use Rattle.lq_straight.specs.declared.item.Right.{Right}
 use Rattle.lq_straight.specs.declared.item.Right.TheVariants as right
 use Rattle.lq_straight.specs.declared.item.Item.{Item}
@@ -16,7 +16,7 @@ use Rattle.lq_straight.specs.Binding.{IsSameSum, IsSameRight}
 use Rattle.lq_straight.specs.Scope.{Means, IsBoundNode, Resolves}
 use Rattle.lq_straight.proofs.Lists.{item_at}
 
-sum_small : (Means : NameAt → Binder → Type 0) (s : Sum NameAt) (t : Sum Binder) → IsSameSum Means s t → IsSmallSum s → IsSmallSum t
+sum_small : (Means : NameAt → Binder → Type 0) (s : Operand NameAt) (t : Operand Binder) → IsSameSum Means s t → IsSmallSum s → IsSmallSum t
 sum_small Means (sum.Use x) (sum.Use b) is small = tt
 sum_small Means (sum.Add x n) (sum.Add b m) is small = subst (λ (k : ℕ). k < 2 ^ 127) is.1 small
 sum_small Means (sum.Sub x n) (sum.Sub b m) is small = subst (λ (k : ℕ). k < 2 ^ 127) is.1 small
@@ -26,7 +26,7 @@ sum_small Means s t is small = absurd is
 
 right_small : (Means : NameAt → Binder → Type 0) (r : Right NameAt) (q : Right Binder) → IsSameRight Means r q → IsSmallRight r → IsSmallRight q
 right_small Means (right.Read p) (right.Read q) is small = tt
-right_small Means (right.Sum s) (right.Sum t) is small = sum_small Means s t is small
+right_small Means (right.Operand s) (right.Operand t) is small = sum_small Means s t is small
 right_small Means r q is small = absurd is
 
 node_small : (items : List (Item NameAt)) (at : ℕ) (i : ItemNode NameAt) (b : ItemNode Binder) → IsBoundNode items at i b → IsSmallNode i → IsSmallNode b

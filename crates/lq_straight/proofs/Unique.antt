@@ -6,8 +6,8 @@ use Rattle.std.proofs.lemmas.Bool.{cases_lt}
 use Rattle.lq_name.specs.declared.name.Binder.{Binder}
 use Rattle.lq_name.specs.declared.place.Place.{Place}
 use Rattle.lq_straight.specs.declared.item.NameAt.{NameAt}
-use Rattle.lq_straight.specs.declared.item.Sum.{Sum}
-use Rattle.lq_straight.specs.declared.item.Sum.TheVariants as sum
+use Rattle.lq_straight.specs.declared.item.Operand.{Operand}
+use Rattle.lq_straight.specs.declared.item.Operand.TheVariants as sum
 use Rattle.lq_straight.specs.declared.item.Right.{Right}
 use Rattle.lq_straight.specs.declared.item.Right.TheVariants as right
 use Rattle.lq_straight.specs.declared.item.Printed.{Printed}
@@ -77,31 +77,31 @@ means_one : (items : List (Item NameAt)) (at : ℕ) → MeansOne (Means items at
 means_one items at x b c is also = binder_same b c (nearest_once items at x.name.0 b.0 c.0 is also)
 
 -- the bound forms of each sum
-of_use : (Means : NameAt → Binder → Type 0) (x : NameAt) (s : Sum Binder) → IsSameSum Means (sum.Use x) s → (b : Binder) × (s ≡ sum.Use b) × Means x b
+of_use : (Means : NameAt → Binder → Type 0) (x : NameAt) (s : Operand Binder) → IsSameSum Means (sum.Use x) s → (b : Binder) × (s ≡ sum.Use b) × Means x b
 of_use Means x (sum.Use b) is = (b, refl, is)
 of_use Means x s is = absurd is
 
-of_add : (Means : NameAt → Binder → Type 0) (x : NameAt) (n : ℕ) (s : Sum Binder) → IsSameSum Means (sum.Add x n) s → (b : Binder) × (s ≡ sum.Add b n) × Means x b
+of_add : (Means : NameAt → Binder → Type 0) (x : NameAt) (n : ℕ) (s : Operand Binder) → IsSameSum Means (sum.Add x n) s → (b : Binder) × (s ≡ sum.Add b n) × Means x b
 of_add Means x n (sum.Add b m) is = (b, ap (λ (k : ℕ). sum.Add b k) (sym is.1), is.0)
 of_add Means x n s is = absurd is
 
-of_sub : (Means : NameAt → Binder → Type 0) (x : NameAt) (n : ℕ) (s : Sum Binder) → IsSameSum Means (sum.Sub x n) s → (b : Binder) × (s ≡ sum.Sub b n) × Means x b
+of_sub : (Means : NameAt → Binder → Type 0) (x : NameAt) (n : ℕ) (s : Operand Binder) → IsSameSum Means (sum.Sub x n) s → (b : Binder) × (s ≡ sum.Sub b n) × Means x b
 of_sub Means x n (sum.Sub b m) is = (b, ap (λ (k : ℕ). sum.Sub b k) (sym is.1), is.0)
 of_sub Means x n s is = absurd is
 
-of_whole : (Means : NameAt → Binder → Type 0) (n : ℕ) (s : Sum Binder) → IsSameSum Means (sum.Whole n) s → s ≡ sum.Whole n
+of_whole : (Means : NameAt → Binder → Type 0) (n : ℕ) (s : Operand Binder) → IsSameSum Means (sum.Whole n) s → s ≡ sum.Whole n
 of_whole Means n (sum.Whole m) is = ap (λ (k : ℕ). sum.Whole k) (sym is)
 of_whole Means n s is = absurd is
 
-of_negative : (Means : NameAt → Binder → Type 0) (n : ℕ) (s : Sum Binder) → IsSameSum Means (sum.Negative n) s → s ≡ sum.Negative n
+of_negative : (Means : NameAt → Binder → Type 0) (n : ℕ) (s : Operand Binder) → IsSameSum Means (sum.Negative n) s → s ≡ sum.Negative n
 of_negative Means n (sum.Negative m) is = ap (λ (k : ℕ). sum.Negative k) (sym is)
 of_negative Means n s is = absurd is
 
 -- two uses bound in one way
-one_bound : (Means : NameAt → Binder → Type 0) → MeansOne Means → (x : NameAt) (s t : Sum Binder) (make : Binder → Sum Binder) → (b : Binder) × (s ≡ make b) × Means x b → (b : Binder) × (t ≡ make b) × Means x b → s ≡ t
+one_bound : (Means : NameAt → Binder → Type 0) → MeansOne Means → (x : NameAt) (s t : Operand Binder) (make : Binder → Operand Binder) → (b : Binder) × (s ≡ make b) × Means x b → (b : Binder) × (t ≡ make b) × Means x b → s ≡ t
 one_bound Means once x s t make a b = a.1 ∙ ap make (once x a.0 b.0 a.2 b.2) ∙ sym b.1
 
-sum_once : (Means : NameAt → Binder → Type 0) → MeansOne Means → (r : Sum NameAt) (s t : Sum Binder) → IsSameSum Means r s → IsSameSum Means r t → s ≡ t
+sum_once : (Means : NameAt → Binder → Type 0) → MeansOne Means → (r : Operand NameAt) (s t : Operand Binder) → IsSameSum Means r s → IsSameSum Means r t → s ≡ t
 sum_once Means once (sum.Use x) s t a b = one_bound Means once x s t (λ c. sum.Use c) (of_use Means x s a) (of_use Means x t b)
 sum_once Means once (sum.Add x n) s t a b = one_bound Means once x s t (λ c. sum.Add c n) (of_add Means x n s a) (of_add Means x n t b)
 sum_once Means once (sum.Sub x n) s t a b = one_bound Means once x s t (λ c. sum.Sub c n) (of_sub Means x n s a) (of_sub Means x n t b)
@@ -110,14 +110,14 @@ sum_once Means once (sum.Negative n) s t a b = of_negative Means n s a ∙ sym (
 
 right_once : (Means : NameAt → Binder → Type 0) → MeansOne Means → (r : Right NameAt) (s t : Right Binder) → IsSameRight Means r s → IsSameRight Means r t → s ≡ t
 right_once Means once (right.Read p) (right.Read q) (right.Read n) a b = ap (λ (k : Place). right.Read k) (sym a ∙ b)
-right_once Means once (right.Sum r) (right.Sum s) (right.Sum t) a b = ap (λ (u : Sum Binder). right.Sum u) (sum_once Means once r s t a b)
-right_once Means once (right.Read p) (right.Sum s) t a b = absurd a
-right_once Means once (right.Sum r) (right.Read q) t a b = absurd a
+right_once Means once (right.Operand r) (right.Operand s) (right.Operand t) a b = ap (λ (u : Operand Binder). right.Operand u) (sum_once Means once r s t a b)
+right_once Means once (right.Read p) (right.Operand s) t a b = absurd a
+right_once Means once (right.Operand r) (right.Read q) t a b = absurd a
 right_once Means once r s t a b = absurd b
 
 -- the bound forms of what is printed
-of_sum : (Means : NameAt → Binder → Type 0) (s : Sum NameAt) (f : Printed Binder) → IsSamePrinted Means (printed.Sum s) f → (t : Sum Binder) × (f ≡ printed.Sum t) × IsSameSum Means s t
-of_sum Means s (printed.Sum t) is = (t, refl, is)
+of_sum : (Means : NameAt → Binder → Type 0) (s : Operand NameAt) (f : Printed Binder) → IsSamePrinted Means (printed.Operand s) f → (t : Operand Binder) × (f ≡ printed.Operand t) × IsSameSum Means s t
+of_sum Means s (printed.Operand t) is = (t, refl, is)
 of_sum Means s f is = absurd is
 
 of_two_added : (Means : NameAt → Binder → Type 0) (m n : ℕ) (f : Printed Binder) → IsSamePrinted Means (printed.Add m n) f → f ≡ printed.Add m n
@@ -129,10 +129,10 @@ of_two_parted Means m n (printed.Sub k l) is = ap (λ (a : ℕ). printed.Sub a l
 of_two_parted Means m n f is = absurd is
 
 printed_once : (Means : NameAt → Binder → Type 0) → MeansOne Means → (e : Printed NameAt) (s t : Printed Binder) → IsSamePrinted Means e s → IsSamePrinted Means e t → s ≡ t
-printed_once Means once (printed.Sum r) s t a b =
+printed_once Means once (printed.Operand r) s t a b =
     let p = of_sum Means r s a in
     let q = of_sum Means r t b in
-    p.1 ∙ ap (λ (u : Sum Binder). printed.Sum u) (sum_once Means once r p.0 q.0 p.2 q.2) ∙ sym q.1
+    p.1 ∙ ap (λ (u : Operand Binder). printed.Operand u) (sum_once Means once r p.0 q.0 p.2 q.2) ∙ sym q.1
 printed_once Means once (printed.Add m n) s t a b = of_two_added Means m n s a ∙ sym (of_two_added Means m n t b)
 printed_once Means once (printed.Sub m n) s t a b = of_two_parted Means m n s a ∙ sym (of_two_parted Means m n t b)
 
@@ -142,8 +142,8 @@ assertion_once Means once r s t a b =
     let right = sum_once Means once r.right s.right t.right a.right b.right in
     let place : s.place ≡ t.place = sym a.place ∙ b.place in
     let order : s.order ≡ t.order = sym a.order ∙ b.order in
-    let make : Place → Sum Binder → Order → Sum Binder → Assertion Binder = λ p l o r. record { place = p; left = l; order = o; right = r } in
-    ap (λ (p : Place). make p s.left s.order s.right) place ∙ ap (λ (l : Sum Binder). make t.place l s.order s.right) left ∙ ap (λ (o : Order). make t.place t.left o s.right) order ∙ ap (make t.place t.left t.order) right
+    let make : Place → Operand Binder → Order → Operand Binder → Assertion Binder = λ p l o r. record { place = p; left = l; order = o; right = r } in
+    ap (λ (p : Place). make p s.left s.order s.right) place ∙ ap (λ (l : Operand Binder). make t.place l s.order s.right) left ∙ ap (λ (o : Order). make t.place t.left o s.right) order ∙ ap (make t.place t.left t.order) right
 
 -- the bound forms of each form
 of_definition : (items : List (Item NameAt)) (at : ℕ) (x : NameAt) (r : Right NameAt) (j : ItemNode Binder) → IsBoundNode items at (Define x r) j → (b : Binder) × (s : Right Binder) × (j ≡ Define b s) × (b.0 ≡ at) × IsSameRight (Means items at) r s

@@ -6,10 +6,10 @@ use Rattle.lq_name.specs.declared.operation.CompareOp.TheVariants.{Eq}
 use Rattle.lq_pred.specs.declared.symbol.Symbol.TheVariants.{Bound}
 use Rattle.lq_pred.specs.Sum.{Sum as Term, whole, var, add, sub}
 use Rattle.lq_pred.specs.Formula.{Formula, compare}
-use Rattle.lq_pred.specs.Implication.{Implication, IsValid}
+use Rattle.lq_pred.specs.ClosedImplication.{ClosedImplication, IsValid}
 use Rattle.lq_straight.specs.declared.item.NameAt.{NameAt}
-use Rattle.lq_straight.specs.declared.item.Sum.{Sum}
-use Rattle.lq_straight.specs.declared.item.Sum.TheVariants as sum
+use Rattle.lq_straight.specs.declared.item.Operand.{Operand}
+use Rattle.lq_straight.specs.declared.item.Operand.TheVariants as sum
 use Rattle.lq_straight.specs.declared.item.Right.TheVariants as right
 use Rattle.lq_straight.specs.declared.item.Assertion.{Assertion}
 use Rattle.lq_straight.specs.declared.item.Item.{Item}
@@ -19,7 +19,7 @@ use Rattle.lq_straight.specs.Scope.{Resolves}
 use Rattle.lq_straight.specs.Meaning.{op_of, IsSafe}
 
 -- the term that a sum is, over binders
-abbrev pub term_of : Sum Binder → Term
+abbrev pub term_of : Operand Binder → Term
 term_of (sum.Use x) = var (Bound x)
 term_of (sum.Add x n) = add (var (Bound x)) (whole (pos n))
 term_of (sum.Sub x n) = sub (var (Bound x)) (whole (pos n))
@@ -34,22 +34,22 @@ goal_of a = compare (op_of a.order) (term_of a.left) (term_of a.right)
 -- nothing behind.
 abbrev pub known_behind : List Formula → ItemNode Binder → List Formula
 known_behind known (Define x (right.Read p)) = known
-known_behind known (Define x (right.Sum s)) = known ++ compare Eq (var (Bound x)) (term_of s) ∷ []
+known_behind known (Define x (right.Operand s)) = known ++ compare Eq (var (Bound x)) (term_of s) ∷ []
 known_behind known (Assert a) = known
 known_behind known (Print e) = known
 
 -- an assertion demands its goal; other items demand nothing
-abbrev pub with_demand : List Formula → ItemNode Binder → List Implication → List Implication
+abbrev pub with_demand : List Formula → ItemNode Binder → List ClosedImplication → List ClosedImplication
 with_demand known (Define x r) is = is
 with_demand known (Assert a) is = record { hypotheses = known; goal = goal_of a } ∷ is
 with_demand known (Print e) is = is
 
 -- the demands of items behind which this is known
-abbrev pub implications_from : List Formula → List (Item Binder) → List Implication
+abbrev pub implications_from : List Formula → List (Item Binder) → List ClosedImplication
 implications_from known [] = []
 implications_from known (i ∷ items) = with_demand known i.node (implications_from (known_behind known i.node) items)
 
-abbrev pub implications_of : List (Item Binder) → List Implication
+abbrev pub implications_of : List (Item Binder) → List ClosedImplication
 implications_of items = implications_from [] items
 
 -- the assertions of a program, in order

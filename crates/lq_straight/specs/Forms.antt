@@ -9,8 +9,8 @@ use Rattle.lq_tree.specs.Items.{ItemTree, ItemForm, let_of}
 use Rattle.lq_tree.specs.Pattern.{pattern, bind, nothing}
 use Rattle.lq_tree.specs.Tree.{Tree, tree, whole, unit, use_of, call, arithmetic, compare, assert}
 use Rattle.lq_straight.specs.declared.item.NameAt.{NameAt}
-use Rattle.lq_straight.specs.declared.item.Sum.{Sum}
-use Rattle.lq_straight.specs.declared.item.Sum.TheVariants as sum
+use Rattle.lq_straight.specs.declared.item.Operand.{Operand}
+use Rattle.lq_straight.specs.declared.item.Operand.TheVariants as sum
 use Rattle.lq_straight.specs.declared.item.Right.{Right}
 use Rattle.lq_straight.specs.declared.item.Right.TheVariants as right
 use Rattle.lq_straight.specs.declared.item.Order.{Order}
@@ -42,10 +42,10 @@ literal_in (tree i p (whole (pos n))) = is n
 literal_in (tree i p f) = unbuilt p
 
 -- a variable and a literal
-abbrev pub variable_and_literal : (NameAt → ℕ → Sum NameAt) → Tree → Tree → Found (Sum NameAt)
+abbrev pub variable_and_literal : (NameAt → ℕ → Operand NameAt) → Tree → Tree → Found (Operand NameAt)
 variable_and_literal form a b = then_found (variable_in a) (λ x. then_found (literal_in b) (λ n. is (form x n)))
 
-abbrev pub sum_in : Tree → Found (Sum NameAt)
+abbrev pub sum_in : Tree → Found (Operand NameAt)
 sum_in (tree i p (whole (pos n))) = is (sum.Whole n)
 sum_in (tree i p (whole (negsuc n))) = if nat_lt (suc n) (2 ^ 127) then is (sum.Negative (suc n)) else unbuilt p
 sum_in (tree i p (use_of x)) = then_found (variable_in (tree i p (use_of x))) (λ x. is (sum.Use x))
@@ -65,7 +65,7 @@ primitive_in name (tree i p f) of_it = unbuilt p
 
 abbrev pub right_in : Tree → Found (Right NameAt)
 right_in (tree i p (call f a)) = primitive_in read_name f (unit_in (right.Read p) a)
-right_in e = then_found (sum_in e) (λ s. is (right.Sum s))
+right_in e = then_found (sum_in e) (λ s. is (right.Operand s))
 
 abbrev pub with_order : {A : Type 0} → CompareOp → Place → (Order → Found A) → Found A
 with_order compare_op.Eq p f = unbuilt p
@@ -89,7 +89,7 @@ abbrev pub two_literals : (ℕ → ℕ → Printed NameAt) → Tree → Tree →
 two_literals form a b = then_found (literal_in a) (λ m. then_found (literal_in b) (λ n. is (form m n)))
 
 abbrev pub as_printed : Tree → Found (Printed NameAt)
-as_printed e = then_found (sum_in e) (λ s. is (printed.Sum s))
+as_printed e = then_found (sum_in e) (λ s. is (printed.Operand s))
 
 abbrev pub printed_in : Tree → Found (Printed NameAt)
 printed_in (tree i p (arithmetic arith.Add (tree j q (whole (pos m))) b)) = two_literals printed.Add (tree j q (whole (pos m))) b

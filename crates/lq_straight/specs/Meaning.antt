@@ -11,8 +11,8 @@ use Rattle.lq_tree.specs.Pattern.{pattern, bind, nothing}
 use Rattle.lq_tree.specs.Tree.{Tree, tree, Form, whole, unit, use_of, arithmetic, compare, assert, print, read}
 use Rattle.lq_model.specs.FromTree.{items_of}
 use Rattle.lq_model.specs.Program as model
-use Rattle.lq_straight.specs.declared.item.Sum.{Sum}
-use Rattle.lq_straight.specs.declared.item.Sum.TheVariants as sum
+use Rattle.lq_straight.specs.declared.item.Operand.{Operand}
+use Rattle.lq_straight.specs.declared.item.Operand.TheVariants as sum
 use Rattle.lq_straight.specs.declared.item.Right.{Right}
 use Rattle.lq_straight.specs.declared.item.Right.TheVariants as right
 use Rattle.lq_straight.specs.declared.item.Order.{Order}
@@ -27,7 +27,7 @@ use Rattle.lq_straight.specs.declared.item.ItemNode.TheVariants.{Define, Assert,
 abbrev pub node : Place → Form → Tree
 node p f = tree 0 p f
 
-abbrev pub sum_tree : Place → Sum Binder → Tree
+abbrev pub sum_tree : Place → Operand Binder → Tree
 sum_tree p (sum.Use x) = node p (use_of x.0)
 sum_tree p (sum.Add x n) = node p (arithmetic arith.Add (node p (use_of x.0)) (node p (whole (pos n))))
 sum_tree p (sum.Sub x n) = node p (arithmetic arith.Sub (node p (use_of x.0)) (node p (whole (pos n))))
@@ -36,7 +36,7 @@ sum_tree p (sum.Negative n) = node p (whole (neg_ℤ (pos n)))
 
 abbrev pub right_tree : Place → Right Binder → Tree
 right_tree p (right.Read q) = node q (read (node p unit))
-right_tree p (right.Sum s) = sum_tree p s
+right_tree p (right.Operand s) = sum_tree p s
 
 abbrev pub op_of : Order → CompareOp
 op_of Less = compare_op.Lt
@@ -45,7 +45,7 @@ op_of Greater = compare_op.Gt
 op_of AtLeast = compare_op.Ge
 
 abbrev pub printed_tree : Place → Printed Binder → Tree
-printed_tree p (printed.Sum s) = sum_tree p s
+printed_tree p (printed.Operand s) = sum_tree p s
 printed_tree p (printed.Add m n) = node p (arithmetic arith.Add (node p (whole (pos m))) (node p (whole (pos n))))
 printed_tree p (printed.Sub m n) = node p (arithmetic arith.Sub (node p (whole (pos m))) (node p (whole (pos n))))
 

@@ -3,7 +3,7 @@ use Rattle.std.specs.Prelude.{◌≡◌, ◌⊎◌, ℕ, ◌+◌, ◌<◌, ◌==
 use Rattle.std.specs.Option.{option_map}
 use Rattle.lq_name.specs.declared.name.Binder.{Binder}
 use Rattle.lq_straight.specs.declared.item.NameAt.{NameAt}
-use Rattle.lq_straight.specs.declared.item.Sum.{Sum}
+use Rattle.lq_straight.specs.declared.item.Operand.{Operand}
 use Rattle.lq_straight.specs.declared.item.Right.{Right}
 use Rattle.lq_straight.specs.declared.item.Printed.{Printed}
 use Rattle.lq_straight.specs.declared.item.Item.{Item}
@@ -37,7 +37,7 @@ abbrev pub Means : List (Item NameAt) → ℕ → NameAt → Binder → Type 0
 Means items at x b = IsNearest items at x.name.0 b.0
 
 -- a sum of the item with this number, and the same one with its use bound
-abbrev pub IsBoundSum : List (Item NameAt) → ℕ → Sum NameAt → Sum Binder → Type 0
+abbrev pub IsBoundSum : List (Item NameAt) → ℕ → Operand NameAt → Operand Binder → Type 0
 IsBoundSum items at = IsSameSum (Means items at)
 
 abbrev pub IsBoundRight : List (Item NameAt) → ℕ → Right NameAt → Right Binder → Type 0

@@ -1,7 +1,7 @@
 -- What the items use, and how large their literals are.
 use Rattle.std.specs.Prelude.{◌<◌, ◌^◌, List, [], ◌∷◌, ◌++◌}
-use Rattle.lq_straight.specs.declared.item.Sum.{Sum}
-use Rattle.lq_straight.specs.declared.item.Sum.TheVariants as sum
+use Rattle.lq_straight.specs.declared.item.Operand.{Operand}
+use Rattle.lq_straight.specs.declared.item.Operand.TheVariants as sum
 use Rattle.lq_straight.specs.declared.item.Right.{Right}
 use Rattle.lq_straight.specs.declared.item.Right.TheVariants as right
 use Rattle.lq_straight.specs.declared.item.Printed.{Printed}
@@ -11,7 +11,7 @@ use Rattle.lq_straight.specs.declared.item.ItemNode.{ItemNode}
 use Rattle.lq_straight.specs.declared.item.ItemNode.TheVariants.{Define, Assert, Print}
 
 -- what a sum uses
-abbrev pub used_by_sum : {V : Type 0} → Sum V → List V
+abbrev pub used_by_sum : {V : Type 0} → Operand V → List V
 used_by_sum (sum.Use x) = x ∷ []
 used_by_sum (sum.Add x n) = x ∷ []
 used_by_sum (sum.Sub x n) = x ∷ []
@@ -20,10 +20,10 @@ used_by_sum (sum.Negative n) = []
 
 abbrev pub used_by_right : {V : Type 0} → Right V → List V
 used_by_right (right.Read p) = []
-used_by_right (right.Sum s) = used_by_sum s
+used_by_right (right.Operand s) = used_by_sum s
 
 abbrev pub used_by_printed : {V : Type 0} → Printed V → List V
-used_by_printed (printed.Sum s) = used_by_sum s
+used_by_printed (printed.Operand s) = used_by_sum s
 used_by_printed (printed.Add m n) = []
 used_by_printed (printed.Sub m n) = []
 
@@ -37,7 +37,7 @@ abbrev pub used : {V : Type 0} → Item V → List V
 used i = used_by_node i.node
 
 -- the literal is below 2 ^ 127
-abbrev pub IsSmallSum : {V : Type 0} → Sum V → Type 0
+abbrev pub IsSmallSum : {V : Type 0} → Operand V → Type 0
 IsSmallSum (sum.Use x) = Unit {0}
 IsSmallSum (sum.Add x n) = n < 2 ^ 127
 IsSmallSum (sum.Sub x n) = n < 2 ^ 127
@@ -46,7 +46,7 @@ IsSmallSum (sum.Negative n) = n < 2 ^ 127
 
 abbrev pub IsSmallRight : {V : Type 0} → Right V → Type 0
 IsSmallRight (right.Read p) = Unit {0}
-IsSmallRight (right.Sum s) = IsSmallSum s
+IsSmallRight (right.Operand s) = IsSmallSum s
 
 -- only definitions and assertions are looked at: nothing is asked of what is printed
 abbrev pub IsSmallNode : {V : Type 0} → ItemNode V → Type 0

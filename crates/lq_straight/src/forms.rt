@@ -12,7 +12,7 @@ ghost use Rattle.lq_straight.specs.Recognising.{Answers};
 ghost use Rattle.lq_straight.specs.Uses.{AreSmall, IsSmallSum, IsSmallRight, IsSmallNode, IsSmallItem};
 ghost use Rattle.lq_straight.specs.declared.forms.FormError.TheVariants.{Unbuilt, Memory};
 
-use crate::item::{Assertion, Item, ItemNode, NameAt, Order, Printed, Right, Sum};
+use crate::item::{Assertion, Item, ItemNode, NameAt, Operand, Order, Printed, Right};
 use crate::names::{PRINT_INT, READ_INT, is_primitive};
 use lq_name::{ArithOp, CompareOp, Name, Place};
 use lq_tree::{Expr, Item as ItemTree, ItemNode as ItemForm, Node, Pat, PatNode, Program};
@@ -87,16 +87,16 @@ fn literal_in(tree: &Expr<Name>) -> Result<u128, Place>
 }
 
 // A literal as a sum.
-fn literal_sum(n: i128, place: Place) -> Result<Sum<NameAt>, Place>
+fn literal_sum(n: i128, place: Place) -> Result<Operand<NameAt>, Place>
     ensures sum { Answers result (sum_in (tree 0 place (whole n))) }
     ensures small { IfOk result (λ s. IsSmallSum s) }
 {
     if n >= 0 {
-        Ok(Sum::Whole(n.unsigned_abs()))
+        Ok(Operand::Whole(n.unsigned_abs()))
     } else if n == i128::MIN {
         Err(place)
     } else {
-        Ok(Sum::Negative(n.unsigned_abs()))
+        Ok(Operand::Negative(n.unsigned_abs()))
     }
 }
 
@@ -106,7 +106,7 @@ fn arith_sum(
     left: &Expr<Name>,
     right: &Expr<Name>,
     place: Place,
-) -> Result<Sum<NameAt>, Place>
+) -> Result<Operand<NameAt>, Place>
     ensures sum { Answers result (sum_in (tree 0 place (arithmetic op (parsed_view left.now)
         (parsed_view right.now)))) }
     ensures small { IfOk result (λ s. IsSmallSum s) }
@@ -115,24 +115,24 @@ fn arith_sum(
         ArithOp::Add => {
             let name = variable_in(left)?;
             let literal = literal_in(right)?;
-            Ok(Sum::Add(name, literal))
+            Ok(Operand::Add(name, literal))
         }
         ArithOp::Sub => {
             let name = variable_in(left)?;
             let literal = literal_in(right)?;
-            Ok(Sum::Sub(name, literal))
+            Ok(Operand::Sub(name, literal))
         }
         _ => Err(place),
     }
 }
 
-fn sum_in(tree: &Expr<Name>) -> Result<Sum<NameAt>, Place>
+fn sum_in(tree: &Expr<Name>) -> Result<Operand<NameAt>, Place>
     ensures sum { Answers result (sum_in (parsed_view tree.now)) }
     ensures small { IfOk result (λ s. IsSmallSum s) }
 {
     match &tree.node {
         Node::Whole(n) => literal_sum(*n, tree.place),
-        Node::Use(name) => Ok(Sum::Use(variable(*name, tree.place)?)),
+        Node::Use(name) => Ok(Operand::Use(variable(*name, tree.place)?)),
         Node::Arith(op, left, right) => arith_sum(*op, left, right, tree.place),
         _ => Err(tree.place),
     }
@@ -173,7 +173,7 @@ fn right_in(tree: &Expr<Name>) -> Result<Right<NameAt>, Place>
             unit_in(argument)?;
             Ok(Right::Read(tree.place))
         }
-        _ => Ok(Right::Sum(sum_in(tree)?)),
+        _ => Ok(Right::Operand(sum_in(tree)?)),
     }
 }
 
@@ -228,7 +228,7 @@ fn printed_arith(
             ArithOp::Sub => Ok(Printed::Sub(m, literal_in(right)?)),
             _ => Err(place),
         },
-        Err(_) => Ok(Printed::Sum(arith_sum(op, left, right, place)?)),
+        Err(_) => Ok(Printed::Operand(arith_sum(op, left, right, place)?)),
     }
 }
 
@@ -237,7 +237,7 @@ fn printed_in(tree: &Expr<Name>) -> Result<Printed<NameAt>, Place>
 {
     match &tree.node {
         Node::Arith(op, left, right) => printed_arith(*op, left, right, tree.place),
-        _ => Ok(Printed::Sum(sum_in(tree)?)),
+        _ => Ok(Printed::Operand(sum_in(tree)?)),
     }
 }
 

@@ -12,7 +12,7 @@ pub struct NameAt {
 
 /// A literal, a variable, or a variable with a literal added or taken away.
 #[derive(Clone, Copy)]
-pub enum Sum<V> {
+pub enum Operand<V> {
     /// A variable alone.
     Use(V),
     /// A variable with a literal added.
@@ -31,7 +31,7 @@ pub enum Right<V> {
     /// `read_int ()`, with its place.
     Read(Place),
     /// A sum.
-    Sum(Sum<V>),
+    Operand(Operand<V>),
 }
 
 /// How the sides of an assertion are to stand.
@@ -53,18 +53,18 @@ pub struct Assertion<V> {
     /// The place of `assert`.
     pub place: Place,
     /// The side left of the comparison.
-    pub left: Sum<V>,
+    pub left: Operand<V>,
     /// How the sides are to stand.
     pub order: Order,
     /// The side right of the comparison.
-    pub right: Sum<V>,
+    pub right: Operand<V>,
 }
 
 /// What is printed: a sum, or two literals of which one is added to the other or taken away.
 #[derive(Clone, Copy)]
 pub enum Printed<V> {
     /// A sum.
-    Sum(Sum<V>),
+    Operand(Operand<V>),
     /// The second literal added to the first.
     Add(u128, u128),
     /// The second literal taken away from the first.

@@ -10,7 +10,7 @@ mod scope;
 mod visible;
 
 pub use forms::{FormError, recognise};
-pub use item::{Assertion, Item, ItemNode, NameAt, Order, Printed, Right, Sum};
+pub use item::{Assertion, Item, ItemNode, NameAt, Operand, Order, Printed, Right};
 pub use laws::{one_scope, primitives_have_their_names};
 pub use names::name_table;
 pub use ordinal::ordinals;

@@ -8,7 +8,7 @@ ghost use Rattle.lq_straight.specs.Scope.{Resolves, IsFirstUnknown, IsFirstNot};
 ghost use Rattle.lq_straight.specs.Binding.{IsSameSum, IsSameRight, IsSamePrinted, IsSameAssertion};
 ghost use Rattle.lq_straight.specs.Visible.{seen, Keeps, IsFoundNode, IsFoundItem, IsKept};
 
-use crate::item::{Assertion, Item, ItemNode, NameAt, Printed, Right, Sum};
+use crate::item::{Assertion, Item, ItemNode, NameAt, Operand, Printed, Right};
 use crate::visible::Visible;
 use lq_name::Binder;
 use std::alloc::{AllocError, AllocFailed, Global};
@@ -54,17 +54,17 @@ fn bind_use(visible: &Visible, name: NameAt) -> Result<Binder, ScopeError>
 }
 
 // The sum with its use bound.
-fn bind_sum(visible: &Visible, sum: Sum<NameAt>) -> Result<Sum<Binder>, ScopeError>
+fn bind_sum(visible: &Visible, sum: Operand<NameAt>) -> Result<Operand<Binder>, ScopeError>
     ensures found { IfOk result (λ s. IsSameSum (Keeps (seen visible.now.kept.items)) sum s) }
     ensures unknown { (x : NameAt) → result ≡ Err (ScopeError.Unknown x) → (used_by_sum sum ≡ x ∷ [])
         × (seen visible.now.kept.items x.name.0 ≡ None) }
 {
     Ok(match sum {
-        Sum::Use(x) => Sum::Use(bind_use(visible, x)?),
-        Sum::Add(x, n) => Sum::Add(bind_use(visible, x)?, n),
-        Sum::Sub(x, n) => Sum::Sub(bind_use(visible, x)?, n),
-        Sum::Whole(n) => Sum::Whole(n),
-        Sum::Negative(n) => Sum::Negative(n),
+        Operand::Use(x) => Operand::Use(bind_use(visible, x)?),
+        Operand::Add(x, n) => Operand::Add(bind_use(visible, x)?, n),
+        Operand::Sub(x, n) => Operand::Sub(bind_use(visible, x)?, n),
+        Operand::Whole(n) => Operand::Whole(n),
+        Operand::Negative(n) => Operand::Negative(n),
     })
 }
 
@@ -76,7 +76,7 @@ fn bind_right(visible: &Visible, right: Right<NameAt>) -> Result<Right<Binder>, 
 {
     Ok(match right {
         Right::Read(place) => Right::Read(place),
-        Right::Sum(sum) => Right::Sum(bind_sum(visible, sum)?),
+        Right::Operand(sum) => Right::Operand(bind_sum(visible, sum)?),
     })
 }
 
@@ -87,7 +87,7 @@ fn bind_printed(visible: &Visible, printed: Printed<NameAt>) -> Result<Printed<B
         → (used_by_printed printed ≡ x ∷ []) × (seen visible.now.kept.items x.name.0 ≡ None) }
 {
     Ok(match printed {
-        Printed::Sum(sum) => Printed::Sum(bind_sum(visible, sum)?),
+        Printed::Operand(sum) => Printed::Operand(bind_sum(visible, sum)?),
         Printed::Add(m, n) => Printed::Add(m, n),
         Printed::Sub(m, n) => Printed::Sub(m, n),
     })

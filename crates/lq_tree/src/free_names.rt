@@ -31,7 +31,8 @@ impl<B: Ident> Expr<B> {
         found: &mut IndexSet<u32>,
     ) -> Result<(), AllocError>
         ensures bound { OnOk result (bound.new.keys ≡ bound.old.keys) }
-        ensures found { OnOk result (found.new.keys ≡ found_in bound.old.keys found.old.keys (tree_view B B.number self.now)) }
+        ensures found { OnOk result (found.new.keys ≡ found_in bound.old.keys found.old.keys
+            (tree_view B B.number self.now)) }
     {
         self.node.find_free(bound, found)
     }
@@ -45,7 +46,9 @@ impl<B: Ident> Expr<B> {
         found: &mut IndexSet<u32>,
     ) -> Result<(), AllocError>
         ensures bound { OnOk result (bound.new.keys ≡ bound.old.keys) }
-        ensures found { OnOk result (found.new.keys ≡ found_in (insert_all nat_eq bound.old.keys (bound_in (pat_view B B.number pattern.now))) found.old.keys (tree_view B B.number self.now)) }
+        ensures found { OnOk result (found.new.keys
+            ≡ found_in (insert_all nat_eq bound.old.keys (bound_in (pat_view B B.number pattern.now)))
+            found.old.keys (tree_view B B.number self.now)) }
     {
         let outer = bound.len();
         pattern.bind(bound)?;
@@ -63,7 +66,9 @@ impl<B: Ident> Expr<B> {
         found: &mut IndexSet<u32>,
     ) -> Result<(), AllocError>
         ensures bound { OnOk result (bound.new.keys ≡ bound.old.keys) }
-        ensures found { OnOk result (found.new.keys ≡ found_in (insert_key nat_eq bound.old.keys (B.number name)) found.old.keys (tree_view B B.number self.now)) }
+        ensures found { OnOk result (found.new.keys
+            ≡ found_in (insert_key nat_eq bound.old.keys (B.number name)) found.old.keys
+            (tree_view B B.number self.now)) }
     {
         let outer = bound.len();
         bound.insert(name.number())?;
@@ -102,7 +107,8 @@ impl<B: Ident> Node<B> {
         found: &mut IndexSet<u32>,
     ) -> Result<(), AllocError>
         ensures bound { OnOk result (bound.new.keys ≡ bound.old.keys) }
-        ensures found { OnOk result (found.new.keys ≡ found_in_form bound.old.keys found.old.keys (form_view B B.number self.now)) }
+        ensures found { OnOk result (found.new.keys ≡ found_in_form bound.old.keys found.old.keys
+            (form_view B B.number self.now)) }
     {
         match self {
             Node::Whole(_) => Ok(()),
@@ -196,7 +202,10 @@ impl<B: Ident> Function<B> {
         found: &mut IndexSet<u32>,
     ) -> Result<(), AllocError>
         ensures bound { OnOk result (bound.new.keys ≡ bound.old.keys) }
-        ensures found { OnOk result (found.new.keys ≡ found_in (insert_all nat_eq (insert_key nat_eq bound.old.keys (B.number own)) (bound_in (function_view B B.number self.now).parameter)) found.old.keys (function_view B B.number self.now).body) }
+        ensures found { OnOk result (found.new.keys
+            ≡ found_in (insert_all nat_eq (insert_key nat_eq bound.old.keys (B.number own))
+            (bound_in (function_view B B.number self.now).parameter)) found.old.keys
+            (function_view B B.number self.now).body) }
     {
         let outer = bound.len();
         bound.insert(own.number())?;
@@ -214,7 +223,8 @@ impl<B: Ident> Exprs<B> {
         found: &mut IndexSet<u32>,
     ) -> Result<(), AllocError>
         ensures bound { OnOk result (bound.new.keys ≡ bound.old.keys) }
-        ensures found { OnOk result (found.new.keys ≡ found_in_all bound.old.keys found.old.keys (trees_view B B.number self.now)) }
+        ensures found { OnOk result (found.new.keys ≡ found_in_all bound.old.keys found.old.keys
+            (trees_view B B.number self.now)) }
     {
         for e in &self.items {
             e.find_free(bound, found)?;
@@ -231,7 +241,9 @@ impl<B: Ident> Arm<B> {
         found: &mut IndexSet<u32>,
     ) -> Result<(), AllocError>
         ensures bound { OnOk result (bound.new.keys ≡ bound.old.keys) }
-        ensures found { OnOk result (found.new.keys ≡ found_in (insert_all nat_eq bound.old.keys (bound_in (case_view B B.number self.now).pattern)) found.old.keys (case_view B B.number self.now).body) }
+        ensures found { OnOk result (found.new.keys
+            ≡ found_in (insert_all nat_eq bound.old.keys (bound_in (case_view B B.number self.now).pattern))
+            found.old.keys (case_view B B.number self.now).body) }
     {
         self.body.find_under(&self.pattern, bound, found)
     }
@@ -245,7 +257,8 @@ impl<B: Ident> Arms<B> {
         found: &mut IndexSet<u32>,
     ) -> Result<(), AllocError>
         ensures bound { OnOk result (bound.new.keys ≡ bound.old.keys) }
-        ensures found { OnOk result (found.new.keys ≡ found_in_cases bound.old.keys found.old.keys (cases_view B B.number self.now)) }
+        ensures found { OnOk result (found.new.keys ≡ found_in_cases bound.old.keys found.old.keys
+            (cases_view B B.number self.now)) }
     {
         for arm in &self.items {
             arm.find_free(bound, found)?;
@@ -258,7 +271,8 @@ impl<B: Ident> Pat<B> {
     // Binds the names of the pattern.
     #[cycle(bind)]
     fn bind(&self, bound: &mut IndexSet<u32>) -> Result<(), AllocError>
-        ensures { OnOk result (bound.new.keys ≡ insert_all nat_eq bound.old.keys (bound_in (pat_view B B.number self.now))) }
+        ensures { OnOk result (bound.new.keys ≡ insert_all nat_eq bound.old.keys
+            (bound_in (pat_view B B.number self.now))) }
     {
         self.node.bind(bound)
     }
@@ -267,7 +281,8 @@ impl<B: Ident> Pat<B> {
 impl<B: Ident> PatNode<B> {
     #[cycle(bind)]
     fn bind(&self, bound: &mut IndexSet<u32>) -> Result<(), AllocError>
-        ensures { OnOk result (bound.new.keys ≡ insert_all nat_eq bound.old.keys (bound_in_form (pat_form_view B B.number self.now))) }
+        ensures { OnOk result (bound.new.keys ≡ insert_all nat_eq bound.old.keys
+            (bound_in_form (pat_form_view B B.number self.now))) }
     {
         match self {
             PatNode::Any => Ok(()),
@@ -285,7 +300,8 @@ impl<B: Ident> PatNode<B> {
 impl<B: Ident> Pats<B> {
     #[cycle(bind)]
     fn bind(&self, bound: &mut IndexSet<u32>) -> Result<(), AllocError>
-        ensures { OnOk result (bound.new.keys ≡ insert_all nat_eq bound.old.keys (bound_in_all (pats_view B B.number self.now))) }
+        ensures { OnOk result (bound.new.keys ≡ insert_all nat_eq bound.old.keys
+            (bound_in_all (pats_view B B.number self.now))) }
     {
         for p in &self.items {
             p.bind(bound)?;

@@ -8,7 +8,7 @@ use Rattle.lq_unify.specs.declared.arena.Node.{Node}
 use Rattle.lq_unify.specs.declared.arena.Node.TheVariants.{Open, Made}
 use Rattle.lq_unify.specs.declared.arena.Head.{Head}
 use Rattle.lq_unify.specs.declared.arena.Arena.{Arena}
-use Rattle.lq_unify.specs.Forms.{Form, form_of, node_at, form_at, FitsIn, IsArena, HasAdded, HasKept}
+use Rattle.lq_unify.specs.Nodes.{Form, form_of, node_at, form_at, FitsIn, IsArena, HasAdded, HasKept}
 
 -- more parts behind those of a node change nothing
 same_form : (n : Node) (parts ps : List ℕ) → FitsIn parts n → form_of (parts ++ ps) n ≡ form_of parts n

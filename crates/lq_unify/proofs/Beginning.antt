@@ -3,7 +3,7 @@ use Rattle.std.proofs.Common.{◌≡◌, ℕ, ◌<◌, ◌≤◌, List, [], ◌+
 use Rattle.std.proofs.lemmas.List.{drop_all, get_or-take}
 use Rattle.lq_unify.specs.declared.arena.Equation.{Equation}
 use Rattle.lq_unify.specs.Simple.{Simple}
-use Rattle.lq_unify.specs.Forms.{Form}
+use Rattle.lq_unify.specs.Nodes.{Form}
 use Rattle.lq_unify.specs.Solution.{Fits, HasSolution, HasNoSolution}
 use Rattle.lq_unify.specs.Classes.{up, root, IsSame, IsState, AreShared, AreFollowed, IsKnown}
 use Rattle.lq_unify.specs.Visits.{IsTable}

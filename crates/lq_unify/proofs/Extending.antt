@@ -3,7 +3,7 @@ use Rattle.std.proofs.Common.{◌≡◌, inl, inr, ℕ, suc, ◌<◌, ◌≤◌,
 use Rattle.std.proofs.lemmas.Bool.{cases_lt}
 use Rattle.lq_unify.specs.declared.arena.Head.{Head}
 use Rattle.lq_unify.specs.Simple.{Simple, variable, made, more, each, replaced, replaced_all}
-use Rattle.lq_unify.specs.Forms.{Form}
+use Rattle.lq_unify.specs.Nodes.{Form}
 use Rattle.lq_unify.specs.Solution.{Fits}
 use Rattle.lq_unify.specs.Copies.{GoesTo, AreCopies, TypesExtendToCopies}
 use Rattle.lq_unify.proofs.Replacing.{replaced_alike, replaced_same, each_as}

@@ -3,7 +3,7 @@ use Rattle.std.proofs.Common.{◌≡◌, ◌≢◌, ℕ, ◌<◌, ◌≤◌, ◌
 use Rattle.std.proofs.lemmas.Bool.{cases_eq}
 use Rattle.std.proofs.lemmas.List.{get_or_append_left, get_or_push, length_push}
 use Rattle.lq_unify.specs.declared.arena.Equation.{Equation}
-use Rattle.lq_unify.specs.Forms.{Form}
+use Rattle.lq_unify.specs.Nodes.{Form}
 use Rattle.lq_unify.specs.Classes.{up, root, IsDown, IsState, IsFound, Grows}
 use Rattle.lq_unify.proofs.Roots.{at_root, root_up, root_self, root_fixed, ups_set, up_set_same, up_set_other, fixed_less}
 

@@ -4,7 +4,7 @@ use Rattle.std.specs.Option.{option_map}
 use Rattle.std.proofs.lemmas.Bool.{cases_lt}
 use Rattle.lq_unify.specs.declared.arena.Equation.{Equation}
 use Rattle.lq_unify.specs.Simple.{Simple}
-use Rattle.lq_unify.specs.Forms.{Form, renamed}
+use Rattle.lq_unify.specs.Nodes.{Form, renamed}
 use Rattle.lq_unify.specs.Solution.{Fits}
 use Rattle.lq_unify.specs.Classes.{up, root, rooted, IsDown, IsState, IsFound}
 use Rattle.lq_unify.proofs.Roots.{only, root_up, root_self, root_low, up_past}

@@ -4,7 +4,7 @@ use Rattle.std.proofs.lemmas.Bool.{cases_lt}
 use Rattle.std.proofs.lemmas.List.{get_or_append_left, get_or-append_right, take_more}
 use Rattle.lq_unify.specs.declared.arena.Equation.{Equation}
 use Rattle.lq_unify.specs.Simple.{Simple}
-use Rattle.lq_unify.specs.Forms.{Form}
+use Rattle.lq_unify.specs.Nodes.{Form}
 use Rattle.lq_unify.specs.Solution.{Fits, Meets, IsSolution, HasNoSolution}
 use Rattle.lq_unify.specs.Classes.{root, IsState, Grows, AreShared, AreFollowed, IsKnown}
 use Rattle.lq_unify.proofs.Rows.{grows_then}

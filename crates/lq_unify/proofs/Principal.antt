@@ -4,7 +4,7 @@ use Rattle.std.specs.Option.{option_map}
 use Rattle.lq_unify.specs.declared.arena.Head.{Head}
 use Rattle.lq_unify.specs.declared.arena.Equation.{Equation}
 use Rattle.lq_unify.specs.Simple.{Simple, variable, made, more, each, replaced, replaced_all}
-use Rattle.lq_unify.specs.Forms.{Form, renamed}
+use Rattle.lq_unify.specs.Nodes.{Form, renamed}
 use Rattle.lq_unify.specs.Solution.{Fits, Meets, IsPrincipal}
 use Rattle.lq_unify.specs.Classes.{up, root, rooted, IsState, AreShared, IsKnown}
 use Rattle.lq_unify.specs.Value.{parts_of, inner, built, value, IsRanked}

@@ -8,7 +8,7 @@ use Rattle.std.specs.Option.{option_map}
 use Rattle.lq_unify.specs.declared.arena.Node.{Node}
 use Rattle.lq_unify.specs.declared.arena.Node.TheVariants.{Open, Made}
 use Rattle.lq_unify.specs.declared.arena.Arena.{Arena}
-use Rattle.lq_unify.specs.Forms.{Form, renamed, form_of, form_at, FitsIn, IsArena}
+use Rattle.lq_unify.specs.Nodes.{Form, renamed, form_of, form_at, FitsIn, IsArena}
 use Rattle.lq_unify.specs.Solution.{Fits}
 use Rattle.lq_unify.specs.Classes.{root, rooted, Grows, AreShared, AreFollowed}
 use Rattle.lq_unify.proofs.Linking.{All_push}

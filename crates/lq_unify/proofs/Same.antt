@@ -2,7 +2,7 @@
 use Rattle.std.proofs.Common.{ℕ, List, [], Option, IsSome, refl, sym, ap, subst, ◌∙◌, arith, append-nil}
 use Rattle.lq_unify.specs.declared.arena.Equation.{Equation}
 use Rattle.lq_unify.specs.Simple.{Simple}
-use Rattle.lq_unify.specs.Forms.{Form}
+use Rattle.lq_unify.specs.Nodes.{Form}
 use Rattle.lq_unify.specs.Classes.{up, root, IsDown, IsSame, IsState, IsFound, Grows, AreShared}
 use Rattle.lq_unify.proofs.Roots.{at_root, root_up, root_of_root}
 

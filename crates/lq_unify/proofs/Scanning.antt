@@ -8,7 +8,7 @@ use Rattle.lq_unify.specs.declared.arena.Node.{Node}
 use Rattle.lq_unify.specs.declared.arena.Node.TheVariants.{Open, Made}
 use Rattle.lq_unify.specs.declared.order.Mark.{Mark}
 use Rattle.lq_unify.specs.declared.order.Mark.TheVariants.{Done}
-use Rattle.lq_unify.specs.Forms.{form_of, form_at, IsArena}
+use Rattle.lq_unify.specs.Nodes.{form_of, form_at, IsArena}
 use Rattle.lq_unify.specs.Classes.{up, root}
 use Rattle.lq_unify.specs.Value.{inner, parts_of}
 use Rattle.lq_unify.specs.Visits.{IsTable, mark_at, AreDone}

@@ -1,7 +1,7 @@
 -- A part of a type is smaller than the type.
 use Rattle.std.proofs.Common.{◌≡◌, ℕ, zero, suc, ◌<◌, ◌≤◌, List, [], ◌∷◌, Option, Some, None, All, get_or, refl, sym, ap, subst, ◌∙◌, arith}
 use Rattle.lq_unify.specs.Simple.{Simple, made, each, size, sizes}
-use Rattle.lq_unify.specs.Forms.{Form}
+use Rattle.lq_unify.specs.Nodes.{Form}
 use Rattle.lq_unify.specs.Solution.{Fits}
 use Rattle.lq_unify.specs.Classes.{up, root, AreShared}
 use Rattle.lq_unify.specs.Value.{parts_of, inner}

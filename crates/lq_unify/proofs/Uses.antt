@@ -5,7 +5,7 @@ use Rattle.std.proofs.lemmas.List.Elements.{All-append}
 use Rattle.std.proofs.lemmas.List.{get_or_append_left, get_or-append_right}
 use Rattle.lq_unify.specs.declared.arena.Equation.{Equation}
 use Rattle.lq_unify.specs.Simple.{Simple, variable, made, replaced}
-use Rattle.lq_unify.specs.Forms.{Form}
+use Rattle.lq_unify.specs.Nodes.{Form}
 use Rattle.lq_unify.specs.Solution.{Fits, Meets, IsSolution}
 use Rattle.lq_unify.specs.Variables.{Each}
 use Rattle.lq_unify.specs.Later.{IsPublic, IsLater, IsCopied, IsUse, UsesAreInstances}

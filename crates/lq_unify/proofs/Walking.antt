@@ -7,7 +7,7 @@ use Rattle.lq_unify.specs.declared.order.Mark.{Mark}
 use Rattle.lq_unify.specs.declared.order.Mark.TheVariants.{Fresh, Active, Done}
 use Rattle.lq_unify.specs.declared.order.Visit.{Visit}
 use Rattle.lq_unify.specs.Simple.{Simple, size}
-use Rattle.lq_unify.specs.Forms.{Form}
+use Rattle.lq_unify.specs.Nodes.{Form}
 use Rattle.lq_unify.specs.Solution.{Fits}
 use Rattle.lq_unify.specs.Classes.{up, root, AreShared}
 use Rattle.lq_unify.specs.Value.{inner, IsRanked}

@@ -3,7 +3,7 @@ use Rattle.std.specs.Prelude.{◌≡◌, ◌==◌, ℕ, zero, suc, ◌+◌, ◌<
 use Rattle.std.specs.Option.{option_map}
 use Rattle.lq_unify.specs.declared.arena.Equation.{Equation}
 use Rattle.lq_unify.specs.Simple.{Simple}
-use Rattle.lq_unify.specs.Forms.{Form, renamed}
+use Rattle.lq_unify.specs.Nodes.{Form, renamed}
 use Rattle.lq_unify.specs.Solution.{IsSolution}
 
 -- the parent of a node; a root is its own

@@ -1,7 +1,7 @@
 -- Copies of the nodes of a definition, for a use of it.
 use Rattle.std.specs.Prelude.{◌≡◌, ℕ, ◌<◌, ◌≤◌, ◌⊎◌, map, Option, Some, All}
 use Rattle.lq_unify.specs.Simple.{Simple, variable, replaced}
-use Rattle.lq_unify.specs.Forms.{Form}
+use Rattle.lq_unify.specs.Nodes.{Form}
 use Rattle.lq_unify.specs.Solution.{Fits}
 use Rattle.lq_unify.specs.Variables.{Each}
 

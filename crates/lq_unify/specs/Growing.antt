@@ -1,7 +1,7 @@
 -- Classes of an arena that got more nodes.
 use Rattle.std.specs.Prelude.{◌≡◌, ℕ, ◌<◌, ◌≤◌, List, Option, None, length}
 use Rattle.lq_unify.specs.declared.arena.Equation.{Equation}
-use Rattle.lq_unify.specs.Forms.{Form}
+use Rattle.lq_unify.specs.Nodes.{Form}
 use Rattle.lq_unify.specs.Classes.{up, IsKnown}
 
 -- the tables of an arena with more nodes: each new node is alone in its class

@@ -1,6 +1,6 @@
 -- Definitions that the contracts cite.
 pub mod Simple
-pub mod Forms
+pub mod Nodes
 pub mod Solution
 pub mod Classes
 pub mod Value

@@ -2,7 +2,7 @@
 use Rattle.std.specs.Prelude.{◌≡◌, ◌<◌, ◌≤◌, take, length, ℕ, List, Option, Some, All}
 use Rattle.lq_unify.specs.declared.arena.Equation.{Equation}
 use Rattle.lq_unify.specs.Simple.{Simple, made, each, replaced}
-use Rattle.lq_unify.specs.Forms.{Form}
+use Rattle.lq_unify.specs.Nodes.{Form}
 
 -- each node that has a form has a type of that form
 abbrev pub Fits : (ℕ → Option Form) → (ℕ → Simple) → Type 0

@@ -4,7 +4,7 @@ use Rattle.lq_unify.specs.declared.arena.Arena.{Arena}
 use Rattle.lq_unify.specs.declared.arena.Equation.{Equation}
 use Rattle.lq_unify.specs.declared.solving.Solution.{Solution}
 use Rattle.lq_unify.specs.Simple.{Simple}
-use Rattle.lq_unify.specs.Forms.{Form, form_at}
+use Rattle.lq_unify.specs.Nodes.{Form, form_at}
 use Rattle.lq_unify.specs.Classes.{up, root, IsKnown}
 use Rattle.lq_unify.specs.Value.{value, IsRanked}
 

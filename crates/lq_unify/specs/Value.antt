@@ -1,7 +1,7 @@
 -- The types that classes stand for.
 use Rattle.std.specs.Prelude.{◌≡◌, ◌<◌, ℕ, zero, suc, List, [], Option, Some, None, All}
 use Rattle.lq_unify.specs.Simple.{Simple, variable, made, each}
-use Rattle.lq_unify.specs.Forms.{Form}
+use Rattle.lq_unify.specs.Nodes.{Form}
 use Rattle.lq_unify.specs.Classes.{up, root}
 
 abbrev pub parts_of : Option Form → List ℕ

@@ -1,7 +1,7 @@
 // Classes of nodes that have one type.
 ghost use Rattle.std.specs.Prelude.{◌≡◌, ◌≢◌, ℕ, ◌+◌, ◌<◌, ◌≤◌, ◌^◌, length, OnOk, IfOk, IsSome, true, false, slice_index, take};
 ghost use Rattle.lq_unify.specs.Simple.{Simple};
-ghost use Rattle.lq_unify.specs.Forms.{form_at, IsArena};
+ghost use Rattle.lq_unify.specs.Nodes.{form_at, IsArena};
 ghost use Rattle.lq_unify.specs.Solution.{Fits};
 ghost use Rattle.lq_unify.specs.Classes.{up, root, IsDown, IsSame, IsFound, rooted, AreFollowed, IsState, Grows, AreShared};
 

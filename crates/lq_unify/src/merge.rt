@@ -2,7 +2,7 @@
 ghost use Rattle.std.specs.Prelude.{◌≡◌, ◌≢◌, ℕ, ◌+◌, ◌<◌, ◌≤◌, ◌^◌, List, [], ◌∷◌, ◌++◌, length, OnOk, IfOk, IsSome, true, false, slice_index, take, All};
 ghost use Rattle.lq_unify.specs.declared.arena.Equation.{Equation};
 ghost use Rattle.lq_unify.specs.Simple.{Simple};
-ghost use Rattle.lq_unify.specs.Forms.{form_at, IsArena};
+ghost use Rattle.lq_unify.specs.Nodes.{form_at, IsArena};
 ghost use Rattle.lq_unify.specs.Solution.{Fits, HasNoSolution, AreNodes};
 ghost use Rattle.lq_unify.specs.Classes.{up, root, IsDown, IsSame, IsState, AreFollowed, IsKnown};
 

@@ -1,7 +1,7 @@
 // An order of the classes in which the parts of each come before it.
 ghost use Rattle.std.specs.Prelude.{◌≡◌, ◌≢◌, ℕ, ◌+◌, ◌*◌, ◌<◌, ◌≤◌, ◌^◌, List, [], ◌∷◌, ◌++◌, length, OnOk, IfOk, IfSome, IfNone, true, false, slice_index};
 ghost use Rattle.lq_unify.specs.Simple.{Simple};
-ghost use Rattle.lq_unify.specs.Forms.{form_at, IsArena};
+ghost use Rattle.lq_unify.specs.Nodes.{form_at, IsArena};
 ghost use Rattle.lq_unify.specs.Solution.{Fits};
 ghost use Rattle.lq_unify.specs.Classes.{up, root, AreShared};
 ghost use Rattle.lq_unify.specs.Value.{inner, IsRanked};

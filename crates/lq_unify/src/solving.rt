@@ -1,6 +1,6 @@
 // Whether equations have a solution, and the most general one.
 ghost use Rattle.std.specs.Prelude.{◌≡◌, ℕ, ◌+◌, ◌<◌, ◌≤◌, ◌^◌, List, [], length, OnOk, IfOk, IfSome, IfNone, true, false};
-ghost use Rattle.lq_unify.specs.Forms.{form_at, IsArena};
+ghost use Rattle.lq_unify.specs.Nodes.{form_at, IsArena};
 ghost use Rattle.lq_unify.specs.Solution.{AreNodes, IsPrincipal, HasNoSolution, HasSolution, IsFirstFailing};
 ghost use Rattle.lq_unify.specs.Classes.{up};
 ghost use Rattle.lq_unify.specs.Solved.{IsSolved, types_of};

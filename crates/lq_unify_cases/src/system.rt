@@ -1,6 +1,6 @@
 // A system of equations as a line of a table says it.
 ghost use Rattle.std.specs.Prelude.{◌<◌, length, All, IfOk, IfSome, OnOk};
-ghost use Rattle.lq_unify.specs.Forms.{IsArena};
+ghost use Rattle.lq_unify.specs.Nodes.{IsArena};
 ghost use Rattle.lq_unify.specs.Solution.{AreNodes};
 
 use lq_unify::{Arena, Equation, Head};
@@ -104,7 +104,8 @@ fn equations_of(
 /// The system of a line: nodes with `;` between them, `|`, and equations.
 pub(crate) fn system_of(alloc: Global, line: &str) -> Result<Option<System>, AllocError>
     ensures arena { IfOk result (λ found. IfSome found (λ s. IsArena s.arena)) }
-    ensures nodes { IfOk result (λ found. IfSome found (λ s. AreNodes (length s.arena.nodes.items) s.equations.items)) }
+    ensures nodes { IfOk result (λ found. IfSome found (λ s. AreNodes (length s.arena.nodes.items)
+        s.equations.items)) }
 {
     let (nodes, equations) = line.split_once('|').unwrap_or((line, ""));
     let mut arena = Arena::new(alloc);

@@ -1,7 +1,7 @@
 use Rattle.std.proofs.Common.{◌++◌, List, get_or, All, arith, sym, ap, subst, ◌∙◌}
 use Rattle.std.proofs.lemmas.Option.{slice_get-get_or}
 use Rattle.lq_name.specs.declared.name.Binder.{Binder}
-use Rattle.lq_demand.specs.Straight.{Step, implications_of}
+use Rattle.lq_demand.specs.Straight.{LineView, implications_of}
 use Rattle.lq_demand.specs.Plain.{IsPlainStep}
 use Rattle.lq_name.specs.declared.place.TextKind.TheVariants.{Program}
 use Rattle.lq_straight.specs.declared.item.Item.{Item}
@@ -24,7 +24,7 @@ push_item-requires c = small_at c.args.items.now c.loop-item.item-index (get_or 
 pub loop-item-preserved : goal.loop-item-preserved
 loop-item-preserved c =
     c.in_ok-push_item.ensures
-    ∙ ap (λ (l : List Step). l ++ item_steps (get_or c.args.items.now c.loop-item.item-index filler)) c.loop-item.invariant
+    ∙ ap (λ (l : List LineView). l ++ item_steps (get_or c.args.items.now c.loop-item.item-index filler)) c.loop-item.invariant
     ∙ steps_more c.args.items.now c.loop-item.item-index filler (omega arith)
 
 pub returns-clause-demands : goal.returns-clause-demands
@@ -35,4 +35,4 @@ returns-clause-demands c =
 pub returns-clause-plain : goal.returns-clause-plain
 returns-clause-plain c =
     let all = c.loop-item.invariant ∙ steps_all c.args.items.now c.loop-item.item-index (omega arith) in
-    subst (λ (l : List Step). All IsPlainStep l) (sym all) (steps_plain c.args.items.now c.requires)
+    subst (λ (l : List LineView). All IsPlainStep l) (sym all) (steps_plain c.args.items.now c.requires)

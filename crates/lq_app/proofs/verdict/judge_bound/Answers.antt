@@ -1,5 +1,5 @@
 use Rattle.std.proofs.Common.{List, All, Ok, ap, subst, ◌∙◌}
-use Rattle.lq_pred.specs.Implication.{Implication, IsValid}
+use Rattle.lq_pred.specs.ClosedImplication.{ClosedImplication, IsValid}
 use Rattle.lq_pred.specs.declared.pred.Stop.{Stop}
 use Rattle.lq_demand.specs.declared.asking.Asked.{Asked}
 use Rattle.lq_demand.specs.declared.asking.Asked.TheVariants.{Stops}
@@ -14,22 +14,22 @@ returns-in-Valid c = λ text bound.
     let same = c.in_ok-lines.ensures.demands in (
       record {
         of = record { program = scoped_with bound.0 c.args.table.now c.args.items.now c.args.scoped.now; is = bound.1 };
-        gathered = subst (λ (l : List Implication). All CanBeGathered l) same (c.in_ok-ask.ensures.gathered is);
-        valid = subst (λ (l : List Implication). All IsValid l) same (c.in_ok-ask.ensures.valid is);
+        gathered = subst (λ (l : List ClosedImplication). All CanBeGathered l) same (c.in_ok-ask.ensures.gathered is);
+        valid = subst (λ (l : List ClosedImplication). All IsValid l) same (c.in_ok-ask.ensures.valid is);
       },
       c.from_bytes.ensures ∙ c.new.ensures.items,
     )
 
 pub rejected-requires-clause-fails : goal.rejected-requires-clause-fails
 rejected-requires-clause-fails c =
-    subst (λ (l : List Implication). FailsAt l c.in-Fails.number c.in-Fails.point) c.in_ok-lines.ensures.demands
+    subst (λ (l : List ClosedImplication). FailsAt l c.in-Fails.number c.in-Fails.point) c.in_ok-lines.ensures.demands
     (c.in_ok-ask.ensures.fails c.in-Fails.number c.in-Fails.point (ap (λ (a : Asked). Ok a) c.in-Fails.is))
 
 pub past_number-requires-clause-first : goal.past_number-requires-clause-first
 past_number-requires-clause-first c =
     let stop = c.in-Stops-default-Number in
     let is = stop.is ∙ ap (λ (s : Stop). Stops stop.number s) stop.field-1-is in
-    subst (λ (l : List Implication). IsFirstLarge l stop.number) c.in_ok-lines.ensures.demands (c.in_ok-ask.ensures.number stop.number stop.past (ap (λ (a : Asked). Ok a) is)).1
+    subst (λ (l : List ClosedImplication). IsFirstLarge l stop.number) c.in_ok-lines.ensures.demands (c.in_ok-ask.ensures.number stop.number stop.past (ap (λ (a : Asked). Ok a) is)).1
 
 pub past_number-requires-clause-past : goal.past_number-requires-clause-past
 past_number-requires-clause-past c =

@@ -3,8 +3,8 @@ use Rattle.lq_demand.specs.AskedView.{IsAnswer, StopsBy}
 use Rattle.std.proofs.Common.{[], sym, subst}
 use Rattle.lq_pred.specs.TableView.{terms_of}
 use Rattle.lq_demand.specs.Gathered.{AreProblems}
-use Rattle.lq_demand.specs.Halts.{NoneBefore}
-use Rattle.lq_demand.specs.LinesView.{steps_of}
+use Rattle.lq_demand.specs.StageErrors.{NoneBefore}
+use Rattle.lq_demand.specs.LinesView.{lines_view}
 use Rattle.lq_demand.specs.Problem.{problems_of}
 use Rattle.lq_demand.specs.Straight.{implications_of}
 use Rattle.lq_demand.proofs.Verdicts.{all_valid, first_invalid, answer_of_halt}
@@ -17,7 +17,7 @@ pub returns-in-Ok-None : goal.returns-in-Ok-None
 returns-in-Ok-None c =
     let law : RowLaw = record { row = c.rows_say_what_comparisons_say.ensures.row; valuation = c.rows_say_what_comparisons_say.ensures.valuation; point = c.rows_say_what_comparisons_say.ensures.point } in
     let all = terms_of c.stages_of.new.table in
-    let is = implications_of (steps_of c.args.lines.now) in
+    let is = implications_of (lines_view c.args.lines.now) in
     let ps = problems_of c.deref.result.now in
     let h : AreProblems all is ps = subst (λ l. AreProblems all is (problems_of l)) (sym c.deref.ensures.value) c.in-Ok.ensures.problems in
     let none = rw c.in-Ok-None.field-0-is at c.in-Ok-None.ensures.none in
@@ -27,7 +27,7 @@ pub failing-requires : goal.failing-requires
 failing-requires c =
     let law : RowLaw = record { row = c.rows_say_what_comparisons_say.ensures.row; valuation = c.rows_say_what_comparisons_say.ensures.valuation; point = c.rows_say_what_comparisons_say.ensures.point } in
     let all = terms_of c.stages_of.new.table in
-    let is = implications_of (steps_of c.args.lines.now) in
+    let is = implications_of (lines_view c.args.lines.now) in
     let ps = problems_of c.deref.result.now in
     let h : AreProblems all is ps = subst (λ l. AreProblems all is (problems_of l)) (sym c.deref.ensures.value) c.in-Ok.ensures.problems in
     first_invalid law all is ps c.in-Ok-Some.number c.len.ensures.distinct h (rw c.in-Ok-Some.field-0-is at c.in-Ok-Some.ensures.some)
@@ -36,7 +36,7 @@ pub returns : goal.returns
 returns c =
     let law : RowLaw = record { row = c.rows_say_what_comparisons_say.ensures.row; valuation = c.rows_say_what_comparisons_say.ensures.valuation; point = c.rows_say_what_comparisons_say.ensures.point } in
     let all = terms_of c.stages_of.new.table in
-    let is = implications_of (steps_of c.args.lines.now) in
+    let is = implications_of (lines_view c.args.lines.now) in
     let ps = problems_of c.deref.result.now in
     let h : AreProblems all is ps = subst (λ l. AreProblems all is (problems_of l)) (sym c.deref.ensures.value) c.in-Ok.ensures.problems in
     IfOk-weaker c.stopped.result (StopsBy c.in-Err.halt) (IsAnswer is) (λ a s. answer_of_halt law all is ps c.in-Err.halt a h c.in-Err.ensures.halt s) c.stopped.ensures

@@ -1,5 +1,5 @@
 use Rattle.std.proofs.Common.{◌≡◌, All, [], map, take, length}
-use Rattle.lq_pred.specs.Implication.{each_numbered}
+use Rattle.lq_pred.specs.ClosedImplication.{each_numbered}
 use Rattle.lq_pred.specs.PredView.{formula_of}
 use Rattle.lq_pred.specs.TableView.{terms_of}
 use Rattle.lq_demand.specs.Gathered.{AreGathered}

@@ -4,7 +4,7 @@ use Rattle.lq_num.specs.declared.frac.Frac.{Frac}
 use Rattle.lq_pred.specs.Again.{formula_again}
 use Rattle.lq_pred.specs.Comparison.{Comparison}
 use Rattle.lq_pred.specs.Growing.{Extends-refl}
-use Rattle.lq_pred.specs.Implication.{Implication, terms_in, each_numbered}
+use Rattle.lq_pred.specs.ClosedImplication.{ClosedImplication, terms_in, each_numbered}
 use Rattle.lq_pred.specs.NnfView.{nnf_view}
 use Rattle.lq_pred.specs.PredView.{implication_of}
 use Rattle.lq_pred.specs.Reading.{Reading, reading_of, formula_numbered, Gathers}
@@ -19,7 +19,7 @@ abbrev Law : Type 0
 Law = (terms : List Sum) (values : List Frac) (reading : Reading Comparison) (rows : Reading Row) → IsTrue (all_differ terms)
     → Gathers terms reading rows → Evaluates terms values reading → CanEvaluate values rows
 
-can_evaluate : (law : Law) (i : Implication) (given old new : List Sum) (numbers : List Frac) (rows : Reading Row)
+can_evaluate : (law : Law) (i : ClosedImplication) (given old new : List Sum) (numbers : List Frac) (rows : Reading Row)
     → given ≡ terms_in i → old ≡ terms_in i → new ≡ formula_numbered old i.goal → IsTrue (all_differ old)
     → Gathers new (reading_of false i.goal) rows → Evaluates given numbers (reading_of false i.goal) → CanEvaluate numbers rows
 can_evaluate law i given old new numbers rows g o n differ gathers evaluates =

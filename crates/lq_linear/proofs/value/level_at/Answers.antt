@@ -2,7 +2,7 @@ use Rattle.std.proofs.Common.{arith, ◌≤◌, ◌≡◌, ◌∙◌, ◌<◌, l
 use Rattle.std.specs.Int.{w128}
 use Rattle.std.proofs.lemmas.Int.{to_z-of_z}
 use Rattle.std.proofs.lemmas.List.{take_all}
-use Rattle.lq_math.specs.Forms.{HasSumForm}
+use Rattle.lq_math.specs.NumberForms.{HasSumForm}
 use Rattle.lq_math.specs.Rational.{whole, ◌+ℚ◌, ◌*ℚ◌}
 use Rattle.lq_linear.specs.Row.{sum_at}
 use Rattle.lq_linear.specs.Steps.{valuation_of, IsStep, IsFormed, member_product, member_sum, constant_sum}

@@ -4,7 +4,7 @@ use Rattle.lq_num.specs.declared.past.NumberPast.{NumberPast}
 use Rattle.lq_pred.specs.Comparison.{CanGather}
 use Rattle.lq_pred.specs.Sum.{Sum}
 use Rattle.lq_pred.specs.declared.symbol.Symbol.{Symbol}
-use Rattle.lq_pred.specs.Implication.{terms_in}
+use Rattle.lq_pred.specs.ClosedImplication.{terms_in}
 use Rattle.lq_pred.specs.Literals.{comparisons_of, all_pairs, implication_literals}
 use Rattle.lq_pred.specs.PredView.{formula_of, implication_of, pred_items}
 use Rattle.lq_pred.specs.Reading.{reading_of, formula_numbered, AllFitIn}

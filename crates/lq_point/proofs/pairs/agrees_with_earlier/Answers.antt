@@ -1,6 +1,6 @@
 use Rattle.std.proofs.Common.{◌≡◌, ◌∙◌, ◌<◌, length, [], None, Err, IfErr, get_or, refl, sym, subst, arith, rules}
 use Rattle.lq_num.specs.declared.past.NumberPast.{NumberPast}
-use Rattle.lq_pred.specs.Implication.{Agree}
+use Rattle.lq_pred.specs.ClosedImplication.{Agree}
 use Rattle.lq_pred.specs.Literals.{pair_rows, all_pairs}
 use Rattle.lq_pred.specs.TableView.{terms_of}
 use Rattle.lq_pred.specs.TermView.{sum_of}

@@ -1,5 +1,5 @@
 use Rattle.std.proofs.Common.{pos, take}
-use Rattle.lq_simplex.specs.Reading.{IsDivided}
+use Rattle.lq_simplex.specs.RowParts.{IsDivided}
 use Rattle.lq_simplex.proofs.reading.divided.Given as goal
 
 abbrev pub invariant-loop-term : goal.invariant-loop-term

@@ -1,6 +1,6 @@
 use Rattle.std.proofs.Common.{take}
 use Rattle.lq_simplex.specs.Systems.{DividesAll}
-use Rattle.lq_simplex.specs.Reading.{IsGreatest}
+use Rattle.lq_simplex.specs.RowParts.{IsGreatest}
 use Rattle.lq_simplex.proofs.reading.divisor.Given as goal
 
 abbrev pub invariant-loop-coefficient : goal.invariant-loop-coefficient

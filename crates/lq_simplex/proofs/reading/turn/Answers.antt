@@ -2,7 +2,7 @@ use Rattle.std.proofs.Common.{◌∙◌, refl, ap, rules, pos, get_or, take, ℕ
 use Rattle.std.specs.Int.{w128}
 use Rattle.std.proofs.lemmas.Int.{to_z-of_z}
 use Rattle.std.proofs.lemmas.List.{take_more}
-use Rattle.lq_simplex.specs.Reading.{turned_by}
+use Rattle.lq_simplex.specs.RowParts.{turned_by}
 use Rattle.lq_simplex.proofs.Readings.{turned_push}
 use Rattle.lq_simplex.proofs.reading.turn.Goals as goal
 

@@ -1,5 +1,5 @@
 use Rattle.std.proofs.Common.{take}
-use Rattle.lq_simplex.specs.Reading.{IsTurned}
+use Rattle.lq_simplex.specs.RowParts.{IsTurned}
 use Rattle.lq_simplex.proofs.reading.turn.Given as goal
 
 abbrev pub invariant-loop-term : goal.invariant-loop-term

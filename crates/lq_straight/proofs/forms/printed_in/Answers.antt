@@ -5,7 +5,7 @@ use Rattle.lq_tree.specs.TreeView.{parsed_view}
 use Rattle.lq_straight.specs.declared.item.NameAt.{NameAt}
 use Rattle.lq_straight.specs.declared.item.Printed.{Printed}
 use Rattle.lq_straight.specs.declared.item.Printed.TheVariants as printed
-use Rattle.lq_straight.specs.declared.item.Sum.{Sum}
+use Rattle.lq_straight.specs.declared.item.Operand.{Operand}
 use Rattle.lq_straight.specs.Forms.{Found, is, unbuilt, then_found, printed_in}
 use Rattle.lq_straight.specs.Recognising.{Answers}
 use Rattle.lq_straight.proofs.Others.{printed_other}
@@ -16,6 +16,6 @@ returns-in_err-sum_in-in_default c =
     let p = err_from_is_err_and c.from_residual.result c.from_residual.ensures.1 in
     let found : printed_in (parsed_view c.args.tree.now) ≡ unbuilt p.0 =
     printed_other c.args.tree.now c.in_default.not-Arith
-    ∙ ap (λ (f : Found (Sum NameAt)). then_found f (λ s. is (printed.Sum s))) c.in_err-sum_in-in_default.ensures.sum
+    ∙ ap (λ (f : Found (Operand NameAt)). then_found f (λ s. is (printed.Operand s))) c.in_err-sum_in-in_default.ensures.sum
     ∙ ap (λ (q : Place). unbuilt q) (sym p.2) in
     subst (λ (r : Result (Printed NameAt) Place). Answers r (printed_in (parsed_view c.args.tree.now))) (sym p.1) found

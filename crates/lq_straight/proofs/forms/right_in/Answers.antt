@@ -5,7 +5,7 @@ use Rattle.lq_tree.specs.TreeView.{parsed_view}
 use Rattle.lq_straight.specs.declared.item.NameAt.{NameAt}
 use Rattle.lq_straight.specs.declared.item.Right.{Right}
 use Rattle.lq_straight.specs.declared.item.Right.TheVariants as right
-use Rattle.lq_straight.specs.declared.item.Sum.{Sum}
+use Rattle.lq_straight.specs.declared.item.Operand.{Operand}
 use Rattle.lq_straight.specs.Forms.{Found, is, unbuilt, then_found, right_in}
 use Rattle.lq_straight.specs.Recognising.{Answers}
 use Rattle.lq_straight.proofs.Others.{right_other}
@@ -16,6 +16,6 @@ returns-in_err-sum_in-in_default-clause-right c =
     let p = err_from_is_err_and c.from_residual-in_err-sum_in-in_default.result c.from_residual-in_err-sum_in-in_default.ensures.1 in
     let found : right_in (parsed_view c.args.tree.now) ≡ unbuilt p.0 =
     right_other c.args.tree.now c.in_default.not-Call
-    ∙ ap (λ (f : Found (Sum NameAt)). then_found f (λ s. is (right.Sum s))) c.in_err-sum_in-in_default.ensures.sum
+    ∙ ap (λ (f : Found (Operand NameAt)). then_found f (λ s. is (right.Operand s))) c.in_err-sum_in-in_default.ensures.sum
     ∙ ap (λ (q : Place). unbuilt q) (sym p.2) in
     subst (λ (r : Result (Right NameAt) Place). Answers r (right_in (parsed_view c.args.tree.now))) (sym p.1) found

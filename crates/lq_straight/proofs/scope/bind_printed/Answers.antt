@@ -5,9 +5,9 @@ use Rattle.lq_straight.specs.declared.scope.ScopeError.TheVariants.{Unknown}
 use Rattle.lq_straight.specs.Uses.{used_by_printed}
 use Rattle.lq_straight.proofs.scope.bind_printed.Goals as goal
 
-pub returns-in_err-bind_sum-in-Sum-clause-unknown : goal.returns-in_err-bind_sum-in-Sum-clause-unknown
-returns-in_err-bind_sum-in-Sum-clause-unknown c = λ x is.
+pub returns-in_err-bind_sum-in-Operand-clause-unknown : goal.returns-in_err-bind_sum-in-Operand-clause-unknown
+returns-in_err-bind_sum-in-Operand-clause-unknown c = λ x is.
     let p = err_from_is_err_and c.from_residual.result c.from_residual.ensures.1 in
-    let same : c.in_err-bind_sum-in-Sum.field-0.0 ≡ Unknown x = (let e = p.1 in let f = p.2 in cc) in
-    let unknown = c.in_err-bind_sum-in-Sum.ensures.unknown x (ap (λ (e : ScopeError). Err e) same) in
-    (ap used_by_printed c.in-Sum.is ∙ unknown.0, unknown.1)
+    let same : c.in_err-bind_sum-in-Operand.field-0.0 ≡ Unknown x = (let e = p.1 in let f = p.2 in cc) in
+    let unknown = c.in_err-bind_sum-in-Operand.ensures.unknown x (ap (λ (e : ScopeError). Err e) same) in
+    (ap used_by_printed c.in-Operand.is ∙ unknown.0, unknown.1)

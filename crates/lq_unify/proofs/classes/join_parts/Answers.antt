@@ -1,6 +1,6 @@
 use Rattle.std.proofs.Common.{◌≡◌, ℕ, ◌+◌, ◌≤◌, length, take, drop, sym, ap, subst, ◌∙◌, map}
 use Rattle.lq_unify.specs.Simple.{each}
-use Rattle.lq_unify.specs.Forms.{Form, form_at}
+use Rattle.lq_unify.specs.Nodes.{Form, form_at}
 use Rattle.lq_unify.specs.Classes.{root}
 use Rattle.lq_unify.proofs.Same.{same_self, same_grows}
 use Rattle.lq_unify.proofs.Rows.{form_read, fits_read, pair_types, same_made, rooted_at, rows_map, rows_types, row_length, made_head, made_parts, each_length}

@@ -1,6 +1,6 @@
 use Rattle.std.proofs.Common.{◌≡◌, ℕ, ◌<◌, [], ◌∷◌, ◌++◌, length, get_or, set, sym, ap, subst, ◌∙◌, arith, append-nil, IsSome, Vec, Global}
 use Rattle.lq_unify.specs.declared.arena.Equation.{Equation}
-use Rattle.lq_unify.specs.Forms.{form_at}
+use Rattle.lq_unify.specs.Nodes.{form_at}
 use Rattle.lq_unify.specs.Classes.{up, IsFound}
 use Rattle.lq_unify.proofs.Roots.{read_up}
 use Rattle.lq_unify.proofs.Linking.{IsLink, linked_low, linked_high, linked_grows, linked_state, kept_both, kept_high, kept_low, found_here, pairs_later, All_push, moved}

@@ -1,5 +1,5 @@
 use Rattle.std.proofs.Common.{◌≡◌, ◌<◌, ◌≤◌, length, ap, subst, arith, rules, take_all, length-append}
-use Rattle.lq_unify.specs.Forms.{form_at}
+use Rattle.lq_unify.specs.Nodes.{form_at}
 use Rattle.lq_unify.specs.Classes.{rooted, AreFollowed}
 use Rattle.lq_unify.proofs.Same.{same_self, same_grows}
 use Rattle.lq_unify.proofs.Rows.{grows_then, followed_later, one_more}

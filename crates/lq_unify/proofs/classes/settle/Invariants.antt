@@ -1,6 +1,6 @@
 use Rattle.std.proofs.Common.{ℕ, ◌+◌, ◌-◌, ◌≤◌, length, take}
 use Rattle.lq_unify.specs.Simple.{Simple}
-use Rattle.lq_unify.specs.Forms.{form_at}
+use Rattle.lq_unify.specs.Nodes.{form_at}
 use Rattle.lq_unify.specs.Solution.{Fits}
 use Rattle.lq_unify.specs.Classes.{fixed, IsState, Grows, AreShared, AreFollowed}
 use Rattle.lq_unify.proofs.classes.settle.Given as goal

@@ -1,6 +1,6 @@
 use Rattle.std.proofs.Common.{◌≡◌, ℕ, ◌≤◌, ◌++◌, true, false, List, length, take, refl, sym, ap, subst, ◌∙◌, arith, rules, take_at, take_all, All}
 use Rattle.lq_unify.specs.declared.arena.Equation.{Equation}
-use Rattle.lq_unify.specs.Forms.{form_at}
+use Rattle.lq_unify.specs.Nodes.{form_at}
 use Rattle.lq_unify.specs.Solution.{HasNoSolution}
 use Rattle.lq_unify.specs.Classes.{root, AreFollowed, IsKnown}
 use Rattle.lq_unify.proofs.Same.{same_self, same_grows}

@@ -1,6 +1,6 @@
 use Rattle.std.proofs.Common.{◌≡◌, ℕ, length, take, All}
 use Rattle.lq_unify.specs.Simple.{Simple}
-use Rattle.lq_unify.specs.Forms.{form_at}
+use Rattle.lq_unify.specs.Nodes.{form_at}
 use Rattle.lq_unify.specs.Solution.{Meets}
 use Rattle.lq_unify.specs.Classes.{root, IsState, Grows, AreShared}
 use Rattle.lq_unify.proofs.merge.merge.Given as goal

@@ -1,4 +1,4 @@
-use Rattle.lq_unify.specs.Forms.{form_at}
+use Rattle.lq_unify.specs.Nodes.{form_at}
 use Rattle.lq_unify.specs.Value.{inner}
 use Rattle.lq_unify.specs.Visits.{AreDone}
 use Rattle.lq_unify.proofs.order.scan.Given as goal

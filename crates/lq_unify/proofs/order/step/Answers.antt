@@ -2,7 +2,7 @@ use Rattle.std.proofs.Common.{◌≡◌, ℕ, ◌+◌, ◌<◌, List, [], ◌∷
 use Rattle.std.proofs.lemmas.List.{length_push}
 use Rattle.lq_unify.specs.declared.order.Mark.TheVariants.{Active, Done}
 use Rattle.lq_unify.specs.declared.order.Visit.{Visit}
-use Rattle.lq_unify.specs.Forms.{form_at}
+use Rattle.lq_unify.specs.Nodes.{form_at}
 use Rattle.lq_unify.specs.Visits.{IsVisit, IsWalk, IsMarked}
 use Rattle.lq_unify.proofs.Linking.{All_last}
 use Rattle.lq_unify.proofs.Walking.{walk_done, marked_done, walk_on, fresh_done, fresh_active, no_cycle}

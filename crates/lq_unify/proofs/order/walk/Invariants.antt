@@ -1,5 +1,5 @@
 use Rattle.std.proofs.Common.{◌+◌, ◌*◌, length}
-use Rattle.lq_unify.specs.Forms.{form_at}
+use Rattle.lq_unify.specs.Nodes.{form_at}
 use Rattle.lq_unify.specs.Visits.{IsWalk, IsMarked, StaysSeen, fresh}
 use Rattle.lq_unify.proofs.order.walk.Given as goal
 

@@ -1,6 +1,6 @@
 use Rattle.std.proofs.Common.{◌≡◌, ◌≢◌, ◌<◌, ℕ, [], length}
 use Rattle.lq_unify.specs.declared.order.Mark.TheVariants.{Fresh}
-use Rattle.lq_unify.specs.Forms.{form_at}
+use Rattle.lq_unify.specs.Nodes.{form_at}
 use Rattle.lq_unify.specs.Classes.{up}
 use Rattle.lq_unify.specs.Visits.{mark_at, AreCalm, IsMarked}
 use Rattle.lq_unify.proofs.order.walk_all.Given as goal

@@ -1,5 +1,5 @@
 use Rattle.std.proofs.Common.{ℕ, ◌+◌, ◌-◌, ◌/◌, length, take, sym, subst, arith, take_all}
-use Rattle.lq_unify.specs.Forms.{form_at}
+use Rattle.lq_unify.specs.Nodes.{form_at}
 use Rattle.lq_unify.specs.Solution.{HasSolution, HasNoSolution}
 use Rattle.lq_unify.proofs.Beginning.{fewer}
 use Rattle.lq_unify.proofs.solving.first_failing.Goals as goal

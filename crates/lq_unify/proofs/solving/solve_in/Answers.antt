@@ -1,5 +1,5 @@
 use Rattle.std.proofs.Common.{ℕ, ◌+◌, [], length, sym, ◌∙◌}
-use Rattle.lq_unify.specs.Forms.{form_at}
+use Rattle.lq_unify.specs.Nodes.{form_at}
 use Rattle.lq_unify.specs.Solution.{Fits, HasNoSolution}
 use Rattle.lq_unify.specs.Simple.{Simple}
 use Rattle.lq_unify.specs.Classes.{AreShared}

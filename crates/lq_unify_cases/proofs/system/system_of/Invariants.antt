@@ -1,4 +1,4 @@
-use Rattle.lq_unify.specs.Forms.{IsArena}
+use Rattle.lq_unify.specs.Nodes.{IsArena}
 use Rattle.lq_unify_cases.proofs.system.system_of.Given as goal
 
 abbrev pub invariant-loop-node : goal.invariant-loop-node

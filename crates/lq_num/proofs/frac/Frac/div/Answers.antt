@@ -1,7 +1,7 @@
 use Rattle.std.proofs.Common.{rules, subst, ◌∙◌, FitsSigned}
 use Rattle.std.specs.Int.{w128}
 use Rattle.lq_math.specs.Coprime.{Coprime_swap}
-use Rattle.lq_math.specs.Forms.{HasNoForm}
+use Rattle.lq_math.specs.NumberForms.{HasNoForm}
 use Rattle.lq_num.proofs.Products.{quotient_value, size_some, size_lowest}
 use Rattle.lq_num.proofs.frac.Frac.div.Goals as goal
 

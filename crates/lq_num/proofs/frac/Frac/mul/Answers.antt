@@ -1,6 +1,6 @@
 use Rattle.std.proofs.Common.{rules, subst, ◌∙◌, FitsSigned}
 use Rattle.std.specs.Int.{w128}
-use Rattle.lq_math.specs.Forms.{HasNoForm}
+use Rattle.lq_math.specs.NumberForms.{HasNoForm}
 use Rattle.lq_num.proofs.Products.{product_value}
 use Rattle.lq_num.proofs.frac.Frac.mul.Goals as goal
 

@@ -1,5 +1,5 @@
 use Rattle.std.proofs.Common.{◌≡◌, true, false, sym, subst}
-use Rattle.lq_pred.specs.Implication.{IsPoint}
+use Rattle.lq_pred.specs.ClosedImplication.{IsPoint}
 use Rattle.lq_pred.specs.PredView.{implication_of}
 use Rattle.lq_pred.specs.TableView.{terms_of}
 use Rattle.lq_point.specs.Values.{point_from, flags_of, classes_of}

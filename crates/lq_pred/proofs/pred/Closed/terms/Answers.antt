@@ -1,5 +1,5 @@
 use Rattle.std.proofs.Common.{◌∙◌, [], ap, sym, map, take}
-use Rattle.lq_pred.specs.Implication.{each_numbered}
+use Rattle.lq_pred.specs.ClosedImplication.{each_numbered}
 use Rattle.lq_pred.specs.PredView.{formula_of}
 use Rattle.lq_pred.specs.Reading.{formula_numbered}
 use Rattle.lq_pred.proofs.Each.{each_numbered-more}

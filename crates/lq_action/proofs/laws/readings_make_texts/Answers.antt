@@ -14,7 +14,7 @@ use Rattle.lq_action.specs.Laws.{MakesOne}
 use Rattle.lq_action.specs.Value.{Lexeme, Value, items, qualifiers, measures}
 use Rattle.lq_action.proofs.Sorts.{some_items, some_qualifiers, some_measures, sort_of}
 use Rattle.lq_action.proofs.Texts.{Single, single}
-use Rattle.lq_action.proofs.law.readings_make_texts.Goals as goal
+use Rattle.lq_action.proofs.laws.readings_make_texts.Goals as goal
 
 as_items : (v : Value) → sort_of v ≡ some_items → (is : List ItemTree) × (v ≡ items is)
 as_items (items is) e = (is, refl)

@@ -1,5 +1,5 @@
 use Rattle.lq_parse.proofs.Answered.{no_stop, none_deep, either_way, one_stop, one_depth}
-use Rattle.lq_parse.proofs.law.one_answer.Goals as goal
+use Rattle.lq_parse.proofs.laws.one_answer.Goals as goal
 
 pub returns-clause-stop : goal.returns-clause-stop
 returns-clause-stop c = λ start limit ks es at d s. no_stop start limit ks es at d s

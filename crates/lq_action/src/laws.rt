@@ -10,7 +10,8 @@ use lq_grammar::{one_reading, within_limit};
 
 /// The reading of a text makes at most one value.
 pub fn one_value()
-    ensures { (kind : TextKind) (ks : List Kind) (ls : List Lexeme) (v w : Value) → Makes kind ks ls v → Makes kind ks ls w → v ≡ w }
+    ensures { (kind : TextKind) (ks : List Kind) (ls : List Lexeme) (v w : Value) → Makes kind ks ls v
+        → Makes kind ks ls w → v ≡ w }
 {
     one_reading();
 }

@@ -1,5 +1,5 @@
 use Rattle.lq_grammar.proofs.Opened.{same_length, same_level}
-use Rattle.lq_grammar.proofs.law.levels_of_readings.Goals as goal
+use Rattle.lq_grammar.proofs.laws.levels_of_readings.Goals as goal
 
 pub returns-clause-each : goal.returns-clause-each
 returns-clause-each c = λ start ks es d. same_length d
