@@ -1,10 +1,10 @@
 -- Two indexes whose followers change places.
-use Rattle.std.proofs.Common.{◌≡◌, ◌⊎◌, ◌↔◌, inl, inr, ℕ, ◌+◌, ◌<◌, ◌≤◌, List, [], ◌∷◌, ◌++◌, length, get_or, swap, refl, sym, ap, ◌∙◌, subst, arith, length-append, ext_get_or}
+use Rattle.std.proofs.Common.{◌≡◌, ◌-◌, take, ◌⊎◌, ◌↔◌, inl, inr, ℕ, ◌+◌, ◌<◌, ◌≤◌, List, [], ◌∷◌, ◌++◌, length, get_or, swap, refl, sym, ap, ◌∙◌, subst, arith, length-append, ext_get_or}
 use Rattle.std.proofs.lemmas.Bool.{cases_eq}
 use Rattle.std.proofs.lemmas.Bool.Decides.{nat_tests}
 use Rattle.std.proofs.lemmas.List.Edits.{swapped_from_swap, length-swap}
 use Rattle.std.proofs.Math.Seq.{get_or-append_seam}
-use Rattle.std.proofs.lemmas.List.{get_or_append_left}
+use Rattle.std.proofs.lemmas.List.{get_or_append_left, take-append-le, take_all}
 use Rattle.lq_ring.specs.Ring.{Meets, IsRing, AreRings, IsRings, IsTogether, times, all_times}
 use Rattle.lq_ring.proofs.Meeting.{times-here, times-other, times-append, parted, split, joined, met, HaveBoth, both-all, together-both, both-together, pull, pulled}
 
@@ -308,3 +308,51 @@ crossed-back before a b k l =
 -- two indexes of the same list of lists can't differ and be below its length without the rings
 pub both-in : (next : List ℕ) (rs : List (List ℕ)) (a b : ℕ) → IsRings next rs → IsTogether next a b → b < length next
 both-in next rs a b r t = all-met next rs b r.rings (both-all rs a b (both-together next rs a b r t)).1
+
+-- without the last index, which was in a ring of its own
+pub shrunk : (next : List ℕ) (rs : List (List ℕ)) → IsRings (next ++ length next ∷ []) rs → (left : List (List ℕ)) × IsRings next left
+shrunk next rs r =
+    let n = length next in
+    let new = next ++ n ∷ [] in
+    let long : length new ≡ n + 1 = omega (arith, length-append next (n ∷ [])) in
+    let x = pull new rs n r (omega arith) in
+    let are : IsRings new ((n ∷ x.0) ∷ x.1) = x.2 in
+    let own : get_or new n 0 ≡ n = get_or-append_seam next n [] 0 in
+    let none = only n x.0 new own are.rings.0 (omega (arith, are.once n (omega arith))) in
+    let count : (i : ℕ) → times i (n ∷ x.0) ≡ times i (n ∷ []) = λ i. ap (λ l. times i (n ∷ l)) none in
+    let gone : all_times n x.1 ≡ 0 = omega (arith, are.once n (omega arith), times-here n x.0) in (
+      x.1,
+      record {
+        rings = less-rings next n x.1 (λ i k. elim (cases_eq i n) [ inl e ↦ absurd (let P : ℕ → Type 0 = λ m. all_times m x.1 ≡ 0 in let z = subst P (sym e) gone in omega arith) | inr d ↦ omega (arith, all-met new x.1 i are.rings.1 k) ]) are.rings.1;
+        once = λ i k. omega (arith, are.once i (omega arith), count i, times-other i n [] (omega arith));
+      },
+    )
+  where
+    only : (n : ℕ) (p : List ℕ) (new : List ℕ) → get_or new n 0 ≡ n → Meets new n (n ∷ p) n → times n (n ∷ p) ≤ 1 → p ≡ []
+    only n [] new e m h = refl
+    only n (y ∷ p) new e m h =
+        let s : n ≡ y = sym e ∙ m.2.0 in
+        let P : ℕ → Type 0 = λ k. times n (k ∷ p) ≡ 1 + times n p in
+        absurd (omega (arith, times-here n (y ∷ p), subst P s (times-here n p)))
+
+    less : (next : List ℕ) (n a : ℕ) (xs : List ℕ) (z : ℕ) → ((i : ℕ) → 0 < times i xs → i < length next) → Meets (next ++ n ∷ []) a xs z → Meets next a xs z
+    less next n a [] z h m = m
+    less next n a (x ∷ xs) z h m =
+        let here : x < length next = h x (omega (arith, times-here x xs)) in
+        let same : get_or (next ++ n ∷ []) x 0 ≡ get_or next x 0 = get_or_append_left next (n ∷ []) 0 x here in
+        let P : ℕ → Type 0 = λ k. Meets next k xs z in
+        (m.0, here, subst P same (less next n (get_or (next ++ n ∷ []) x 0) xs z (λ i k. h i (omega arith)) m.2))
+
+    less-ring : (next : List ℕ) (n : ℕ) (r : List ℕ) → ((i : ℕ) → 0 < times i r → i < length next) → IsRing (next ++ n ∷ []) r → IsRing next r
+    less-ring next n [] h m = m
+    less-ring next n (x ∷ xs) h m = less next n x (x ∷ xs) x h m
+
+    less-rings : (next : List ℕ) (n : ℕ) (rs : List (List ℕ)) → ((i : ℕ) → 0 < all_times i rs → i < length next) → AreRings (next ++ n ∷ []) rs → AreRings next rs
+    less-rings next n [] h m = tt
+    less-rings next n (r ∷ rs) h m = (less-ring next n r (λ i k. h i (omega arith)) m.0, less-rings next n rs (λ i k. h i (omega arith)) m.1)
+
+pub front-is : (before : List ℕ) (x n : ℕ) → n ≡ length before + 1 → take (n - 1) (before ++ x ∷ []) ≡ before
+front-is before x n h =
+    let m : n - 1 ≡ length before = omega arith in
+    let le : length before ≤ length before = omega arith in
+    ap (λ k. take k (before ++ x ∷ [])) m ∙ take-append-le (length before) before (x ∷ []) le ∙ take_all (length before) before le

@@ -52,6 +52,14 @@ impl Rings {
         Ok(index)
     }
 
+    /// Takes back the last index, which is in a ring of its own.
+    pub fn pop(&mut self)
+        requires { (before : List ℕ) × (self.old ≡ before ++ length before ∷ []) }
+        ensures { self.old ≡ self.new ++ length self.new ∷ [] }
+    {
+        self.next.pop();
+    }
+
     /// How many indexes there are.
     pub fn len(&self) -> u64
         ensures { result ≡ length self.now }
@@ -98,6 +106,7 @@ impl Rings {
         requires { a < length self.now }
         ensures ring { (p : List ℕ) × (rs : List (List ℕ)) × (result ≡ a ∷ p) × IsRings self.now ((a ∷ p) ∷ rs) }
         ensures members { (j : ℕ) → (0 < times j result) ↔ IsTogether self.now a j }
+        ensures within { (j : ℕ) → 0 < times j result → j < length self.now }
     {
         RingWalk {
             next: &self.next,

@@ -2,6 +2,7 @@
 use Rattle.std.proofs.Common.{◌≡◌, ◌↔◌, List, ℕ, ◌<◌, ◌∷◌, length, subst, sym, ◌∙◌}
 use Rattle.lq_ring.specs.Ring.{IsRings, IsTogether, times}
 use Rattle.lq_ring.specs.Walk.{IsLeft, until}
+use Rattle.lq_ring.proofs.Meeting.{met}
 use Rattle.lq_ring.proofs.Walking.{begun, begun-members, left-is}
 use Rattle.lq_ring.proofs.rings.Rings.walk.Goals as goal
 
@@ -35,3 +36,14 @@ returns-clause-members c = λ j.
     let Q : List ℕ → Type 0 = λ l. (0 < times j l) ↔ IsTogether now c.args.a j in
     let R : List ℕ → Type 0 = λ l. until (length l) l c.args.a c.args.a ≡ c.args.a ∷ w.p in
     subst Q (sym (subst R (sym e) (left-is now c.args.a c.args.a w.p w.left))) (begun-members now c.args.a w j)
+
+pub returns-clause-within : goal.returns-clause-within
+returns-clause-within c = λ j.
+    let now = c.args.self.now in
+    let P : List ℕ → Type 0 = λ l. (rs : List (List ℕ)) × IsRings l rs in
+    let had = subst P c.self.view_is c.self.invariant in
+    let w = begun now c.args.a had.0 had.1 c.requires in
+    let e : c.deref.result.now ≡ now = c.deref.ensures.value ∙ c.self.view_is in
+    let Q : List ℕ → Type 0 = λ l. 0 < times j l → j < length now in
+    let R : List ℕ → Type 0 = λ l. until (length l) l c.args.a c.args.a ≡ c.args.a ∷ w.p in
+    subst Q (sym (subst R (sym e) (left-is now c.args.a c.args.a w.p w.left))) (met now c.args.a (c.args.a ∷ w.p) c.args.a j w.are.rings.0)
