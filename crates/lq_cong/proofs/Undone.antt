@@ -1,0 +1,89 @@
+-- What was done, taken back.
+use Rattle.std.proofs.Common.{◌≡◌, ◌≢◌, ◌⊎◌, inl, inr, ℕ, ◌+◌, ◌<◌, cond, eqb, List, [], ◌∷◌, ◌++◌, length, get_or, set, refl, sym, ap, ap₂, ◌∙◌, subst, arith, get_or-set_other, get_or-set_same}
+use Rattle.std.proofs.lemmas.Bool.{cases_eq}
+use Rattle.std.proofs.lemmas.Bool.Decides.{nat_tests}
+use Rattle.std.proofs.lemmas.List.{length-map, ext_get_or}
+use Rattle.lq_ring.specs.Ring.{IsTogether, times}
+use Rattle.lq_cong.specs.Terms.{Term}
+use Rattle.lq_cong.specs.Core.{Core, IsShaped}
+use Rattle.lq_cong.specs.Standing.{IsJoined}
+use Rattle.lq_cong.proofs.Labels.{joins, label-relabelled}
+use Rattle.lq_cong.proofs.Joins.{label}
+
+pub snoc-front : {A : Type 0} (xs ys : List A) (x y : A) → xs ++ x ∷ [] ≡ ys ++ y ∷ [] → xs ≡ ys
+snoc-front [] [] x y e = refl
+snoc-front [] (b ∷ []) x y e = absurd (let z = ap length e in omega arith)
+snoc-front [] (b ∷ c ∷ ys) x y e = absurd (let z = ap length e in omega arith)
+snoc-front (a ∷ []) [] x y e = absurd (let z = ap length e in omega arith)
+snoc-front (a ∷ c ∷ xs) [] x y e = absurd (let z = ap length e in omega arith)
+snoc-front (a ∷ xs) (b ∷ ys) x y e = ap₂ (λ u l. u ∷ l) (heads a b (xs ++ x ∷ []) (ys ++ y ∷ []) e) (snoc-front xs ys x y (tails a b (xs ++ x ∷ []) (ys ++ y ∷ []) e))
+  where
+    heads : {A : Type 0} (a b : A) (xs ys : List A) → a ∷ xs ≡ b ∷ ys → a ≡ b
+    heads a b xs ys e = cc
+
+    tails : {A : Type 0} (a b : A) (xs ys : List A) → a ∷ xs ≡ b ∷ ys → xs ≡ ys
+    tails a b xs ys e = cc
+
+pub snoc-last : {A : Type 0} (xs ys : List A) (x y : A) → xs ++ x ∷ [] ≡ ys ++ y ∷ [] → x ≡ y
+snoc-last [] [] x y e = cc
+snoc-last [] (b ∷ []) x y e = absurd (let z = ap length e in omega arith)
+snoc-last [] (b ∷ c ∷ ys) x y e = absurd (let z = ap length e in omega arith)
+snoc-last (a ∷ []) [] x y e = absurd (let z = ap length e in omega arith)
+snoc-last (a ∷ c ∷ xs) [] x y e = absurd (let z = ap length e in omega arith)
+snoc-last (a ∷ xs) (b ∷ ys) x y e = snoc-last xs ys x y (tails a b (xs ++ x ∷ []) (ys ++ y ∷ []) e)
+  where
+    tails : {A : Type 0} (a b : A) (xs ys : List A) → a ∷ xs ≡ b ∷ ys → xs ≡ ys
+    tails a b xs ys e = cc
+
+-- the labels from before a join
+pub parted-labels : (before after : Core) (kept moved : ℕ) (new : List ℕ) → IsShaped before → IsJoined kept moved before after → length new ≡ length after.labels
+    → ((i : ℕ) → IsTogether before.next moved i → get_or new i 0 ≡ moved) → ((i : ℕ) → (IsTogether before.next moved i → ⊥) → get_or new i 0 ≡ get_or after.labels i 0) → new ≡ before.labels
+parted-labels before after kept moved new h j l ring others =
+    let even : length after.labels ≡ length before.labels = ap length j.labels ∙ length-map before.labels (λ x. cond (eqb x moved) kept x) in
+    ext_get_or 0 new before.labels (l ∙ even) (λ i k.
+    elim (label-relabelled before.labels kept moved i (omega arith)) [
+      | inl p ↦ ring i ((h.rings moved i).1 (j.moved_in, omega (arith, h.labelled), j.moved_rests ∙ sym p.0)) ∙ sym p.0
+      | inr p ↦ others i (λ t. p.0 (sym ((h.rings moved i).0 t).2 ∙ j.moved_rests)) ∙ ap (λ ls. get_or ls i 0) j.labels ∙ p.1
+    ])
+
+pub parted-together : (before after : Core) (kept moved : ℕ) → IsShaped before → IsShaped after → IsJoined kept moved before after → IsTogether after.next kept moved
+parted-together before after kept moved h k j =
+    let x = joins before after kept moved j h in
+    let n = ap length j.known in
+    let a : label after kept ≡ kept = elim (x.each kept j.kept_in) [ inl p ↦ p.1 | inr p ↦ p.1 ∙ j.kept_rests ] in
+    let b : label after moved ≡ kept = elim (x.each moved j.moved_in) [ inl p ↦ p.1 | inr p ↦ absurd (p.0 j.moved_rests) ] in
+    (k.rings kept moved).1 (omega (arith, j.kept_in), omega (arith, j.moved_in), a ∙ sym b)
+
+abbrev pub a-core : List (Term × ℕ) → List ℕ → List ℕ → List (Term × ℕ) → Core
+a-core k l n f = record { known = k; labels = l; next = n; filed = f }
+
+pub same-core : (ka kb : List (Term × ℕ)) (la lb na nb : List ℕ) (fa fb : List (Term × ℕ)) → ka ≡ kb → la ≡ lb → na ≡ nb → fa ≡ fb → a-core ka la na fa ≡ a-core kb lb nb fb
+same-core ka kb la lb na nb fa fb k l n f = ap (λ x. a-core x la na fa) k ∙ ap (λ x. a-core kb x na fa) l ∙ ap (λ x. a-core kb lb x fa) n ∙ ap (λ x. a-core kb lb nb x) f
+
+-- ---- users
+
+pub forgotten : (uses new : List (List ℕ)) (first : List (List ℕ)) (at term : ℕ) (users old : List ℕ) → at < length uses → old ≡ get_or uses at [] → new ≡ set uses at users → (users ≡ old) ⊎ (old ≡ users ++ term ∷ [])
+    → ((a i : ℕ) → i ≢ term → 0 < times i (get_or first a []) → 0 < times i (get_or uses a []))
+    → (a i : ℕ) → i ≢ term → 0 < times i (get_or first a []) → 0 < times i (get_or new a [])
+forgotten uses new first at term users old h e n u k a i d z =
+    let was = k a i d z in
+    let P : List (List ℕ) → Type 0 = λ l. 0 < times i (get_or l a []) in
+    subst P (sym n) (elim (cases_eq a at) [
+      | inl q ↦
+          (let Q : ℕ → Type 0 = λ x. 0 < times i (get_or (set uses at users) x []) in
+          let R : ℕ → Type 0 = λ x. 0 < times i (get_or uses x []) in
+          let here : 0 < times i old = (let S : List ℕ → Type 0 = λ l. 0 < times i l in subst S (sym e) (subst R q was)) in
+          let left : 0 < times i users = elim u [
+            | inl f ↦ (let S : List ℕ → Type 0 = λ l. 0 < times i l in subst S (sym f) here)
+            | inr f ↦ omega (arith, ap (times i) f, append i users (term ∷ []), other i term [] d, here)
+          ] in
+          subst Q (sym q) (rw get_or-set_same left))
+      | inr q ↦ (let ne : a ≡ at → ⊥ = q in rw get_or-set_other was)
+    ])
+  where
+    append : (i : ℕ) (xs ys : List ℕ) → times i (xs ++ ys) ≡ times i xs + times i ys
+    append i [] ys = omega arith
+    append i (x ∷ xs) ys = omega (arith, append i xs ys)
+
+    other : (i x : ℕ) (xs : List ℕ) → (i ≡ x → ⊥) → times i (x ∷ xs) ≡ times i xs
+    other i x xs h = grind (arith, nat_tests)

@@ -1,0 +1,6 @@
+pub mod Terms
+pub mod Keys
+pub mod Steps
+pub mod Core
+pub mod Standing
+pub mod Moves

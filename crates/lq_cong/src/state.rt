@@ -1,0 +1,28 @@
+// The parts of which the classes are made.
+use crate::ids::Ids;
+use crate::steps::Entry;
+use crate::table::Table;
+use lq_ring::Rings;
+use std::alloc::Global;
+
+/// The parts of which the classes are made.
+#[derive(Drop)]
+pub(crate) struct State {
+    pub(crate) alloc: Global,
+    /// Each term with its number, in order.
+    pub(crate) known: Table,
+    /// Terms by their signatures: a head and the labels of the arguments.
+    pub(crate) filed: Table,
+    /// The label of each term, which is one of the terms of its class.
+    pub(crate) labels: Vec<u64>,
+    /// How many terms have a label.
+    pub(crate) sizes: Vec<u64>,
+    /// The terms of each class.
+    pub(crate) rings: Rings,
+    /// The terms that have a term as an argument.
+    pub(crate) uses: Vec<Ids>,
+    /// What was done, and what followed, in order.
+    pub(crate) trail: Vec<Entry>,
+    /// How many steps stand.
+    pub(crate) steps: u64,
+}
