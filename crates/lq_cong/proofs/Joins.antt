@@ -184,7 +184,7 @@ relabelled-is c kept moved new h l m r ring others =
       | inr p ↦ others i (λ t. p.0 (sym ((h.rings moved i).0 t).2 ∙ r)) ∙ sym p.1
     ])
 
-pub front-all : (n : ℕ) (xs ys : List ℕ) → n ≡ length xs → take n (xs ++ ys) ≡ xs
+pub front-all : {A : Type 0} (n : ℕ) (xs ys : List A) → n ≡ length xs → take n (xs ++ ys) ≡ xs
 front-all n xs ys h =
     let le : n ≤ length xs = omega arith in
     let ge : length xs ≤ n = omega arith in

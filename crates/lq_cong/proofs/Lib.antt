@@ -5,3 +5,4 @@ pub mod Filing
 pub mod Walks
 pub mod Moving
 pub mod Undone
+pub mod Trail

@@ -1,14 +1,14 @@
 -- What was done, taken back.
-use Rattle.std.proofs.Common.{◌≡◌, ◌≢◌, ◌⊎◌, inl, inr, ℕ, ◌+◌, ◌<◌, cond, eqb, List, [], ◌∷◌, ◌++◌, length, get_or, set, refl, sym, ap, ap₂, ◌∙◌, subst, arith, get_or-set_other, get_or-set_same}
+use Rattle.std.proofs.Common.{◌≡◌, ◌≢◌, ◌⊎◌, inl, inr, ℕ, zero, suc, ◌+◌, ◌-◌, ◌<◌, ◌≤◌, cond, eqb, List, [], ◌∷◌, ◌++◌, length, take, get_or, set, refl, sym, ap, ap₂, ◌∙◌, subst, arith, length-append, get_or-set_other, get_or-set_same}
 use Rattle.std.proofs.lemmas.Bool.{cases_eq}
 use Rattle.std.proofs.lemmas.Bool.Decides.{nat_tests}
-use Rattle.std.proofs.lemmas.List.{length-map, ext_get_or}
+use Rattle.std.proofs.lemmas.List.{length-map, ext_get_or, length-take, get_or-take, take-append-le, take_all}
 use Rattle.lq_ring.specs.Ring.{IsTogether, times}
-use Rattle.lq_cong.specs.Terms.{Term}
-use Rattle.lq_cong.specs.Core.{Core, IsShaped}
-use Rattle.lq_cong.specs.Standing.{IsJoined}
+use Rattle.lq_cong.specs.Terms.{Term, term_in}
+use Rattle.lq_cong.specs.Core.{Core, AllBelow, IsShaped}
+use Rattle.lq_cong.specs.Standing.{HasUses, IsAdded, IsJoined}
 use Rattle.lq_cong.proofs.Labels.{joins, label-relabelled}
-use Rattle.lq_cong.proofs.Joins.{label}
+use Rattle.lq_cong.proofs.Joins.{label, among-below}
 
 pub snoc-front : {A : Type 0} (xs ys : List A) (x y : A) → xs ++ x ∷ [] ≡ ys ++ y ∷ [] → xs ≡ ys
 snoc-front [] [] x y e = refl
@@ -87,3 +87,42 @@ forgotten uses new first at term users old h e n u k a i d z =
 
     other : (i x : ℕ) (xs : List ℕ) → (i ≡ x → ⊥) → times i (x ∷ xs) ≡ times i xs
     other i x xs h = grind (arith, nat_tests)
+
+-- ---- the last of a list taken off
+
+pub front-of : {A : Type 0} (items before : List A) (x : A) (n : ℕ) → n ≡ length items → items ≡ before ++ x ∷ [] → take (n - 1) items ≡ before
+front-of items before x n h e =
+    let long : length items ≡ length before + 1 = omega (arith, ap length e, length-append before (x ∷ [])) in
+    let m : n - 1 ≡ length before = omega arith in
+    let le : length before ≤ length before = omega arith in
+    ap₂ take m e ∙ take-append-le (length before) before (x ∷ []) le ∙ take_all (length before) before le
+
+pub added-args : (t : Term) (b c : Core) → IsAdded t b c → term_in c.known (length b.known) ≡ t
+added-args t b c h = ap (λ ks. term_in ks (length b.known)) h.known ∙ last b.known t (length b.known)
+  where
+    last : (ks : List (Term × ℕ)) (t : Term) (n : ℕ) → term_in (ks ++ (t, n) ∷ []) (length ks) ≡ t
+    last [] t n = refl
+    last (k ∷ ks) t n = last ks t n
+
+pub term-front : (ks : List (Term × ℕ)) (e : Term × ℕ) (i : ℕ) → i < length ks → term_in (ks ++ e ∷ []) i ≡ term_in ks i
+term-front [] e i h = absurd (omega arith)
+term-front (k ∷ ks) e zero h = refl
+term-front (k ∷ ks) e (suc i) h = term-front ks e i (omega arith)
+
+-- the users without those of the last term, and without it
+pub uses-less : (known new : List (Term × ℕ)) (e : Term × ℕ) (uses forgot left : List (List ℕ)) (n : ℕ) → known ≡ new ++ e ∷ [] → HasUses known uses → ((i : ℕ) → i < length known → AllBelow i (term_in known i).1)
+    → length forgot ≡ length uses → n ≡ length uses → left ≡ take (n - 1) forgot
+    → ((a i : ℕ) → i ≢ length new → 0 < times i (get_or uses a []) → 0 < times i (get_or forgot a [])) → HasUses new left
+uses-less known new e uses forgot left n k h below l m f keeps =
+    let long : length known ≡ length new + 1 = omega (arith, ap length k, length-append new (e ∷ [])) in
+    record {
+      each = omega (arith, ap length f, length-take (n - 1) forgot, h.each);
+      listed = λ i a j t.
+          let same : term_in known i ≡ term_in new i = ap (λ ks. term_in ks i) k ∙ term-front new e i j in
+          let P : Term → Type 0 = λ x. 0 < times a x.1 in
+          let in_known = subst P (sym same) t in
+          let a_less : a < i = among-below i (term_in known i).1 a (below i (omega arith)) in_known in
+          let kept = keeps a i (λ z. absurd (omega arith)) (h.listed i a (omega arith) in_known) in
+          let Q : List (List ℕ) → Type 0 = λ us. 0 < times i (get_or us a []) in
+          subst Q (sym f) (let R : List ℕ → Type 0 = λ us. 0 < times i us in subst R (sym (get_or-take (n - 1) forgot a [] (omega (arith, h.each)))) kept);
+    }

@@ -7,11 +7,11 @@ use Rattle.lq_cong.proofs.Undone.{parted-labels, parted-together, same-core}
 use Rattle.lq_cong.proofs.state.State.part.Goals as goal
 
 pub split_after-requires : goal.split_after-requires
-split_after-requires c = record { differ = c.requires.joined.2.differ; together = parted-together c.requires.joined.0 (core_of c.args.self.now) c.args.kept c.args.moved c.requires.joined.1 c.requires.order.shaped c.requires.joined.2 }
+split_after-requires c = record { differ = c.requires.joined.2.differ; together = parted-together c.requires.joined.0 (core_of c.args.self.now) c.args.kept c.args.moved c.requires.joined.1 c.requires.ready.shaped c.requires.joined.2 }
 
 pub relabel-requires : goal.relabel-requires
 relabel-requires c =
-    let h = c.requires.order.shaped in
+    let h = c.requires.ready.shaped in
     let j = c.requires.joined.2 in
     record {
       from = omega (arith, c.split_after.ensures.len, h.ringed, j.moved_in, ap length j.known);
@@ -23,8 +23,8 @@ subtract_size-requires c =
     let j = c.requires.joined.2 in
     let n = ap length c.deref_mut-2.ensures.value in
     record {
-      kept = omega (arith, n, c.requires.order.sizes, j.kept_in, ap length j.known);
-      moved = omega (arith, n, c.requires.order.sizes, j.moved_in, ap length j.known);
+      kept = omega (arith, n, c.requires.ready.sizes, j.kept_in, ap length j.known);
+      moved = omega (arith, n, c.requires.ready.sizes, j.moved_in, ap length j.known);
     }
 
 pub returns-clause-core : goal.returns-clause-core
