@@ -28,7 +28,8 @@ impl State {
     fn signature(&self, term: u64) -> Result<Key, AllocError>
         requires shaped { IsShaped (core_of self.now) }
         requires term { term < length self.now.known }
-        ensures { IfOk result (λ key. term_of key ≡ signature self.now.labels.items (term_in self.now.known term)) }
+        ensures { IfOk result (λ key. term_of key ≡ signature self.now.labels.items
+            (term_in self.now.known term)) }
     {
         let key = self.known.key(term as usize);
         Ok(Key {
@@ -41,7 +42,9 @@ impl State {
     fn file(&mut self, term: u64) -> Result<Option<u64>, AllocError>
         requires shaped { IsShaped (core_of self.old) }
         requires term { term < length self.old.known }
-        ensures found { IfOk result (λ found. IfSome found (λ by. (find_in self.old.filed (signature self.old.labels.items (term_in self.old.known term)) ≡ Some by) × IsAsBefore self.old self.new)) }
+        ensures found { IfOk result (λ found. IfSome found
+            (λ by. (find_in self.old.filed (signature self.old.labels.items (term_in self.old.known term))
+            ≡ Some by) × IsAsBefore self.old self.new)) }
         ensures filed { IfOk result (λ found. IfNone found (Files self.old self.new term)) }
         ensures err { OnErr result (IsAsBefore self.old self.new) }
     {
@@ -64,7 +67,8 @@ impl State {
         ensures goes { Goes self.old self.new }
         ensures labels { self.new.labels.items ≡ self.old.labels.items }
         ensures none { IfOk result (λ clash. IfNone clash (IsWorking self.new [] 0 0)) }
-        ensures some { IfOk result (λ clash. IfSome clash (λ p. IsWorking self.new queue.new.items p.0 p.1 × IsClash self.new p.0 p.1)) }
+        ensures some { IfOk result (λ clash. IfSome clash (λ p. IsWorking self.new queue.new.items p.0 p.1
+            × IsClash self.new p.0 p.1)) }
     {
         while let Some(term) = queue.pop() {
             if term as usize >= self.known.len() {

@@ -19,7 +19,8 @@ fn queue_users(
     requires from { from < length rings.now }
     requires room { length rings.now ≤ length uses.now }
     ensures kept { KeepsQueue queue.old.items queue.new.items }
-    ensures users { OnOk result ((a i : ℕ) → IsTogether rings.now from a → 0 < times i (slice_index_or uses.now a []) → 0 < times i queue.new.items) }
+    ensures users { OnOk result ((a i : ℕ) → IsTogether rings.now from a
+        → 0 < times i (slice_index_or uses.now a []) → 0 < times i queue.new.items) }
 {
     for member in rings.walk(from) {
         queue.extend_from_slice(uses[member as usize].as_slice())?;
@@ -32,7 +33,8 @@ pub(crate) fn relabel(labels: &mut [u64], rings: &Rings, from: u64, label: u64)
     requires from { from < length rings.now }
     requires room { length rings.now ≤ length labels.old }
     ensures ring { (i : ℕ) → IsTogether rings.now from i → slice_index labels.new i ≡ label }
-    ensures others { (i : ℕ) → (IsTogether rings.now from i → ⊥) → slice_index labels.new i ≡ slice_index labels.old i }
+    ensures others { (i : ℕ) → (IsTogether rings.now from i → ⊥)
+        → slice_index labels.new i ≡ slice_index labels.old i }
 {
     for member in rings.walk(from) {
         labels[member as usize] = label;
@@ -76,7 +78,8 @@ impl State {
         requires left { IsOwn self.old left }
         requires right { IsOwn self.old right }
         requires differ { left ≢ right }
-        ensures ok { OnOk result (Unites self.old self.new left right queue.old.items queue.new.items ⊎ Unites self.old self.new right left queue.old.items queue.new.items) }
+        ensures ok { OnOk result (Unites self.old self.new left right queue.old.items queue.new.items
+            ⊎ Unites self.old self.new right left queue.old.items queue.new.items) }
         ensures err { OnErr result (IsAsBefore self.old self.new) }
     {
         if self.sizes[left as usize] < self.sizes[right as usize] {

@@ -15,7 +15,8 @@ use crate::steps::{Entry, Step};
 /// Takes a term off the users of its arguments.
 fn forget(uses: &mut [Ids], args: &[u64], term: u64)
     requires { AllBelow (length uses.old) args.now }
-    ensures { (a i : ℕ) → i ≢ term → 0 < times i (slice_index_or uses.old a []) → 0 < times i (slice_index_or uses.new a []) }
+    ensures { (a i : ℕ) → i ≢ term → 0 < times i (slice_index_or uses.old a [])
+        → 0 < times i (slice_index_or uses.new a []) }
 {
     for arg in args {
         let users = &mut uses[*arg as usize];
@@ -36,7 +37,8 @@ impl State {
     fn part(&mut self, kept: u64, moved: u64)
         requires ready { IsReady self.old }
         requires joined { (before : Core) × IsShaped before × IsJoined kept moved before (core_of self.old) }
-        ensures core { (before : Core) → IsShaped before → IsJoined kept moved before (core_of self.old) → core_of self.new ≡ before }
+        ensures core { (before : Core) → IsShaped before → IsJoined kept moved before (core_of self.old)
+            → core_of self.new ≡ before }
         ensures trail { self.new.trail ≡ self.old.trail }
         ensures beside { IsBeside self.old self.new }
     {
@@ -48,8 +50,10 @@ impl State {
     /// Takes back the last term.
     fn remove(&mut self, args: &Ids)
         requires ready { IsReady self.old }
-        requires added { (head : Head) × (before : Core) × IsShaped before × IsAdded (head, args.now) before (core_of self.old) }
-        ensures core { (head : Head) (before : Core) → IsShaped before → IsAdded (head, args.now) before (core_of self.old) → core_of self.new ≡ before }
+        requires added { (head : Head) × (before : Core) × IsShaped before
+            × IsAdded (head, args.now) before (core_of self.old) }
+        ensures core { (head : Head) (before : Core) → IsShaped before
+            → IsAdded (head, args.now) before (core_of self.old) → core_of self.new ≡ before }
         ensures trail { self.new.trail ≡ self.old.trail }
         ensures uses { HasUses self.new.known self.new.uses.items }
         ensures sizes { length self.new.sizes.items ≡ length self.new.known }
@@ -68,8 +72,11 @@ impl State {
     pub(crate) fn undo(&mut self)
         requires order { IsInOrder self.old }
         requires led { LastLed self.old }
-        ensures trail { (before : List AnEntry) (entry : AnEntry) → self.old.trail.items ≡ before ++ entry ∷ [] → self.new.trail.items ≡ before }
-        ensures core { (before : List AnEntry) (entry : AnEntry) (from : Core) → self.old.trail.items ≡ before ++ entry ∷ [] → IsShaped from → Does entry from (core_of self.old) → core_of self.new ≡ from }
+        ensures trail { (before : List AnEntry) (entry : AnEntry)
+            → self.old.trail.items ≡ before ++ entry ∷ [] → self.new.trail.items ≡ before }
+        ensures core { (before : List AnEntry) (entry : AnEntry) (from : Core)
+            → self.old.trail.items ≡ before ++ entry ∷ [] → IsShaped from
+            → Does entry from (core_of self.old) → core_of self.new ≡ from }
         ensures order { IsInOrder self.new }
     {
         match self.trail.pop() {

@@ -20,8 +20,8 @@ use Rattle.lq_demand.specs.Answer.{sizes, sizes_of}
 use Rattle.lq_demand.specs.Closed.{IsProblemRows}
 use Rattle.lq_demand.specs.Deciding.{IsCounterexample}
 use Rattle.lq_demand.specs.Gathered.{AreGathered, IsProblemOf}
-use Rattle.lq_demand.specs.StageErrors.{IsStageErrorAt}
-use Rattle.lq_demand.specs.declared.solve.StageError.{StageError}
+use Rattle.lq_demand.specs.EngineErrors.{IsEngineErrorAt}
+use Rattle.lq_demand.specs.declared.solve.EngineError.{EngineError}
 use Rattle.lq_demand.specs.Plain.{IsPlain, comparison_as}
 use Rattle.lq_demand.specs.Problem.{Problem, AllHold, row_sizes}
 use Rattle.lq_demand.specs.Solution.{IsSolution}
@@ -37,8 +37,8 @@ pub rows_sizes : (all : List Sum) (i : ClosedImplication) (rows : List Row) → 
 rows_sizes all i rows r =
     let e = ap row_sizes r.is in let s = row_sizes-append r.problem.known (r.problem.goal ∷ []) in let k = same_sizes all i r.problem r.of in omega arith
 
-pub halts_of : (all : List Sum) (i : ClosedImplication) (rows same : List Row) (k : ℕ) (halt : StageError) → IsProblemRows all i rows → same ≡ rows → IsStageErrorAt k (row_sizes same) halt → IsStageErrorAt k (sizes_of i) halt
-halts_of all i rows same k halt r e h = subst (λ n. IsStageErrorAt k n halt) (ap row_sizes e ∙ rows_sizes all i rows r) h
+pub halts_of : (all : List Sum) (i : ClosedImplication) (rows same : List Row) (k : ℕ) (halt : EngineError) → IsProblemRows all i rows → same ≡ rows → IsEngineErrorAt k (row_sizes same) halt → IsEngineErrorAt k (sizes_of i) halt
+halts_of all i rows same k halt r e h = subst (λ n. IsEngineErrorAt k n halt) (ap row_sizes e ∙ rows_sizes all i rows r) h
 
 -- where no valuation solves the rows, the implication is valid
 pub valid_of : (law : RowLaw) (all : List Sum) (i : ClosedImplication) (rows same : List Row) → IsProblemRows all i rows → same ≡ rows → ((v : Valuation) → AllHold v same → ⊥) → IsValid i

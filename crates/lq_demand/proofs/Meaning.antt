@@ -12,7 +12,7 @@ use Rattle.lq_pred.specs.Table.{all_differ}
 use Rattle.lq_pred.specs.declared.symbol.Symbol.{Symbol}
 use Rattle.lq_demand.specs.Answer.{sizes, sizes_of, IsFirstLarge}
 use Rattle.lq_demand.specs.Gathered.{IsGathered, AreGathered, IsProblemOf, AreProblems}
-use Rattle.lq_demand.specs.StageErrors.{NoneBefore, IsFirstUndecided}
+use Rattle.lq_demand.specs.EngineErrors.{NoneBefore, IsFirstUndecided}
 use Rattle.lq_demand.specs.Plain.{comparison_as}
 use Rattle.lq_demand.specs.Problem.{Problem, AllHold, IsSolvable, row_sizes, problem_sizes}
 use Rattle.lq_demand.proofs.Plains.{plain_row}

@@ -3,9 +3,9 @@ use Rattle.std.proofs.Common.{◌≡◌, ℕ, zero, suc, ◌+◌, ◌≤◌, ◌
 use Rattle.std.proofs.lemmas.List.{append-nil}
 use Rattle.lq_linear.specs.Row.{Row}
 use Rattle.lq_demand.specs.declared.stage.Stage.{Stage}
-use Rattle.lq_demand.specs.declared.solve.StageError.{StageError}
-use Rattle.lq_demand.specs.declared.solve.StageError.TheVariants.{Number, OutOfMemory}
-use Rattle.lq_demand.specs.StageErrors.{NoneBefore, IsFirstUndecided, IsStageErrorAt, IsStageErrorOf}
+use Rattle.lq_demand.specs.declared.solve.EngineError.{EngineError}
+use Rattle.lq_demand.specs.declared.solve.EngineError.TheVariants.{Number, OutOfMemory}
+use Rattle.lq_demand.specs.EngineErrors.{NoneBefore, IsFirstUndecided, IsEngineErrorAt, IsEngineErrorOf}
 use Rattle.lq_demand.specs.Problem.{Problem, IsSolvable, known_in, problem_after, problems_after, problem_sizes, count_of}
 
 pub stage_problem : (known : List Row) (stages : List Stage) (k : ℕ) (s : Stage) → slice_get stages k ≡ Some s
@@ -51,7 +51,7 @@ none_more ps k q none at not j p l here = by (le_cases j k l)
     by (inr e) = let same : p ≡ q = cc (here, at, ap (slice_get ps) e) in subst (λ r. IsSolvable r → ⊥) (sym same) not
 
 -- the first that is halted
-pub halts_first : (ps : List Problem) (k n : ℕ) (p : Problem) (halt : StageError) → slice_get ps k ≡ Some p → NoneBefore ps k → n ≡ problem_sizes p → IsStageErrorAt k n halt → IsStageErrorOf ps halt
+pub halts_first : (ps : List Problem) (k n : ℕ) (p : Problem) (halt : EngineError) → slice_get ps k ≡ Some p → NoneBefore ps k → n ≡ problem_sizes p → IsEngineErrorAt k n halt → IsEngineErrorOf ps halt
 halts_first ps k n p (Number j e) at none size h =
     (h.1, subst (IsFirstUndecided ps) (sym h.0) (record { problem = p; at = at; before = none; sized = sized }))
   where

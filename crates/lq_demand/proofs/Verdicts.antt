@@ -12,14 +12,14 @@ use Rattle.lq_point.specs.declared.point.Point.{Point}
 use Rattle.lq_demand.specs.Answer.{IsFirstLarge, sizes_of}
 use Rattle.lq_demand.specs.AskedView.{FailsAt, IsAnswer, StopsBy}
 use Rattle.lq_pred.specs.declared.pred.Stop.TheVariants.{Number, Gather, Pivots, Memory}
-use Rattle.lq_demand.specs.declared.solve.StageError.{StageError}
-use Rattle.lq_demand.specs.declared.solve.StageError.TheVariants as halt
+use Rattle.lq_demand.specs.declared.solve.EngineError.{EngineError}
+use Rattle.lq_demand.specs.declared.solve.EngineError.TheVariants as halt
 use Rattle.lq_demand.specs.declared.asking.Asked.{Asked}
 use Rattle.lq_demand.specs.declared.asking.Asked.TheVariants.{Valid, Fails, Stops}
 use Rattle.lq_demand.specs.Closed.{IsAskable, IsKnowable}
 use Rattle.lq_demand.specs.Deciding.{IsCounterexample, IsFirstInvalid}
 use Rattle.lq_demand.specs.Gathered.{AreGathered, IsProblemOf, AreProblems}
-use Rattle.lq_demand.specs.StageErrors.{IsStageErrorAt, IsStageErrorOf, NoneBefore, IsFirstSolvable}
+use Rattle.lq_demand.specs.EngineErrors.{IsEngineErrorAt, IsEngineErrorOf, NoneBefore, IsFirstSolvable}
 use Rattle.lq_demand.specs.Problem.{Problem}
 use Rattle.lq_demand.proofs.Meaning.{RowLaw, not_valid_by, problem_at, valid_before, first_large}
 use Rattle.lq_demand.proofs.Ungathered.{same_length}
@@ -63,7 +63,7 @@ pub large_at : (is : List ClosedImplication) (j k : ℕ) (i : ClosedImplication)
 large_at is j k i e f at h = (h.1, subst (IsFirstLarge is) (sym h.0) (record { large = i; at = at; gathered = f.gathered; before = f.before; sized = h.2 }))
 
 -- an undecided demand's answer
-pub stopped_by : (is : List ClosedImplication) (ps : List Problem) (k : ℕ) (h : StageError) (a : Asked) → ((j : ℕ) (e : NumberPast) → h ≡ halt.Number j e → IsPast e × IsFirstLarge is j) → StopsBy h a → IsAnswer is a
+pub stopped_by : (is : List ClosedImplication) (ps : List Problem) (k : ℕ) (h : EngineError) (a : Asked) → ((j : ℕ) (e : NumberPast) → h ≡ halt.Number j e → IsPast e × IsFirstLarge is j) → StopsBy h a → IsAnswer is a
 stopped_by is ps k (halt.Number j e) (Stops i (Number past)) large s =
     let l = large j e refl in (subst IsPast (sym s.1) l.0, subst (IsFirstLarge is) (sym s.0) l.1)
 stopped_by is ps k (halt.Number j e) (Stops i (Gather p)) large s = absurd s
@@ -73,11 +73,11 @@ stopped_by is ps k (halt.Number j e) Valid large s = absurd s
 stopped_by is ps k (halt.Number j e) (Fails i p) large s = absurd s
 stopped_by is ps k halt.OutOfMemory a large s = absurd s
 
-pub answer_of_halt : (law : RowLaw) (all : List Sum) (is : List ClosedImplication) (ps : List Problem) (h : StageError) (a : Asked) → AreProblems all is ps → IsStageErrorOf ps h → StopsBy h a → IsAnswer is a
-answer_of_halt law all is ps h a areas by s = stopped_by is ps 0 h a (λ j e eq. at j e (subst (IsStageErrorOf ps) eq by)) s
+pub answer_of_halt : (law : RowLaw) (all : List Sum) (is : List ClosedImplication) (ps : List Problem) (h : EngineError) (a : Asked) → AreProblems all is ps → IsEngineErrorOf ps h → StopsBy h a → IsAnswer is a
+answer_of_halt law all is ps h a areas by s = stopped_by is ps 0 h a (λ j e eq. at j e (subst (IsEngineErrorOf ps) eq by)) s
   where
-    at : (j : ℕ) (e : NumberPast) → IsStageErrorOf ps (halt.Number j e) → IsPast e × IsFirstLarge is j
+    at : (j : ℕ) (e : NumberPast) → IsEngineErrorOf ps (halt.Number j e) → IsPast e × IsFirstLarge is j
     at j e b = (b.0, first_large law all is ps j areas b.1)
 
-pub failing_halt : (is : List ClosedImplication) (k : ℕ) (i : ClosedImplication) (h : StageError) (a : Asked) → IsFirstInvalid is k → slice_get is k ≡ Some i → IsStageErrorAt k (sizes_of i) h → StopsBy h a → IsAnswer is a
-failing_halt is k i h a f at by s = stopped_by is [] k h a (λ j e eq. large_at is j k i e f at (subst (IsStageErrorAt k (sizes_of i)) eq by)) s
+pub failing_halt : (is : List ClosedImplication) (k : ℕ) (i : ClosedImplication) (h : EngineError) (a : Asked) → IsFirstInvalid is k → slice_get is k ≡ Some i → IsEngineErrorAt k (sizes_of i) h → StopsBy h a → IsAnswer is a
+failing_halt is k i h a f at by s = stopped_by is [] k h a (λ j e eq. large_at is j k i e f at (subst (IsEngineErrorAt k (sizes_of i)) eq by)) s

@@ -7,8 +7,8 @@ use Rattle.lq_pred.specs.declared.pred.Stop.TheVariants.{Number, Gather, Pivots,
 use Rattle.lq_point.specs.Values.{table_of, values_of, as_point}
 use Rattle.lq_point.specs.declared.point.Point.{Point}
 use Rattle.lq_demand.specs.Answer.{CanBeGathered, IsFirstFailing, IsFirstUngathered, IsFirstLarge}
-use Rattle.lq_demand.specs.declared.solve.StageError.{StageError}
-use Rattle.lq_demand.specs.declared.solve.StageError.TheVariants as halt
+use Rattle.lq_demand.specs.declared.solve.EngineError.{EngineError}
+use Rattle.lq_demand.specs.declared.solve.EngineError.TheVariants as halt
 use Rattle.lq_demand.specs.declared.asking.Asked.{Asked}
 use Rattle.lq_demand.specs.declared.asking.Asked.TheVariants.{Valid, Fails, Stops}
 
@@ -28,6 +28,6 @@ IsAnswer is (Stops k (Pivots n)) = ⊥
 IsAnswer is (Stops k Memory) = ⊥
 
 -- the answer for a demand that isn't decided
-abbrev pub StopsBy : StageError → Asked → Type 0
+abbrev pub StopsBy : EngineError → Asked → Type 0
 StopsBy (halt.Number k e) (Stops j (Number past)) = (j ≡ k) × (past ≡ e)
 StopsBy _ _ = ⊥

@@ -1,7 +1,7 @@
 pub mod Straight
 pub mod LinesView
 pub mod Problem
-pub mod StageErrors
+pub mod EngineErrors
 pub mod Plain
 pub mod Solution
 pub mod Gathered

@@ -17,7 +17,7 @@ ghost use Rattle.lq_demand.specs.Straight.{implications_of};
 use crate::closed::closed_at;
 use crate::deciding::decide;
 use crate::lines::Lines;
-use crate::solve::{StageError, first_open};
+use crate::solve::{EngineError, first_open};
 use crate::stage::{StageError, stages_of};
 use lq_point::Point;
 use lq_pred::{Stop, TermTable, rows_say_what_comparisons_say};
@@ -86,11 +86,11 @@ fn failing(alloc: Global, lines: &Lines, number: usize) -> Result<Asked, AllocEr
 }
 
 /// The answer where a demand isn't decided.
-fn stopped(halt: StageError) -> Result<Asked, AllocError>
+fn stopped(halt: EngineError) -> Result<Asked, AllocError>
     ensures { IfOk result (StopsBy halt) }
 {
     match halt {
-        StageError::Number(number, past) => Ok(Asked::Stops(number, Stop::Number(past))),
-        StageError::OutOfMemory => Err(AllocError),
+        EngineError::Number(number, past) => Ok(Asked::Stops(number, Stop::Number(past))),
+        EngineError::OutOfMemory => Err(AllocError),
     }
 }

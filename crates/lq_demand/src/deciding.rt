@@ -5,11 +5,11 @@ ghost use Rattle.lq_pred.specs.PredView.{implication_of};
 ghost use Rattle.lq_demand.specs.Answer.{sizes_of};
 ghost use Rattle.lq_demand.specs.Closed.{IsAskable};
 ghost use Rattle.lq_demand.specs.Deciding.{IsCounterexample};
-ghost use Rattle.lq_demand.specs.StageErrors.{IsStageErrorAt};
+ghost use Rattle.lq_demand.specs.EngineErrors.{IsEngineErrorAt};
 
 use crate::closed::rows_of;
 use crate::solution::solution;
-use crate::solve::{StageError, halted};
+use crate::solve::{EngineError, halted};
 use indexmap::IndexMap;
 use lq_point::{Point, PointError, PointValues};
 use lq_pred::{Closed, TermTable, rows_say_what_comparisons_say};
@@ -21,11 +21,11 @@ pub(crate) fn decide(
     alloc: Global,
     number: usize,
     closed: &Closed,
-) -> Result<Option<Point>, StageError>
+) -> Result<Option<Point>, EngineError>
     requires { IsAskable (implication_of closed.now) }
     ensures some { IfOk result (λ found. IfSome found (IsCounterexample (implication_of closed.now))) }
     ensures none { IfOk result (λ found. IfNone found (IsValid (implication_of closed.now))) }
-    ensures halt { IfErr result (IsStageErrorAt number (sizes_of (implication_of closed.now))) }
+    ensures halt { IfErr result (IsEngineErrorAt number (sizes_of (implication_of closed.now))) }
 {
     rows_say_what_comparisons_say();
     let mut table = TermTable::new(alloc)?;
@@ -39,7 +39,7 @@ pub(crate) fn decide(
     match Point::new(alloc, values, closed) {
         Ok(Some(point)) => Ok(Some(point)),
         Ok(None) => unreachable!(),
-        Err(PointError::Past(past)) => Err(StageError::Number(number, past)),
-        Err(PointError::Memory) => Err(StageError::OutOfMemory),
+        Err(PointError::Past(past)) => Err(EngineError::Number(number, past)),
+        Err(PointError::Memory) => Err(EngineError::OutOfMemory),
     }
 }

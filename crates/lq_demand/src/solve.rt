@@ -4,8 +4,8 @@ ghost use Rattle.lq_linear.specs.Row.{Row};
 ghost use Rattle.lq_diff.specs.Stops.{StopsBy};
 ghost use Rattle.lq_diff.specs.Table.{table_rows, table_last, table_limits};
 ghost use Rattle.lq_demand.specs.Problem.{Problem, IsSolvable, IsTaken, IsGoing, IsStageTaken, row_sizes, problem_sizes, problem_after, problems_of, count_of};
-ghost use Rattle.lq_demand.specs.StageErrors.{IsStageErrorAt, IsStageErrorOf, NoneBefore, IsFirstSolvable};
-ghost use Rattle.lq_demand.specs.declared.solve.StageError.TheVariants.{OutOfMemory};
+ghost use Rattle.lq_demand.specs.EngineErrors.{IsEngineErrorAt, IsEngineErrorOf, NoneBefore, IsFirstSolvable};
+ghost use Rattle.lq_demand.specs.declared.solve.EngineError.TheVariants.{OutOfMemory};
 
 use crate::stage::Stage;
 use lq_diff::DistanceTable;
@@ -15,17 +15,17 @@ use std::alloc::{AllocError, Global};
 
 /// Why stages aren't decided.
 #[derive(Drop)]
-pub(crate) enum StageError {
+pub(crate) enum EngineError {
     /// The stage of this number, by an operation without a form of 128 bits.
     Number(usize, NumberPast),
     OutOfMemory,
 }
 
-impl From<AllocError> for StageError {
+impl From<AllocError> for EngineError {
     ghost from_gives = { λ _ e. e ≡ OutOfMemory };
 
-    fn from(_e: AllocError) -> StageError {
-        StageError::OutOfMemory
+    fn from(_e: AllocError) -> EngineError {
+        EngineError::OutOfMemory
     }
 }
 
@@ -74,12 +74,12 @@ fn is_open(engine: &mut DistanceTable, stage: &Stage) -> Result<bool, LinearStop
 }
 
 /// Why this stage isn't decided. A table of distances never answers `Pivots`.
-pub(crate) fn halted(stage: usize, stop: LinearStop) -> StageError
-    ensures { (n : ℕ) → StopsBy n stop → IsStageErrorAt stage n result }
+pub(crate) fn halted(stage: usize, stop: LinearStop) -> EngineError
+    ensures { (n : ℕ) → StopsBy n stop → IsEngineErrorAt stage n result }
 {
     match stop {
-        LinearStop::Number(past) => StageError::Number(stage, past),
-        LinearStop::Pivots(_) | LinearStop::Memory => StageError::OutOfMemory,
+        LinearStop::Number(past) => EngineError::Number(stage, past),
+        LinearStop::Pivots(_) | LinearStop::Memory => EngineError::OutOfMemory,
     }
 }
 
@@ -89,13 +89,13 @@ pub(crate) fn first_open(
     terms: u64,
     rows: u64,
     stages: &[Stage],
-) -> Result<Option<usize>, StageError>
+) -> Result<Option<usize>, EngineError>
     requires taken { All (IsStageTaken terms) stages.now }
     requires room { count_of stages.now ≤ rows }
     ensures none { IfOk result (λ first. IfNone first
         (NoneBefore (problems_of stages.now) (length stages.now))) }
     ensures some { IfOk result (λ first. IfSome first (IsFirstSolvable (problems_of stages.now))) }
-    ensures halt { IfErr result (IsStageErrorOf (problems_of stages.now)) }
+    ensures halt { IfErr result (IsEngineErrorOf (problems_of stages.now)) }
 {
     let mut engine = DistanceTable::new(alloc, terms, rows)?;
     for (k, stage) in stages.iter().enumerate() {

@@ -43,8 +43,10 @@ impl Rings {
     pub fn push(&mut self) -> Result<u64, AllocError>
         ensures index { IfOk result (λ index. index ≡ length self.old) }
         ensures links { OnOk result (self.new ≡ self.old ++ length self.old ∷ []) }
-        ensures rings { OnOk result ((rs : List (List ℕ)) → IsRings self.old rs → IsRings self.new ((length self.old ∷ []) ∷ rs)) }
-        ensures together { OnOk result ((i j : ℕ) → IsTogether self.new i j ↔ (IsTogether self.old i j ⊎ ((i ≡ length self.old) × (j ≡ i)))) }
+        ensures rings { OnOk result ((rs : List (List ℕ)) → IsRings self.old rs
+            → IsRings self.new ((length self.old ∷ []) ∷ rs)) }
+        ensures together { OnOk result ((i j : ℕ) → IsTogether self.new i j
+            ↔ (IsTogether self.old i j ⊎ ((i ≡ length self.old) × (j ≡ i)))) }
         ensures refused { OnErr result (self.new ≡ self.old) }
     {
         let index = self.len();
@@ -72,8 +74,11 @@ impl Rings {
         requires a_in { a < length self.old }
         requires b_in { b < length self.old }
         requires apart { IsTogether self.old a b → ⊥ }
-        ensures rings { (p q : List ℕ) (rs : List (List ℕ)) → IsRings self.old ((a ∷ p) ∷ (b ∷ q) ∷ rs) → IsRings self.new ((a ∷ q ++ b ∷ p) ∷ rs) }
-        ensures together { (i j : ℕ) → IsTogether self.new i j ↔ (IsTogether self.old i j ⊎ ((IsTogether self.old i a × IsTogether self.old b j) ⊎ (IsTogether self.old i b × IsTogether self.old a j))) }
+        ensures rings { (p q : List ℕ) (rs : List (List ℕ)) → IsRings self.old ((a ∷ p) ∷ (b ∷ q) ∷ rs)
+            → IsRings self.new ((a ∷ q ++ b ∷ p) ∷ rs) }
+        ensures together { (i j : ℕ) → IsTogether self.new i j
+            ↔ (IsTogether self.old i j ⊎ ((IsTogether self.old i a × IsTogether self.old b j)
+            ⊎ (IsTogether self.old i b × IsTogether self.old a j))) }
         ensures links { self.new ≡ swap self.old a b }
         ensures len { length self.new ≡ length self.old }
     {
@@ -85,7 +90,8 @@ impl Rings {
     pub fn split_after(&mut self, a: u64, b: u64)
         requires differ { a ≢ b }
         requires together { IsTogether self.old a b }
-        ensures rings { (p q : List ℕ) (rs : List (List ℕ)) → IsRings self.old ((a ∷ q ++ b ∷ p) ∷ rs) → IsRings self.new ((a ∷ p) ∷ (b ∷ q) ∷ rs) }
+        ensures rings { (p q : List ℕ) (rs : List (List ℕ)) → IsRings self.old ((a ∷ q ++ b ∷ p) ∷ rs)
+            → IsRings self.new ((a ∷ p) ∷ (b ∷ q) ∷ rs) }
         ensures undoes { (before : List ℕ) → self.old ≡ swap before a b → self.new ≡ before }
         ensures links { self.new ≡ swap self.old a b }
         ensures len { length self.new ≡ length self.old }
@@ -104,7 +110,8 @@ impl Rings {
     /// The ring of `a`, from `a` on.
     pub fn walk(&self, a: u64) -> RingWalk<'_>
         requires { a < length self.now }
-        ensures ring { (p : List ℕ) × (rs : List (List ℕ)) × (result ≡ a ∷ p) × IsRings self.now ((a ∷ p) ∷ rs) }
+        ensures ring { (p : List ℕ) × (rs : List (List ℕ)) × (result ≡ a ∷ p)
+            × IsRings self.now ((a ∷ p) ∷ rs) }
         ensures members { (j : ℕ) → (0 < times j result) ↔ IsTogether self.now a j }
         ensures within { (j : ℕ) → 0 < times j result → j < length self.now }
     {

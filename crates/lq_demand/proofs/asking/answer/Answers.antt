@@ -3,7 +3,7 @@ use Rattle.lq_demand.specs.AskedView.{IsAnswer, StopsBy}
 use Rattle.std.proofs.Common.{[], sym, subst}
 use Rattle.lq_pred.specs.TableView.{terms_of}
 use Rattle.lq_demand.specs.Gathered.{AreProblems}
-use Rattle.lq_demand.specs.StageErrors.{NoneBefore}
+use Rattle.lq_demand.specs.EngineErrors.{NoneBefore}
 use Rattle.lq_demand.specs.LinesView.{lines_view}
 use Rattle.lq_demand.specs.Problem.{problems_of}
 use Rattle.lq_demand.specs.Straight.{implications_of}

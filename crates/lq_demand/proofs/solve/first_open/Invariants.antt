@@ -1,7 +1,7 @@
 use Rattle.std.proofs.Common.{◌≡◌, take}
 use Rattle.lq_diff.specs.Table.{table_rows}
 use Rattle.lq_demand.specs.Problem.{IsGoing, rows_in, known_in, problems_of}
-use Rattle.lq_demand.specs.StageErrors.{NoneBefore}
+use Rattle.lq_demand.specs.EngineErrors.{NoneBefore}
 use Rattle.lq_demand.proofs.solve.first_open.Given as goal
 
 abbrev pub ghost-is_open : goal.ghost-is_open

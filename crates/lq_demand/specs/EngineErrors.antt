@@ -2,8 +2,8 @@
 use Rattle.std.specs.Prelude.{◌≡◌, ◌<◌, ◌≤◌, ◌^◌, ℕ, List, Some, slice_get}
 use Rattle.lq_num.specs.Past.{IsPast}
 use Rattle.lq_demand.specs.Problem.{Problem, IsSolvable, problem_sizes}
-use Rattle.lq_demand.specs.declared.solve.StageError.{StageError}
-use Rattle.lq_demand.specs.declared.solve.StageError.TheVariants.{Number, OutOfMemory}
+use Rattle.lq_demand.specs.declared.solve.EngineError.{EngineError}
+use Rattle.lq_demand.specs.declared.solve.EngineError.TheVariants.{Number, OutOfMemory}
 
 -- no problem before this one is solvable
 abbrev pub NoneBefore : List Problem → ℕ → Type 0
@@ -24,10 +24,10 @@ pub record IsFirstUndecided (ps : List Problem) (k : ℕ) : Type 0 where
   pub sized : 2 ^ 126 ≤ problem_sizes problem
 
 -- this stage halts, by a problem whose sizes sum to n
-abbrev pub IsStageErrorAt : ℕ → ℕ → StageError → Type 0
-IsStageErrorAt k n (Number j e) = (j ≡ k) × IsPast e × (2 ^ 126 ≤ n)
-IsStageErrorAt k n OutOfMemory = Unit {0}
+abbrev pub IsEngineErrorAt : ℕ → ℕ → EngineError → Type 0
+IsEngineErrorAt k n (Number j e) = (j ≡ k) × IsPast e × (2 ^ 126 ≤ n)
+IsEngineErrorAt k n OutOfMemory = Unit {0}
 
-abbrev pub IsStageErrorOf : List Problem → StageError → Type 0
-IsStageErrorOf ps (Number k e) = IsPast e × IsFirstUndecided ps k
-IsStageErrorOf ps OutOfMemory = Unit {0}
+abbrev pub IsEngineErrorOf : List Problem → EngineError → Type 0
+IsEngineErrorOf ps (Number k e) = IsPast e × IsFirstUndecided ps k
+IsEngineErrorOf ps OutOfMemory = Unit {0}
