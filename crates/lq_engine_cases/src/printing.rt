@@ -54,39 +54,43 @@ fn push_symbol(out: &mut String, symbol: Symbol) -> Pushed {
     }
 }
 
-#[cycle(terms)]
-fn push_application(out: &mut String, name: &str, left: &Term, right: &Term) -> Pushed {
-    write!(out, "({name} ")?;
-    push_term(out, left)?;
-    out.push_str(" ")?;
-    push_term(out, right)?;
-    out.push_str(")")
-}
-
-#[cycle(terms)]
-fn push_one(out: &mut String, name: &str, inner: &Term) -> Pushed {
-    write!(out, "({name} ")?;
-    push_term(out, inner)?;
-    out.push_str(")")
+/// The word before the parts of a term, where it has any.
+fn push_head(out: &mut String, term: &Term) -> Pushed {
+    match term {
+        Term::Whole(_) | Term::Var(_) => Ok(()),
+        Term::Neg(_) => out.push_str("neg"),
+        Term::Add(_, _) => out.push_str("+"),
+        Term::Sub(_, _) => out.push_str("-"),
+        Term::Mul(_, _) => out.push_str("*"),
+        Term::Div(_, _) => out.push_str("/"),
+        Term::Mod(_, _) => out.push_str("%"),
+        Term::Length(_) => out.push_str("length"),
+        Term::Measure(name, _) => {
+            let number = name.0;
+            write!(out, "m{number}")
+        }
+    }
 }
 
 /// A term, as a case writes it.
-#[cycle(terms)]
 pub(crate) fn push_term(out: &mut String, term: &Term) -> Pushed {
     match term {
         Term::Whole(number) => write!(out, "{number}"),
         Term::Var(symbol) => push_symbol(out, *symbol),
-        Term::Neg(a) => push_one(out, "neg", a),
-        Term::Add(a, b) => push_application(out, "+", a, b),
-        Term::Sub(a, b) => push_application(out, "-", a, b),
-        Term::Mul(a, b) => push_application(out, "*", a, b),
-        Term::Div(a, b) => push_application(out, "/", a, b),
-        Term::Mod(a, b) => push_application(out, "%", a, b),
-        Term::Length(a) => push_one(out, "length", a),
-        Term::Measure(name, a) => {
-            let number = name.0;
-            write!(out, "(m{number} ")?;
+        Term::Neg(a) | Term::Length(a) | Term::Measure(_, a) => {
+            out.push_str("(")?;
+            push_head(out, term)?;
+            out.push_str(" ")?;
             push_term(out, a)?;
+            out.push_str(")")
+        }
+        Term::Add(a, b) | Term::Sub(a, b) | Term::Mul(a, b) | Term::Div(a, b) | Term::Mod(a, b) => {
+            out.push_str("(")?;
+            push_head(out, term)?;
+            out.push_str(" ")?;
+            push_term(out, a)?;
+            out.push_str(" ")?;
+            push_term(out, b)?;
             out.push_str(")")
         }
     }
@@ -124,11 +128,11 @@ pub(crate) fn push_reading(out: &mut String, nnf: &Nnf) -> Pushed {
 #[cycle(readings)]
 fn push_readings(out: &mut String, name: &str, inner: &Nnfs) -> Pushed {
     write!(out, "{name}(")?;
-    let mut separator = "";
-    for nnf in inner.as_slice() {
-        out.push_str(separator)?;
+    for (at, nnf) in inner.as_slice().iter().enumerate() {
+        if at > 0 {
+            out.push_str("; ")?;
+        }
         push_reading(out, nnf)?;
-        separator = "; ";
     }
     out.push_str(")")
 }
