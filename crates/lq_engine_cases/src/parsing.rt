@@ -38,6 +38,14 @@ fn comparison(word: &str) -> Option<CompareOp> {
     }
 }
 
+/// What stands for itself, where the term is that alone.
+fn variable(term: &Term) -> Option<Symbol> {
+    match term {
+        Term::Var(symbol) => Some(*symbol),
+        _ => None,
+    }
+}
+
 /// The name of a measure: `m7`.
 fn measure(word: &str) -> Option<Name> {
     Some(Name(word.strip_prefix('m')?.parse::<u32>().ok()?))
@@ -141,10 +149,10 @@ impl Stacks {
         match word {
             "true" => Ok(Some(Pred::True)),
             "false" => Ok(Some(Pred::False)),
-            "flag" => match self.term()? {
-                Term::Var(symbol) => Ok(Some(Pred::Flag(symbol))),
-                _ => Err(CaseError::NotACase),
-            },
+            "flag" => {
+                let term = self.term()?;
+                Ok(Some(Pred::Flag(given(variable(&term))?)))
+            }
             "same" => {
                 let left = self.term()?;
                 let right = self.term()?;
