@@ -3,8 +3,8 @@
 use crate::error::{CaseError, given};
 use crate::numbers::whole;
 use lq_name::{Binder, Name};
-use lq_pred::{CompareOp, Pred, Symbol, Term};
-use std::alloc::Global;
+use lq_pred::{CompareOp, Pred, Preds, Symbol, Term};
+use std::alloc::{AllocError, Global};
 
 /// What was read behind a word.
 #[derive(Drop)]
@@ -200,4 +200,13 @@ impl Stacks {
         }
         Ok(())
     }
+}
+
+/// The predicates in a row, the last one first.
+pub(crate) fn in_order(alloc: Global, mut preds: Vec<Pred>) -> Result<Preds, AllocError> {
+    let mut row = Preds::new(alloc)?;
+    while let Some(pred) = preds.pop() {
+        row.push(pred)?;
+    }
+    Ok(row)
 }

@@ -8,34 +8,69 @@ ghost use Rattle.lq_point.specs.Values.{numbers_of, table_of, values_of};
 use crate::askable::all_fit;
 use crate::error::{CaseError, given};
 use crate::numbers::fraction;
-use crate::parsing::{Stacks, symbol};
+use crate::parsing::{Stacks, in_order, symbol};
 use crate::words::{cut, words_of};
 use indexmap::IndexMap;
 use lq_num::Frac;
 use lq_point::{Point, PointError, PointValues, gathered_readings_can_be_evaluated, holds};
-use lq_pred::{Closed, Pred, Preds, Symbol, Term, tighten};
+use lq_pred::{Closed, Pred, Symbol, Term, tighten};
 use std::alloc::Global;
+
+/// What was read of an implication, from its last word on.
+#[derive(Drop)]
+struct Given {
+    stacks: Stacks,
+    known: Vec<Pred>,
+    asked: Option<Pred>,
+}
+
+impl Given {
+    fn take(&mut self, word: &str) -> Result<(), CaseError> {
+        match word {
+            "known" => {
+                let pred = self.stacks.pred()?;
+                self.known.push(pred)?;
+            }
+            "asked" => {
+                let pred = self.stacks.pred()?;
+                self.asked = Some(pred);
+            }
+            _ => self.stacks.take(word)?,
+        }
+        Ok(())
+    }
+
+    fn take_all(&mut self, words: &[&str]) -> Result<(), CaseError> {
+        for word in words.iter().rev() {
+            self.take(word)?;
+        }
+        Ok(())
+    }
+
+    fn into_parts(self) -> Result<(Vec<Pred>, Pred), CaseError> {
+        if !self.stacks.is_done() {
+            return Err(CaseError::NotACase);
+        }
+        let Given {
+            stacks: _,
+            known,
+            asked,
+        } = self;
+        Ok((known, given(asked)?))
+    }
+}
 
 /// The implication whose negated goal is what is asked, under what is known.
 fn implication(alloc: Global, words: &[&str]) -> Result<Closed, CaseError> {
-    let mut stacks = Stacks::new(alloc);
-    let mut known = Vec::new(alloc);
-    let mut asked = None;
-    for word in words.iter().rev() {
-        match *word {
-            "known" => known.push(stacks.pred()?)?,
-            "asked" => asked = Some(stacks.pred()?),
-            _ => stacks.take(word)?,
-        }
-    }
-    if !stacks.is_done() {
-        return Err(CaseError::NotACase);
-    }
-    let mut hypotheses = Preds::new(alloc)?;
-    while let Some(pred) = known.pop() {
-        hypotheses.push(pred)?;
-    }
-    let goal = Pred::Not(Box::new(alloc, given(asked)?)?);
+    let mut reading = Given {
+        stacks: Stacks::new(alloc),
+        known: Vec::new(alloc),
+        asked: None,
+    };
+    reading.take_all(words)?;
+    let (known, asked) = reading.into_parts()?;
+    let goal = Pred::Not(Box::new(alloc, asked)?);
+    let hypotheses = in_order(alloc, known)?;
     Ok(Closed { hypotheses, goal })
 }
 

@@ -3,7 +3,7 @@ use crate::error::{CaseError, given};
 use crate::numbers::whole;
 use crate::parsing::Stacks;
 use crate::printing::{push_reading, push_row, push_term};
-use lq_pred::{Closed, Preds, TermTable, gather, tighten};
+use lq_pred::{Closed, Pred, Preds, TermTable, gather, tighten};
 use std::alloc::Global;
 
 /// The tightened reading of a copy of the predicate, over a table of its own.
@@ -43,19 +43,22 @@ pub(crate) fn gathered(alloc: Global, words: &[&str]) -> Result<String, CaseErro
     Ok(out)
 }
 
-/// The terms of an implication, in the order of their numbers.
-pub(crate) fn numbered(alloc: Global, words: &[&str]) -> Result<String, CaseError> {
-    let mut out = String::new(alloc);
-    let mut stacks = Stacks::new(alloc);
-    stacks.take_all(words)?;
-    let mut preds = Preds::new(alloc)?;
-    let mut left = stacks.into_preds()?;
-    let mut goal = given(left.pop())?;
-    while let Some(next) = left.pop() {
-        preds.push(goal)?;
+/// The implication of predicates that stand in a row with the first one last: its goal is the last one.
+fn implication_of(alloc: Global, mut preds: Vec<Pred>) -> Result<Closed, CaseError> {
+    let mut hypotheses = Preds::new(alloc)?;
+    let mut goal = given(preds.pop())?;
+    while let Some(next) = preds.pop() {
+        hypotheses.push(goal)?;
         goal = next;
     }
-    let hypotheses = preds.copy(alloc)?;
+    Ok(Closed { hypotheses, goal })
+}
+
+/// The terms of an implication, of whose hypotheses a copy is taken, in the order of their numbers.
+fn terms_text(alloc: Global, implication: Closed) -> Result<String, CaseError> {
+    let mut out = String::new(alloc);
+    let Closed { hypotheses, goal } = implication;
+    let hypotheses = hypotheses.copy(alloc)?;
     let table = Closed { hypotheses, goal }.terms(alloc)?;
     for at in 0..table.len() {
         if at > 0 {
@@ -64,4 +67,12 @@ pub(crate) fn numbered(alloc: Global, words: &[&str]) -> Result<String, CaseErro
         push_term(&mut out, table.term(at))?;
     }
     Ok(out)
+}
+
+/// The terms of the implication whose goal is the last predicate of the words.
+pub(crate) fn numbered(alloc: Global, words: &[&str]) -> Result<String, CaseError> {
+    let mut stacks = Stacks::new(alloc);
+    stacks.take_all(words)?;
+    let implication = implication_of(alloc, stacks.into_preds()?)?;
+    terms_text(alloc, implication)
 }
