@@ -137,19 +137,25 @@ fn lines_of(alloc: Global, words: &[&str]) -> Result<Lines, CaseError>
     Ok(lines)
 }
 
+/// What was answered about a list.
+fn push_answer(out: &mut String, asked: &Asked) -> Result<(), AllocError> {
+    match asked {
+        Asked::Valid => out.push_str("valid"),
+        Asked::Fails(demand, _) => write!(out, "demand {demand} fails"),
+        Asked::Stops(demand, Stop::Gather(_)) => write!(out, "demand {demand} can't be gathered"),
+        Asked::Stops(demand, Stop::Number(_)) => {
+            write!(out, "demand {demand} meets a number past 128 bits")
+        }
+        Asked::Stops(demand, Stop::Pivots(_)) => write!(out, "demand {demand} spends the pivots"),
+        Asked::Stops(demand, Stop::Memory) => write!(out, "demand {demand} wants memory"),
+    }
+}
+
 /// What is found about the demands of a list.
 pub(crate) fn demands(alloc: Global, words: &[&str]) -> Result<String, CaseError> {
     let mut out = String::new(alloc);
     let lines = lines_of(alloc, words)?;
-    match ask(alloc, &lines)? {
-        Asked::Valid => out.push_str("valid")?,
-        Asked::Fails(demand, _) => write!(out, "demand {demand} fails")?,
-        Asked::Stops(demand, Stop::Gather(_)) => write!(out, "demand {demand} can't be gathered")?,
-        Asked::Stops(demand, Stop::Number(_)) => {
-            write!(out, "demand {demand} meets a number past 128 bits")?
-        }
-        Asked::Stops(demand, Stop::Pivots(_)) => write!(out, "demand {demand} spends the pivots")?,
-        Asked::Stops(demand, Stop::Memory) => write!(out, "demand {demand} wants memory")?,
-    }
+    let asked = ask(alloc, &lines)?;
+    push_answer(&mut out, &asked)?;
     Ok(out)
 }
