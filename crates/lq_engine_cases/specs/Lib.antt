@@ -1,2 +1,0 @@
-pub mod Askable
-pub mod Rows
