@@ -19,7 +19,7 @@ use Rattle.lq_cong.proofs.Labels.{term-numbered, length-numbered}
 symbol-is : (x y : Symbol) → same_symbol x y ≡ true → x ≡ y
 symbol-is x y h = let e = same-is (var x) (var y) h in cc
 
-head-is : (h k : Head) → same_head h k ≡ true → h ≡ k
+pub head-is : (h k : Head) → same_head h k ≡ true → h ≡ k
 head-is (Named x) (Named y) h = ap Named (symbol-is x y h)
 head-is Length Length h = refl
 head-is (Measure f) (Measure g) h = ap (λ n. Measure (record { 0 = n })) (eqb-true f.0 g.0 h)
@@ -30,7 +30,7 @@ head-is Length (Measure g) h = cc
 head-is (Measure f) (Named y) h = cc
 head-is (Measure f) Length h = cc
 
-head-refl : (h : Head) → same_head h h ≡ true
+pub head-refl : (h : Head) → same_head h h ≡ true
 head-refl (Named x) = same-refl (var x)
 head-refl Length = refl
 head-refl (Measure f) = eq-eqb f.0 f.0 refl

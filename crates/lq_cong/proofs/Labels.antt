@@ -23,7 +23,7 @@ length-numbered n (t ∷ ts) = ap suc (length-numbered (suc n) ts)
 
 -- ---- the classes hold what is the same
 
-map-same : (labels : List ℕ) (xs ys : List ℕ) → length xs ≡ length ys → ((k : ℕ) → k < length xs → get_or labels (get_or xs k 0) 0 ≡ get_or labels (get_or ys k 0) 0) → map (λ a. get_or labels a 0) xs ≡ map (λ a. get_or labels a 0) ys
+pub map-same : (labels : List ℕ) (xs ys : List ℕ) → length xs ≡ length ys → ((k : ℕ) → k < length xs → get_or labels (get_or xs k 0) 0 ≡ get_or labels (get_or ys k 0) 0) → map (λ a. get_or labels a 0) xs ≡ map (λ a. get_or labels a 0) ys
 map-same labels [] [] l h = refl
 map-same labels [] (y ∷ ys) l h = absurd (omega arith)
 map-same labels (x ∷ xs) [] l h = absurd (omega arith)

@@ -6,3 +6,12 @@ pub mod Walks
 pub mod Moving
 pub mod Undone
 pub mod Trail
+pub mod Longer
+pub mod Stories
+pub mod Growing
+pub mod Following
+pub mod Clashes
+pub mod Users
+pub mod Numbers
+pub mod Pairs
+pub mod Members

@@ -36,12 +36,13 @@ steps-append (x ∷ xs) ys = ap (λ l. step_of x ++ l) (steps-append xs ys) ∙ 
 pub beside-both : (s t u : State) → IsBeside s t → IsBeside t u → IsBeside s u
 beside-both s t u h k = record { known = k.known ∙ h.known; uses = k.uses ∙ h.uses; sizes = k.sizes ∙ h.sizes; steps = k.steps ∙ h.steps }
 
-pub goes-nowhere : (s t : State) → IsAsBefore s t → Goes s t
-goes-nowhere s t h = record {
+pub goes-nowhere : (s t : State) → IsShaped (core_of s) → IsAsBefore s t → Goes s t
+goes-nowhere s t k h = record {
   entries = [];
   trail = h.trail ∙ sym (append-nil s.trail.items);
   steps = refl;
   leads = sym h.core;
+  shaped = (let P : Core → Type 0 = λ c. IsShaped c in subst P (sym h.core) k);
   coarser = λ i j k l e. (let P : Core → Type 0 = λ c. get_or c.labels i 0 ≡ get_or c.labels j 0 in subst P (sym h.core) e);
   beside = h.beside;
 }
@@ -52,6 +53,7 @@ goes-on s t u h k = record {
   trail = k.trail ∙ ap (λ l. l ++ k.entries) h.trail ∙ append_assoc s.trail.items h.entries k.entries;
   steps = steps-append h.entries k.entries ∙ ap₂ (λ x y. x ++ y) h.steps k.steps;
   leads = leads-append h.entries k.entries (core_of s) (core_of t) (core_of u) h.leads k.leads;
+  shaped = k.shaped;
   coarser = λ i j l m e. (let n = ap length h.beside.known in k.coarser i j (omega arith) (omega arith) (h.coarser i j l m e));
   beside = beside-both s t u h.beside k.beside;
 }
@@ -69,6 +71,7 @@ united s t kept moved queue more h u =
         trail = u.trail;
         steps = refl;
         leads = (core_of t, h, u.joined, refl);
+        shaped = shaped-joined (core_of s) (core_of t) kept moved j u.rings;
         coarser = coarser (core_of s) (core_of t) kept moved j;
         beside = u.beside;
       },
@@ -154,7 +157,7 @@ working-skip s queue rest term e k w = record {
   ];
 }
 
-with-pair : (c : Core) (l m i : ℕ) → IsFound c 0 0 i → IsFound c l m i
+pub with-pair : (c : Core) (l m i : ℕ) → IsFound c 0 0 i → IsFound c l m i
 with-pair c l m i f = record { by = f.by; found = f.found; within = f.within; label = inl (elim f.label [ inl e ↦ e | inr p ↦ p.1 ∙ sym p.0 ]) }
 
 pub working-found : (s : State) (queue rest : List ℕ) (term by : ℕ) (l m : ℕ) → queue ≡ rest ++ term ∷ [] → IsWorking s queue 0 0 → term < length s.known
@@ -198,6 +201,7 @@ files-goes s t term h k f = record {
   trail = f.trail;
   steps = refl;
   leads = (core_of t, h, f.now, refl);
+  shaped = shaped-filed (core_of s) (core_of t) term f.now f.entry h k;
   coarser = λ i j l m e. (let P : List ℕ → Type 0 = λ ls. get_or ls i 0 ≡ get_or ls j 0 in subst P (sym f.now.labels) e);
   beside = f.beside;
 }
@@ -315,7 +319,7 @@ seen s t queue rest term by p e w k h i =
     let within = (let z : by < length t.labels.items = omega (arith, ap length labels, w.sound.shaped.labelled, g.1) in z) in
     let at : (j x : ℕ) → j < length t.labels.items → x ≡ get_or t.labels.items j x → x ≡ get_or s.labels.items j 0 = λ j x l q. q ∙ get_or_default_zero t.labels.items j x l ∙ ap (λ ls. get_or ls j 0) labels in
     record {
-      goes = goes-nowhere s t same;
+      goes = goes-nowhere s t w.sound.shaped same;
       labels = labels;
       term_in = term_in;
       within = within;

@@ -25,7 +25,7 @@ symbol-eq (Bound x) (Position j) = refl
 symbol-eq (Position i) Value = refl
 symbol-eq (Position i) (Bound y) = refl
 
-head-eq : (h k : Head) → (heads.ghosts).eq h k ≡ same_head h k
+pub head-eq : (h k : Head) → (heads.ghosts).eq h k ≡ same_head h k
 head-eq (Named x) (Named y) = symbol-eq x y
 head-eq Length Length = refl
 head-eq (Measure f) (Measure g) = refl

@@ -1,12 +1,12 @@
 -- The trail, entry by entry.
-use Rattle.std.proofs.Common.{◌≡◌, ℕ, ◌+◌, ◌-◌, List, [], ◌∷◌, ◌++◌, length, refl, sym, ap, ◌∙◌, subst, arith, length-append}
+use Rattle.std.proofs.Common.{◌≡◌, ℕ, ◌+◌, ◌-◌, ◌≤◌, List, [], ◌∷◌, ◌++◌, length, refl, sym, ap, ◌∙◌, subst, arith, length-append}
 use Rattle.lq_cong.specs.Core.{Core, IsShaped}
 use Rattle.lq_cong.specs.Standing.{core_of, step_of, steps_of, HasUses, Does}
 use Rattle.lq_cong.specs.Moves.{IsInOrder, LastLed}
 use Rattle.lq_cong.specs.declared.head.Head.{Head}
 use Rattle.lq_cong.specs.declared.steps.Step.{Step}
 use Rattle.lq_cong.specs.declared.steps.Step.TheVariants.{Added, Merged, Differed}
-use Rattle.lq_cong.specs.declared.steps.Entry.TheVariants.{Done}
+use Rattle.lq_cong.specs.declared.steps.Entry.TheVariants.{Done, Joined, Filed}
 use Rattle.lq_cong.specs.declared.steps.Entry.{Entry}
 use Rattle.lq_cong.specs.declared.state.State.{State}
 use Rattle.lq_cong.proofs.Moving.{steps-append}
@@ -14,6 +14,15 @@ use Rattle.lq_cong.proofs.Undone.{snoc-front, snoc-last}
 
 pub steps-last : (before : List Entry) (e : Entry) → length (steps_of (before ++ e ∷ [])) ≡ length (steps_of before) + length (step_of e)
 steps-last before e = omega (arith, ap length (steps-append before (e ∷ [])), length-append (steps_of before) (step_of e ++ []), length-append (step_of e) ([]))
+
+pub steps-few : (es : List Entry) → length (steps_of es) ≤ length es
+steps-few [] = omega arith
+steps-few (e ∷ es) = omega (arith, length-append (step_of e) (steps_of es), steps-few es, one e)
+  where
+    one : (e : Entry) → length (step_of e) ≤ 1
+    one (Done s) = omega arith
+    one (Joined k m) = omega arith
+    one Filed = omega arith
 
 pub order-after : (s t : State) (led : LastLed s) → IsInOrder s → core_of t ≡ led.from → t.trail.items ≡ led.before → HasUses t.known t.uses.items → length t.sizes.items ≡ length t.known → t.steps ≡ s.steps - length (step_of led.entry) → IsInOrder t
 order-after s t led h core trail uses sizes steps =

@@ -11,7 +11,7 @@ pub walk-split : (s xs t : List ℕ) → Yields (YieldsFirst (λ (w : List ℕ).
 walk-split s [] t y = y
 walk-split s (x ∷ xs) t y = y.1 ∙ ap (λ l. x ∷ l) (walk-split y.0 xs t y.2)
 
-times-append : (i : ℕ) (xs ys : List ℕ) → times i (xs ++ ys) ≡ times i xs + times i ys
+pub times-append : (i : ℕ) (xs ys : List ℕ) → times i (xs ++ ys) ≡ times i xs + times i ys
 times-append i [] ys = omega arith
 times-append i (x ∷ xs) ys = omega (arith, times-append i xs ys)
 

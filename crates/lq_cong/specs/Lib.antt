@@ -4,3 +4,4 @@ pub mod Steps
 pub mod Core
 pub mod Standing
 pub mod Moves
+pub mod Implied

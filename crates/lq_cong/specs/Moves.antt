@@ -1,12 +1,13 @@
 -- What the private calls do to the parts.
-use Rattle.std.specs.Prelude.{◌≡◌, ◌≢◌, ◌⊎◌, ◌↔◌, ℕ, suc, ◌+◌, ◌<◌, cond, eqb, List, [], ◌∷◌, ◌++◌, length, slice_index, None}
+use Rattle.std.specs.Prelude.{◌≡◌, ◌≢◌, ◌⊎◌, ◌↔◌, ℕ, suc, ◌+◌, ◌<◌, cond, eqb, List, [], ◌∷◌, ◌++◌, length, slice_index, slice_index_or, None}
 use Rattle.lq_ring.specs.Ring.{IsTogether, times}
-use Rattle.lq_cong.specs.Terms.{find_in, term_in}
+use Rattle.lq_cong.specs.Terms.{Term, find_in, term_in}
 use Rattle.lq_cong.specs.Steps.{IsSame}
 use Rattle.lq_cong.specs.Core.{Core, IsShaped, AllFound, signature}
-use Rattle.lq_cong.specs.Standing.{core_of, steps_of, HasUses, IsJoined, IsFiledNow, IsSound, Does, Leads}
+use Rattle.lq_cong.specs.Standing.{core_of, steps_of, HasUses, IsAdded, IsJoined, IsFiledNow, IsSound, Does, StepDoes, Leads}
 use Rattle.lq_cong.specs.declared.steps.Entry.{Entry}
-use Rattle.lq_cong.specs.declared.steps.Entry.TheVariants.{Joined, Filed}
+use Rattle.lq_cong.specs.declared.steps.Entry.TheVariants.{Done, Joined, Filed}
+use Rattle.lq_cong.specs.declared.steps.Step.{Step}
 use Rattle.lq_cong.specs.declared.state.State.{State}
 
 -- two rings became one
@@ -54,6 +55,7 @@ pub record Goes (s t : State) : Type 0 where
   pub trail : t.trail.items ≡ s.trail.items ++ entries
   pub steps : steps_of entries ≡ []
   pub leads : Leads entries (core_of s) (core_of t)
+  pub shaped : IsShaped (core_of t)
   pub coarser : (i j : ℕ) → i < length s.known → j < length s.known → slice_index s.labels.items i ≡ slice_index s.labels.items j → slice_index t.labels.items i ≡ slice_index t.labels.items j
   pub beside : IsBeside s t
 
@@ -108,3 +110,34 @@ pub record LedFrom (s : State) (n : ℕ) : Type 0 where
   pub long : length base ≡ n
   pub from : Core
   pub leads : Leads entries from (core_of s)
+
+-- what the entries past a length did is undone
+abbrev pub GoesBack : State → State → ℕ → Type 0
+GoesBack s t n = (base entries : List Entry) (from : Core) → s.trail.items ≡ base ++ entries → length base ≡ n
+    → Leads entries from (core_of s) → (t.trail.items ≡ base) × (core_of t ≡ from)
+
+-- nothing that counts has changed, though terms may be listed as users that aren't
+pub record IsBack (s t : State) : Type 0 where
+  pub core : core_of t ≡ core_of s
+  pub trail : t.trail.items ≡ s.trail.items
+  pub uses : HasUses t.known t.uses.items
+  pub sizes : length t.sizes.items ≡ length t.known
+  pub steps : t.steps ≡ s.steps
+
+-- one step more, and what it does by itself
+pub record Steps (s t : State) (step : Step) : Type 0 where
+  pub did : StepDoes step (core_of s) (core_of t)
+  pub trail : t.trail.items ≡ s.trail.items ++ Done step ∷ []
+  pub order : IsInOrder t
+
+-- one term more, with its users
+pub record Grows (s t : State) (term : Term) (step : Step) (users : List ℕ) : Type 0 where
+  pub added : IsAdded term (core_of s) (core_of t)
+  pub rings : (i j : ℕ) → IsTogether t.rings i j ↔ (IsTogether s.rings i j ⊎ ((i ≡ length s.rings) × (j ≡ i)))
+  pub trail : t.trail.items ≡ s.trail.items ++ Done step ∷ []
+  pub uses : t.uses.items ≡ s.uses.items ++ users ∷ []
+  pub sizes : length t.sizes.items ≡ length s.sizes.items + 1
+  pub steps : t.steps ≡ s.steps + 1
+
+abbrev pub KeepsUses : List (List ℕ) → List (List ℕ) → Type 0
+KeepsUses old new = (a i : ℕ) → 0 < times i (slice_index_or old a []) → 0 < times i (slice_index_or new a [])

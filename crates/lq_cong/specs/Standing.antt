@@ -2,7 +2,7 @@
 use Rattle.std.specs.Prelude.{◌≡◌, ◌≢◌, ℕ, suc, ◌<◌, List, [], ◌∷◌, ◌++◌, length, swap, slice_index, slice_index_or}
 use Rattle.lq_ring.specs.Ring.{times}
 use Rattle.lq_cong.specs.Terms.{Term, term_in}
-use Rattle.lq_cong.specs.Steps.{terms_of, IsMerge, IsSame}
+use Rattle.lq_cong.specs.Steps.{terms_of, IsMerge, IsDifference, IsSame}
 use Rattle.lq_cong.specs.Core.{Core, empty, relabelled, IsShaped, AllFound}
 use Rattle.lq_cong.specs.declared.steps.Step.{Step}
 use Rattle.lq_cong.specs.declared.steps.Step.TheVariants.{Added, Merged, Differed}
@@ -79,10 +79,14 @@ pub record IsSound (steps : List Step) (c : Core) : Type 0 where
 abbrev pub MergesMet : List Step → Core → Type 0
 MergesMet steps c = (a b reason : ℕ) → IsMerge steps a b reason → (a < length c.known) × (b < length c.known) × (slice_index c.labels a ≡ slice_index c.labels b)
 
+abbrev pub DifferencesIn : List Step → Core → Type 0
+DifferencesIn steps c = (a b : ℕ) → IsDifference steps a b → (a < length c.known) × (b < length c.known)
+
 -- the labels are the classes of the congruence
 pub record IsExact (steps : List Step) (c : Core) : Type 0 where
   pub is : IsSound steps c
   pub merges : MergesMet steps c
+  pub differences : DifferencesIn steps c
   pub found : AllFound c 0 0 []
 
 -- before a step the labels were the classes

@@ -2,7 +2,7 @@
 use Rattle.std.specs.Prelude.{◌≡◌, ℕ, zero, suc, ◌<◌, ◌⊎◌, List, [], ◌∷◌, length, slice_index}
 use Rattle.lq_cong.specs.Terms.{Term}
 use Rattle.lq_cong.specs.declared.head.Head.{Head}
-use Rattle.lq_cong.specs.declared.head.Head.TheVariants.{Length}
+use Rattle.lq_cong.specs.declared.head.Head.TheVariants.{Symbol, Length, Measure}
 use Rattle.lq_cong.specs.declared.steps.Step.{Step}
 use Rattle.lq_cong.specs.declared.steps.Step.TheVariants.{Added, Merged, Differed}
 
@@ -21,6 +21,12 @@ term_at (t ∷ ts) (suc i) = term_at ts i
 
 abbrev pub IsTerm : List Step → ℕ → Term → Type 0
 IsTerm steps i t = (i < length (terms_of steps)) × (term_at (terms_of steps) i ≡ t)
+
+-- a name, and no application
+abbrev pub IsNamed : Head → Type 0
+IsNamed (Symbol x) = Unit {0}
+IsNamed Length = ⊥
+IsNamed (Measure f) = ⊥
 
 -- the two were merged for this reason
 abbrev pub IsMerge : List Step → ℕ → ℕ → ℕ → Type 0

@@ -1,9 +1,17 @@
 // The classes as callers see them.
-ghost use Rattle.std.specs.Prelude.{◌≡◌, ◌↔◌, ◌<◌, [], length, IfOk, IsTrue};
-ghost use Rattle.lq_cong.specs.Steps.{IsSame, terms_of};
+ghost use Rattle.std.specs.Prelude.{◌≡◌, ◌⊎◌, ◌↔◌, ℕ, ◌<◌, ◌≤◌, [], ◌∷◌, ◌++◌, length, take, IfOk, IfSome, IfNone, OnOk, OnErr, IsTrue};
+ghost use Rattle.lq_cong.specs.Core.{AllBelow};
+ghost use Rattle.lq_cong.specs.Implied.{IsImplied, pair_times};
+ghost use Rattle.lq_cong.specs.Steps.{IsDifference, IsNamed, IsSame, IsTerm, terms_of};
+ghost use Rattle.lq_cong.specs.declared.steps.Step.TheVariants.{Added, Merged, Differed};
 
+use crate::differing::first_clash;
+use crate::head::Head;
+use crate::ids::Ids;
+use crate::implied::Implied;
 use crate::state::State;
-use crate::table::Table;
+use crate::steps::Pair;
+use crate::table::{Key, Table};
 use lq_pred::Mark;
 use lq_ring::Rings;
 use std::alloc::{AllocError, Global};
@@ -48,6 +56,55 @@ impl Classes {
         })
     }
 
+    /// The number of the term with this head and these arguments, which is added where there is none.
+    pub fn add_term(&mut self, head: Head, args: &Ids) -> Result<u64, AllocError>
+        requires known { AllBelow (length (terms_of self.old)) args.now }
+        requires symbol { IsNamed head → args.now ≡ [] }
+        ensures ok { IfOk result (λ term. (self.new ≡ self.old × IsTerm self.old term (head, args.now))
+            ⊎ ((self.new ≡ self.old ++ Added head args.now ∷ []) × (term ≡ length (terms_of self.old))
+            × ((i : ℕ) → IsTerm self.old i (head, args.now) → ⊥))) }
+        ensures err { OnErr result (self.new ≡ self.old) }
+    {
+        let key = Key {
+            head,
+            args: args.to_vec(self.state.alloc)?,
+        };
+        if let Some(term) = self.state.known.find(&key) {
+            return Ok(term);
+        }
+        let term = self.len();
+        let args = args.copy(self.state.alloc)?;
+        self.state.add_new(key, args)?;
+        Ok(term)
+    }
+
+    /// Makes two terms the same, for a reason of the caller's.
+    pub fn merge(&mut self, a: u64, b: u64, reason: u64) -> Result<(), AllocError>
+        requires a_in { a < length (terms_of self.old) }
+        requires b_in { b < length (terms_of self.old) }
+        ensures ok { OnOk result (self.new ≡ self.old ++ Merged a b reason ∷ []) }
+        ensures err { OnErr result (self.new ≡ self.old) }
+    {
+        self.state.merge(a, b, reason)
+    }
+
+    /// Says that two terms differ. Whether they can is what `conflict` answers.
+    pub fn differ(&mut self, a: u64, b: u64) -> Result<(), AllocError>
+        requires a_in { a < length (terms_of self.old) }
+        requires b_in { b < length (terms_of self.old) }
+        ensures ok { OnOk result (self.new ≡ self.old ++ Differed a b ∷ []) }
+        ensures err { OnErr result (self.new ≡ self.old) }
+    {
+        self.state.differ(a, b)
+    }
+
+    /// How many terms there are.
+    pub fn len(&self) -> u64
+        ensures { result ≡ length (terms_of self.now) }
+    {
+        self.state.known.len() as u64
+    }
+
     /// Whether two terms are the same.
     pub fn same(&self, a: u64, b: u64) -> bool
         requires a_in { a < length (terms_of self.now) }
@@ -55,6 +112,37 @@ impl Classes {
         ensures { IsTrue result ↔ IsSame self.now a b }
     {
         self.state.labels[a as usize] == self.state.labels[b as usize]
+    }
+
+    /// Two terms that were told to differ and are the same. It looks at each step.
+    pub fn conflict(&self) -> Option<Pair>
+        ensures some { IfSome result (λ p. IsDifference self.now p.left p.right
+            × IsSame self.now p.left p.right) }
+        ensures none { IfNone result ((a b : ℕ) → IsDifference self.now a b → IsSame self.now a b → ⊥) }
+    {
+        first_clash(&self.state.trail, &self.state.labels)
+    }
+
+    /// The pairs of applications of one head whose arguments are the same. It looks at the pairs of each
+    /// class.
+    pub fn implied(&self) -> Implied<'_>
+        ensures each { (i j : ℕ) → (0 < pair_times i j result) ↔ IsImplied self.now i j }
+        ensures once { (i j : ℕ) → pair_times i j result ≤ 1 }
+    {
+        Implied {
+            state: &self.state,
+            count: self.state.rings.len(),
+            left: 0,
+            walk: None,
+        }
+    }
+
+    /// Takes back the last steps, until as many stand as when the mark was made.
+    pub fn back_to(&mut self, mark: Mark)
+        requires { mark.0 ≤ length self.old }
+        ensures { self.new ≡ take mark.0 self.old }
+    {
+        self.state.back_to(mark.0)
     }
 
     /// How many steps stand.

@@ -1,5 +1,5 @@
 // Numbers of terms in a row.
-ghost use Rattle.std.specs.Prelude.{◌≡◌, [], ◌∷◌, ◌++◌, length, slice_get, ◌⊎◌, option_copied, IsOkAnd, OnOk, OnErr};
+ghost use Rattle.std.specs.Prelude.{◌≡◌, [], ◌∷◌, ◌++◌, length, slice_get, ◌⊎◌, option_copied, IfOk, IsOkAnd, OnOk, OnErr};
 
 use std::alloc::{AllocError, Global};
 use std::marker::Model;
@@ -45,6 +45,22 @@ impl Ids {
     {
         self.items.push(item)?;
         Ok(())
+    }
+
+    /// The same numbers again.
+    pub fn copy(&self, alloc: Global) -> Result<Ids, AllocError>
+        ensures { IfOk result (λ ids. ids ≡ self.now) }
+    {
+        Ok(Ids {
+            items: self.to_vec(alloc)?,
+        })
+    }
+
+    // The numbers in a vector.
+    pub(crate) fn to_vec(&self, alloc: Global) -> Result<Vec<u64>, AllocError>
+        ensures { IfOk result (λ v. v.items ≡ self.now) }
+    {
+        self.items.iter().copied().collect(alloc)
     }
 
     // The numbers.

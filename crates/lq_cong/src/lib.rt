@@ -1,12 +1,16 @@
 //! Classes of terms under the least congruence, with undo.
 #![tactic(auto)]
 
+mod adding;
 mod classes;
 mod closing;
+mod differing;
 mod head;
 mod ids;
+mod implied;
 mod joining;
 mod state;
+mod stepping;
 mod steps;
 mod table;
 mod undoing;
@@ -14,4 +18,5 @@ mod undoing;
 pub use classes::Classes;
 pub use head::Head;
 pub use ids::Ids;
-pub use steps::Step;
+pub use implied::Implied;
+pub use steps::{Pair, Step};

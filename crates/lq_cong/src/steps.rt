@@ -13,6 +13,13 @@ pub enum Step {
     Differed(u64, u64),
 }
 
+/// Two terms.
+#[derive(Clone, Copy, Debug, PartialEq, Eq)]
+pub struct Pair {
+    pub left: u64,
+    pub right: u64,
+}
+
 /// A step, or a part of what followed from it.
 #[derive(Drop)]
 pub(crate) enum Entry {

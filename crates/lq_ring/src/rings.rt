@@ -64,7 +64,8 @@ impl Rings {
 
     /// How many indexes there are.
     pub fn len(&self) -> u64
-        ensures { result ≡ length self.now }
+        ensures len { result ≡ length self.now }
+        ensures rings { (rs : List (List ℕ)) × IsRings self.now rs }
     {
         self.next.len() as u64
     }
@@ -96,7 +97,8 @@ impl Rings {
         ensures links { self.new ≡ swap self.old a b }
         ensures len { length self.new ≡ length self.old }
     {
-        self.next.swap(a as usize, b as usize);
+        let (a, b) = (a as usize, b as usize);
+        self.next.swap(a, b);
     }
 
     /// Whether two indexes are in one ring. It walks round the ring of `a`.

@@ -14,7 +14,7 @@ returns-in_err-left-clause-goes c = goes-on c.args.self.now c.loop-left.self c.n
 pub returns-in_err-join-clause-goes : goal.returns-in_err-join-clause-goes
 returns-in_err-join-clause-goes c =
     goes-on c.args.self.now c.loop-left.self c.join.new.self c.loop-left.invariant.goes
-    (goes-on c.loop-left.self c.next_clash.new.self c.join.new.self c.next_clash.ensures.goes (goes-nowhere c.next_clash.new.self c.join.new.self c.in_err-join.ensures.err))
+    (goes-on c.loop-left.self c.next_clash.new.self c.join.new.self c.next_clash.ensures.goes (goes-nowhere c.next_clash.new.self c.join.new.self c.next_clash.ensures.goes.shaped c.in_err-join.ensures.err))
 
 joined : (s t : State) (p : Option (ℕ × ℕ)) (l r : ℕ) (queue more : List ℕ) → IfSome p (λ q. IsWorking s queue q.0 q.1 × IsClash s q.0 q.1) → p ≡ Some (l, r) → (Unites s t l r queue more) ⊎ (Unites s t r l queue more) → Goes s t × IsWorking t more 0 0 × (roots 0 t.labels.items < roots 0 s.labels.items)
 joined s t p l r queue more h e u =

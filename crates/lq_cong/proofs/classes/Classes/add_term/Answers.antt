@@ -1,0 +1,37 @@
+-- A term that is found, or a new one.
+use Rattle.std.proofs.Common.{◌≡◌, inl, inr, ℕ, List, [], ◌∷◌, ◌++◌, length, refl, sym, ap, ap₂, ◌∙◌, subst}
+use Rattle.lq_cong.specs.Terms.{find_in}
+use Rattle.lq_cong.specs.Steps.{terms_of}
+use Rattle.lq_cong.specs.Core.{AllBelow}
+use Rattle.lq_cong.specs.Standing.{IsExact, core_of, steps_of}
+use Rattle.lq_cong.specs.declared.steps.Step.{Step}
+use Rattle.lq_cong.specs.declared.steps.Step.TheVariants.{Added}
+use Rattle.lq_cong.proofs.Following.{terms-known}
+use Rattle.lq_cong.proofs.Numbers.{found-term, no-term}
+use Rattle.lq_cong.proofs.classes.Classes.add_term.Goals as goal
+
+pub returns-in-Some-clause-ok : goal.returns-in-Some-clause-ok
+returns-in-Some-clause-ok c =
+    let s = c.self.inside.state in
+    let P : List Step → Type 0 = λ l. IsExact l (core_of s) in
+    let exact = subst P c.self.view_is c.self.invariant.exact in
+    inl (refl, found-term c.args.self.now (core_of s) (c.args.head, c.args.args.now) c.in-Some.term exact (ap (λ l. find_in s.known (c.args.head, l)) (sym c.in_ok-to_vec.ensures) ∙ sym c.find.ensures ∙ c.in-Some.is))
+
+pub add_new-requires-clause-known : goal.add_new-requires-clause-known
+add_new-requires-clause-known c =
+    let s = c.self.inside.state in
+    let long : length (terms_of c.args.self.now) ≡ length s.known = ap (λ l. length (terms_of l)) (sym c.self.view_is) ∙ terms-known (steps_of s.trail.items) (core_of s) c.self.invariant.exact in
+    let P : ℕ → Type 0 = λ n. AllBelow n c.args.args.now in
+    let Q : List ℕ → Type 0 = λ l. AllBelow (length s.known) l in
+    subst Q (sym c.in_ok-args.ensures) (subst P long c.requires.known)
+
+pub returns-clause-ok : goal.returns-clause-ok
+returns-clause-ok c =
+    let s = c.self.inside.state in
+    let P : List Step → Type 0 = λ l. IsExact l (core_of s) in
+    let exact = subst P c.self.view_is c.self.invariant.exact in
+    inr (
+      c.in_ok-add_new.ensures.ok ∙ ap₂ (λ ss xs. ss ++ Added c.args.head xs ∷ []) c.self.view_is c.in_ok-args.ensures,
+      c.len-term.ensures,
+      no-term c.args.self.now (core_of s) (c.args.head, c.args.args.now) exact (ap (λ l. find_in s.known (c.args.head, l)) (sym c.in_ok-to_vec.ensures) ∙ sym c.find.ensures ∙ c.in_default.is),
+    )
