@@ -27,7 +27,7 @@ use Rattle.lq_demand.specs.Problem.{Problem, AllHold, row_sizes}
 use Rattle.lq_demand.specs.Solution.{IsSolution}
 use Rattle.lq_demand.proofs.Differences.{plain_taken}
 use Rattle.lq_demand.proofs.Meaning.{RowLaw, meets_gathered, meets_known, valid_by, same_sizes}
-use Rattle.lq_demand.proofs.Nearness.{large_by_step}
+use Rattle.lq_linear.specs.Nearness.{large_by_step}
 use Rattle.lq_demand.proofs.Numbered.{both_hold, hold_both, row_sizes-append}
 use Rattle.lq_demand.proofs.Plains.{plain_sides}
 use Rattle.lq_demand.proofs.Variables.{known_comparisons, problem_literals}

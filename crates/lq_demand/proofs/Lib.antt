@@ -7,7 +7,6 @@ pub mod Staged
 pub mod Variables
 pub mod Ungathered
 pub mod Steps
-pub mod Nearness
 pub mod Meaning
 pub mod Knowing
 pub mod Counterexample

@@ -72,3 +72,13 @@ under_step fall low next value e f = omega (arith, ints)
 
 pub under_more : (low lower value next : ℤ) → lower ≤ℤ low → (low +ℤ value) ≤ℤ next → (lower +ℤ value) ≤ℤ next
 under_more low lower value next h k = omega (arith, ints)
+
+fits_apart : (x b : ℤ) (n : ℕ) → x ≤ℤ (b +ℤ pos n) → b ≤ℤ (x +ℤ pos n) → n < 2 ^ 126 → FitsSigned w128 (x -ℤ b)
+fits_apart x b n h k l = omega (arith, ints)
+
+pub large_apart : (x b : ℤ) (n : ℕ) → x ≤ℤ (b +ℤ pos n) → b ≤ℤ (x +ℤ pos n) → ¬ (FitsSigned w128 (x -ℤ b)) → 2 ^ 126 ≤ n
+large_apart x b n h k past =
+    elim (cases_lt n (2 ^ 126)) [
+      | inl l ↦ absurd (past (fits_apart x b n h k l))
+      | inr l ↦ l
+    ]

@@ -11,9 +11,13 @@ use Rattle.std.proofs.lemmas.List.{get_or-set_same, get_or-set_other}
 use Rattle.std.proofs.Math.ListN.{set}
 use Rattle.lq_diff.specs.Climb.{parts}
 use Rattle.lq_diff.specs.declared.arc.Arc.{Arc}
-use Rattle.lq_diff.specs.declared.arc.Vertex.{Vertex}
+use Rattle.lq_diff.specs.declared.vertex.Vertex.{Vertex}
 use Rattle.lq_diff.specs.Arcs.{Potentials, ArcHolds, Meets}
-use Rattle.lq_diff.specs.Passes.{values, nexts, IsCaused, IsPass, IsLeast, NoneFalls, Falls, IsSized, IsNext, order_at, IsNarrow, IsStuck, IsClosing}
+use Rattle.lq_linear.specs.declared.engine.LinearStop.{LinearStop}
+use Rattle.lq_linear.specs.declared.engine.LinearStop.TheVariants.{Number, Pivots, Memory}
+use Rattle.lq_diff.specs.Stops.{StopsBy}
+use Rattle.lq_diff.specs.Links.{IsLatest}
+use Rattle.lq_diff.specs.Passes.{blank, vertex_at, AtRest, IsListed, AreListed, values, nexts, IsCaused, IsPass, IsLeast, NoneFalls, Falls, IsSized, IsNext, order_at, IsNarrow, IsStuck, IsClosing}
 use Rattle.std.proofs.Common.{FitsSigned, ◌^◌}
 use Rattle.std.specs.Int.{w128}
 use Rattle.lq_diff.proofs.Numbers.{large_offer}
@@ -53,7 +57,7 @@ pub record Settles (order later : ℕ → ℕ) (v count : ℕ) : Type 0 where
 apart : (order : ℕ → ℕ) (u v : ℕ) → 0 < order u → order v ≡ 0 → u ≢ v
 apart order u v h k e = let f : order u ≡ order v = ap order e in omega arith
 
-same_or : (u v : ℕ) {P : Type 0} → (u ≡ v → P) → (u ≢ v → P) → P
+pub same_or : (u v : ℕ) {P : Type 0} → (u ≡ v → P) → (u ≢ v → P) → P
 same_or u v {P} f g =
     elim (cases_lt u v) [
       | inl h ↦ g (λ e. omega arith)
@@ -61,7 +65,7 @@ same_or u v {P} f g =
     ]
 
 pub settle_step : (arcs : List Arc) (top gap : ℕ) (s : ℕ → Vertex) (order later : ℕ → ℕ) (count v i : ℕ)
-    → IsPass arcs top gap s order count top i → IsLeast s order v → Settles order later v count → IsPass arcs top gap s later (count + 1) v 0
+    → IsPass arcs top gap s order count top i → IsLeast s order v → Settles order later v count → IsPass arcs top gap s later (count + 1) v (length arcs)
 settle_step arcs top gap s order later count v i pass least set = record {
   fell = pass.fell;
   near = pass.near;
@@ -77,8 +81,8 @@ settle_step arcs top gap s order later count v i pass least set = record {
       (λ n. pass.sooner u t (omega (arith, set.others u n)) (was_out t z));
   latest = λ h t k. same_or t v (λ e. subst (λ w. (nexts s w +ℤ values s v) ≤ℤ (nexts s v +ℤ values s w)) (sym e) (self (nexts s v) (values s v)))
       (λ n. pass.sooner t v (omega (arith, set.others t n)) least.unsettled);
-  done = each arcs (λ k a. 0 < later a.from → (a.from ≡ v → k < 0) → ArcHolds (nexts s) a) (λ k a e h g.
-      let n : a.from ≢ v = (λ f. let z = g f in omega arith) in
+  done = each arcs (λ k a. 0 < later a.from → (a.from ≡ v → length arcs ≤ k) → ArcHolds (nexts s) a) (λ k a e h g.
+      let n : a.from ≢ v = (λ f. let z = g f in let l = slice_get_within arcs k a e in omega arith) in
       there arcs _ k a e (pass.done k) (omega (arith, set.others a.from n)) (λ f. absurd (let z : order a.from ≡ order top = ap order f in omega (arith, pass.top_out, set.others a.from n))));
 }
   where
@@ -115,8 +119,8 @@ settle_step arcs top gap s order later count v i pass least set = record {
 
 -- an arc whose offer changes nothing
 pub offer_kept : (arcs : List Arc) (top gap : ℕ) (s : ℕ → Vertex) (order : ℕ → ℕ) (count v i : ℕ) (a : Arc)
-    → IsPass arcs top gap s order count v i → slice_get arcs i ≡ Some a → ((a.from ≡ v) → ArcHolds (nexts s) a)
-    → IsPass arcs top gap s order count v (i + 1)
+    → IsPass arcs top gap s order count v (suc i) → slice_get arcs i ≡ Some a → ((a.from ≡ v) → ArcHolds (nexts s) a)
+    → IsPass arcs top gap s order count v i
 offer_kept arcs top gap s order count v i a pass at h = record {
   fell = pass.fell;
   near = pass.near;
@@ -129,8 +133,8 @@ offer_kept arcs top gap s order count v i a pass at h = record {
   lowered = pass.lowered;
   sooner = pass.sooner;
   latest = pass.latest;
-  done = each arcs (λ k b. 0 < order b.from → (b.from ≡ v → k < i + 1) → ArcHolds (nexts s) b) (λ k b e o g.
-      elim (cases_lt k i) [
+  done = each arcs (λ k b. 0 < order b.from → (b.from ≡ v → i ≤ k) → ArcHolds (nexts s) b) (λ k b e o g.
+      elim (cases_lt i k) [
         | inl l ↦ there arcs _ k b e (pass.done k) o (λ f. l)
         | inr l ↦ same_or b.from v
             (λ f. let ki : k ≡ i = (let z = g f in omega arith) in
@@ -141,10 +145,32 @@ offer_kept arcs top gap s order count v i a pass at h = record {
       ]);
 }
 
+-- no arc from the vertex stands between
+pub offers_skip : (arcs : List Arc) (top gap : ℕ) (s : ℕ → Vertex) (order : ℕ → ℕ) (count v n m : ℕ)
+    → IsPass arcs top gap s order count v n → IsLatest arcs v n m → IsPass arcs top gap s order count v m
+offers_skip arcs top gap s order count v n m pass latest = record {
+  fell = pass.fell;
+  near = pass.near;
+  most = pass.most;
+  top_stays = pass.top_stays;
+  top_out = pass.top_out;
+  held = pass.held;
+  caused = pass.caused;
+  counted = pass.counted;
+  lowered = pass.lowered;
+  sooner = pass.sooner;
+  latest = pass.latest;
+  done = each arcs (λ k b. 0 < order b.from → (b.from ≡ v → m ≤ k) → ArcHolds (nexts s) b) (λ k b e o g.
+      there arcs _ k b e (pass.done k) o (λ f. elim (cases_lt k n) [
+        | inl l ↦ absurd (there arcs (λ (a : Arc). a.from ≢ v) k b e (latest.none k (g f) l) f)
+        | inr l ↦ l
+      ]));
+}
+
 -- to a vertex that is settled no arc offers less
-pub settled_holds : (arcs : List Arc) (top gap : ℕ) (s : ℕ → Vertex) (order : ℕ → ℕ) (count v i : ℕ) (a : Arc)
-    → IsPass arcs top gap s order count v i → slice_get arcs i ≡ Some a → a.from ≡ v → 0 < order v → 0 < order a.to → ArcHolds (nexts s) a
-settled_holds arcs top gap s order count v i a pass at from o t =
+pub settled_holds : (arcs : List Arc) (top gap : ℕ) (s : ℕ → Vertex) (order : ℕ → ℕ) (count v i upto : ℕ) (a : Arc)
+    → IsPass arcs top gap s order count v upto → slice_get arcs i ≡ Some a → a.from ≡ v → 0 < order v → 0 < order a.to → ArcHolds (nexts s) a
+settled_holds arcs top gap s order count v i upto a pass at from o t =
     elim (there arcs _ i a at (pass.held i)) [
       | inl h ↦ glue _ _ _ _ _ (subst (λ w. values s a.to ≤ℤ (values s w +ℤ a.cost)) from h) (pass.latest o a.to t)
           (ap (nexts s) from)
@@ -155,8 +181,8 @@ settled_holds arcs top gap s order count v i a pass at from o t =
     glue nt nv vt vv c h k e = omega (arith, ints)
 
 pub offer_falls : (arcs : List Arc) (top gap : ℕ) (s t : ℕ → Vertex) (order : ℕ → ℕ) (count v i : ℕ) (a : Arc) (offer : ℤ)
-    → IsPass arcs top gap s order count v i → slice_get arcs i ≡ Some a → a.from ≡ v → 0 < order v → order a.to ≡ 0 → a.to ≢ top
-    → offer ≡ nexts s v +ℤ a.cost → offer <ℤ nexts s a.to → Falls s t a.to i offer → IsPass arcs top gap t order count v (i + 1)
+    → IsPass arcs top gap s order count v (suc i) → slice_get arcs i ≡ Some a → a.from ≡ v → 0 < order v → order a.to ≡ 0 → a.to ≢ top
+    → offer ≡ nexts s v +ℤ a.cost → offer <ℤ nexts s a.to → Falls s t a.to i offer → IsPass arcs top gap t order count v i
 offer_falls arcs top gap s t order count v i a offer pass at from o out below is less change = record {
   fell = λ u. same_or u a.to
       (λ e. subst (λ w. nexts t w ≤ℤ values t w) (sym e) fell_here)
@@ -180,7 +206,7 @@ offer_falls arcs top gap s t order count v i a offer pass at from o out below is
       (λ e. subst (λ x. (nexts t u +ℤ values t x) ≤ℤ (nexts t x +ℤ values t u)) (sym e) (sooner_here u h))
       (λ n. sums _ _ _ _ _ _ _ _ (other u (unsettled_apart u h)) (change.kept w) (other w n) (change.kept u) (pass.sooner u w h z));
   latest = λ h u k. sums _ _ _ _ _ _ _ _ (other u (unsettled_apart u k)) (change.kept v) (other v (unsettled_apart v h)) (change.kept u) (pass.latest h u k);
-  done = each arcs (λ k b. 0 < order b.from → (b.from ≡ v → k < i + 1) → ArcHolds (nexts t) b) (λ k b e h g. done k b e h g);
+  done = each arcs (λ k b. 0 < order b.from → (b.from ≡ v → i ≤ k) → ArcHolds (nexts t) b) (λ k b e h g. done k b e h g);
 }
   where
     other : (u : ℕ) → u ≢ a.to → nexts t u ≡ nexts s u
@@ -284,10 +310,10 @@ offer_falls arcs top gap s t order count v i a offer pass at from o out below is
         glue_sooner (nexts s u) (values s u) (nexts s v) (values s v) (values s a.to) a.cost _ offer _ _ _ (pass.latest o u h) holds is change.here
         (other u (unsettled_apart u h)) (change.kept u) (change.kept a.to)
 
-    done : (k : ℕ) (b : Arc) → slice_get arcs k ≡ Some b → 0 < order b.from → (b.from ≡ v → k < i + 1) → ArcHolds (nexts t) b
+    done : (k : ℕ) (b : Arc) → slice_get arcs k ≡ Some b → 0 < order b.from → (b.from ≡ v → i ≤ k) → ArcHolds (nexts t) b
     done k b e h g =
         let n : b.from ≢ a.to = unsettled_apart b.from h in
-        elim (cases_lt k i) [
+        elim (cases_lt i k) [
           | inl l ↦ next_holds b n (there arcs _ k b e (pass.done k) h (λ f. l))
           | inr l ↦ same_or b.from v
               (λ f. let ki : k ≡ i = (let z = g f in omega arith) in
@@ -304,9 +330,9 @@ offer_falls arcs top gap s t order count v i a offer pass at from o out below is
             equal x y z o c e f g h = omega (arith, ints)
 
 -- all arcs from the settled vertex were offered
-pub offers_end : (arcs : List Arc) (top gap : ℕ) (s : ℕ → Vertex) (order : ℕ → ℕ) (count v i : ℕ)
-    → IsPass arcs top gap s order count v i → length arcs ≤ i → IsPass arcs top gap s order count top 0
-offers_end arcs top gap s order count v i pass end = record {
+pub offers_end : (arcs : List Arc) (top gap : ℕ) (s : ℕ → Vertex) (order : ℕ → ℕ) (count v : ℕ)
+    → IsPass arcs top gap s order count v 0 → IsPass arcs top gap s order count top 0
+offers_end arcs top gap s order count v pass = record {
   fell = pass.fell;
   near = pass.near;
   most = pass.most;
@@ -318,8 +344,8 @@ offers_end arcs top gap s order count v i pass end = record {
   lowered = pass.lowered;
   sooner = pass.sooner;
   latest = λ h. absurd (let z = pass.top_out in omega arith);
-  done = each arcs (λ k a. 0 < order a.from → (a.from ≡ top → k < 0) → ArcHolds (nexts s) a) (λ k a e h g.
-      there arcs _ k a e (pass.done k) h (λ f. let l = slice_get_within arcs k a e in omega arith));
+  done = each arcs (λ k a. 0 < order a.from → (a.from ≡ top → 0 ≤ k) → ArcHolds (nexts s) a) (λ k a e h g.
+      there arcs _ k a e (pass.done k) h (λ f. omega arith));
 }
 
 -- nothing falls any more: the offers meet the arcs
@@ -338,10 +364,10 @@ pass_meets arcs top gap s order count i pass none = each arcs (λ k a. ArcHolds 
     by k a e (suc n) z = there arcs _ k a e (pass.done k) (omega arith) (λ f. absurd (let y : order a.from ≡ order top = ap order f in omega (arith, pass.top_out)))
 
 -- an offer that has no form of 128 bits needs sizes of at least 2 ^ 126
-pub offer_large : (arcs : List Arc) (top gap : ℕ) (r s : ℕ → Vertex) (order : ℕ → ℕ) (count n v i : ℕ) (a : Arc)
-    → IsPass arcs top gap s order count v i → ((t : ℕ) → values s t ≡ values r t) → slice_get arcs i ≡ Some a → a.from ≡ v → 0 < order v
+pub offer_large : (arcs : List Arc) (top gap : ℕ) (r s : ℕ → Vertex) (order : ℕ → ℕ) (count n v i upto : ℕ) (a : Arc)
+    → IsPass arcs top gap s order count v upto → ((t : ℕ) → values s t ≡ values r t) → slice_get arcs i ≡ Some a → a.from ≡ v → 0 < order v
     → IsSized n gap arcs (values r) → ¬ (FitsSigned w128 (nexts s v +ℤ a.cost)) → 2 ^ 126 ≤ n
-offer_large arcs top gap r s order count n v i a pass kept at from o sized past =
+offer_large arcs top gap r s order count n v i upto a pass kept at from o sized past =
     large_offer (nexts s v) a.cost (values s v) (values s a.to) gap n (pass.fell v) (pass.near v) holds
     (subst (λ x. x ≤ℤ pos n) (sym (kept v)) (sized.above v)) (subst (λ x. pos 0 ≤ℤ (x +ℤ pos n)) (sym (kept a.to)) (sized.below a.to))
     (there arcs _ i a at (sized.costs i)) sized.gap_in past
@@ -406,7 +432,7 @@ begins front last r s order offer meets out kept parent here others is less diff
   lowered = λ t h. absurd (let z = out t in omega arith);
   sooner = λ u t h. absurd (let z = out u in omega arith);
   latest = λ h. absurd (let z = out last.from in omega arith);
-  done = each arcs (λ k a. 0 < order a.from → (a.from ≡ last.from → k < 0) → ArcHolds (nexts s) a) (λ k a e h. absurd (let z = out a.from in omega arith));
+  done = each arcs (λ k a. 0 < order a.from → (a.from ≡ last.from → 0 ≤ k) → ArcHolds (nexts s) a) (λ k a e h. absurd (let z = out a.from in omega arith));
 }
   where
     gap : ℕ
@@ -557,3 +583,155 @@ next_before arcs p q s e h = record {
   fell = λ t. subst (λ x. s t ≤ℤ x) (e t) (h.fell t);
   most = λ r m l. h.most r m (λ t. subst (λ x. r t ≤ℤ x) (sym (e t)) (l t));
 }
+
+-- ---- the list of those that fell
+
+pub listed_at : (fallen : List ℕ) (v : ℕ) → IsListed fallen v → (i : ℕ) × (i < length fallen) × (get_or fallen i 0 ≡ v)
+listed_at fallen v l = (l.0, slice_get_within fallen l.0 v l.1, get_or_from_slice_get fallen l.0 v 0 l.1)
+
+-- what bounds the falls of those that are listed bounds all
+pub all_falls : (fallen : List ℕ) (s : ℕ → Vertex) (order : ℕ → ℕ) (low : ℤ) → AreListed fallen s order → low ≤ℤ pos 0
+    → ((i : ℕ) → i < length fallen → order (get_or fallen i 0) ≡ 0 → (low +ℤ values s (get_or fallen i 0)) ≤ℤ nexts s (get_or fallen i 0))
+    → (t : ℕ) → order t ≡ 0 → (low +ℤ values s t) ≤ℤ nexts s t
+all_falls fallen s order low listed h below t z = elim (listed t) [
+  | inl l ↦ let a = listed_at fallen t l in
+      subst (λ w. order w ≡ 0 → (low +ℤ values s w) ≤ℤ nexts s w) a.2 (below a.0 a.1) z
+  | inr r ↦ glue low (nexts s t) (values s t) r.0 h
+]
+  where
+    glue : (l n v : ℤ) → n ≡ v → l ≤ℤ pos 0 → (l +ℤ v) ≤ℤ n
+    glue l n v e h = omega (arith, ints)
+
+pub none_falls : (fallen : List ℕ) (s : ℕ → Vertex) (order : ℕ → ℕ) (low : ℤ) → AreListed fallen s order → low ≤ℤ pos 0 → pos 0 ≤ℤ low
+    → ((i : ℕ) → i < length fallen → order (get_or fallen i 0) ≡ 0 → (low +ℤ values s (get_or fallen i 0)) ≤ℤ nexts s (get_or fallen i 0))
+    → NoneFalls s order
+none_falls fallen s order low listed h g below t z = glue low (nexts s t) (values s t) g (all_falls fallen s order low listed h below t z)
+  where
+    glue : (l n v : ℤ) → pos 0 ≤ℤ l → (l +ℤ v) ≤ℤ n → v ≤ℤ n
+    glue l n v e h = omega (arith, ints)
+
+pub least_falls : (fallen : List ℕ) (s : ℕ → Vertex) (order : ℕ → ℕ) (low : ℤ) (v : ℕ) → AreListed fallen s order → low <ℤ pos 0
+    → ((i : ℕ) → i < length fallen → order (get_or fallen i 0) ≡ 0 → (low +ℤ values s (get_or fallen i 0)) ≤ℤ nexts s (get_or fallen i 0))
+    → order v ≡ 0 → low +ℤ values s v ≡ nexts s v → IsLeast s order v
+least_falls fallen s order low v listed neg below z e = record {
+  unsettled = z;
+  falls = falls low (nexts s v) (values s v) neg e;
+  least = λ t o. glue low (nexts s v) (values s v) (nexts s t) (values s t) e (all_falls fallen s order low listed (weak low neg) below t o);
+}
+  where
+    weak : (l : ℤ) → l <ℤ pos 0 → l ≤ℤ pos 0
+    weak l h = omega (arith, ints)
+
+    falls : (l n v : ℤ) → l <ℤ pos 0 → l +ℤ v ≡ n → n <ℤ v
+    falls l n v h e = omega (arith, ints)
+
+    glue : (l n v m w : ℤ) → l +ℤ v ≡ n → (l +ℤ w) ≤ℤ m → (n +ℤ w) ≤ℤ (m +ℤ v)
+    glue l n v m w e h = omega (arith, ints)
+
+listed_on : (fallen later : List ℕ) (s t : ℕ → Vertex) (order : ℕ → ℕ) (v : ℕ) → AreListed fallen s order → ((u : ℕ) → IsListed fallen u → IsListed later u) → IsListed later v
+    → ((u : ℕ) → u ≢ v → t u ≡ s u) → AreListed later t order
+listed_on fallen later s t order v listed more here others u =
+    same_or u v
+    (λ e. inl (subst (λ w. IsListed later w) (sym e) here))
+    (λ n. elim (listed u) [
+      | inl l ↦ inl (more u l)
+      | inr r ↦ inr (subst (λ (x : Vertex). x.next ≡ x.kept.value) (sym (others u n)) r.0, r.1)
+    ])
+
+-- one that falls is put at the end of the list
+pub listed_pushed : (fallen later : List ℕ) (s t : ℕ → Vertex) (order : ℕ → ℕ) (v : ℕ) → AreListed fallen s order → later ≡ fallen ++ v ∷ []
+    → ((u : ℕ) → u ≢ v → t u ≡ s u) → AreListed later t order
+listed_pushed fallen later s t order v listed e others =
+    listed_on fallen later s t order v listed
+    (λ u l. (l.0, ap (λ xs. slice_get xs l.0) e ∙ at_front fallen v l.0 u l.1))
+    (length fallen, ap (λ xs. slice_get xs (length fallen)) e ∙ at_end fallen v) others
+
+-- one that fell before is listed
+pub listed_kept : (fallen : List ℕ) (s t : ℕ → Vertex) (order : ℕ → ℕ) (v : ℕ) → AreListed fallen s order → nexts s v ≢ values s v
+    → ((u : ℕ) → u ≢ v → t u ≡ s u) → AreListed fallen t order
+listed_kept fallen s t order v listed apart others =
+    listed_on fallen fallen s t order v listed (λ u l. l) (elim (listed v) [ inl l ↦ l | inr r ↦ absurd (apart r.0) ]) others
+
+pub listed_settled : (fallen : List ℕ) (s : ℕ → Vertex) (order later : ℕ → ℕ) (v count : ℕ) → AreListed fallen s order → IsLeast s order v → Settles order later v count → AreListed fallen s later
+listed_settled fallen s order later v count listed least set t =
+    same_or t v
+    (λ e. elim (listed v) [ inl l ↦ inl (subst (λ w. IsListed fallen w) (sym e) l) | inr r ↦ absurd (glue (nexts s v) (values s v) r.0 least.falls) ])
+    (λ n. elim (listed t) [ inl l ↦ inl l | inr r ↦ inr (r.0, set.others t n ∙ r.1) ])
+  where
+    glue : (n v : ℤ) → n ≡ v → n <ℤ v → ⊥
+    glue n v e l = omega (arith, ints)
+
+-- those that are at rest again, and those that are still listed
+abbrev pub RestsOrWaits : List ℕ → (ℕ → Vertex) → (ℕ → ℕ) → ℕ → Type 0
+RestsOrWaits fallen s order from = (v : ℕ) → AtRest s order v ⊎ ((i : ℕ) × (from ≤ i) × (slice_get fallen i ≡ Some v))
+
+pub rests_at_first : (fallen : List ℕ) (s : ℕ → Vertex) (order : ℕ → ℕ) → AreListed fallen s order → RestsOrWaits fallen s order 0
+rests_at_first fallen s order listed v = elim (listed v) [ inl l ↦ inr (l.0, omega arith, l.1) | inr r ↦ inl r ]
+
+pub rests_more : (fallen : List ℕ) (s t : ℕ → Vertex) (order later : ℕ → ℕ) (k x : ℕ) → k < length fallen → get_or fallen k 0 ≡ x → RestsOrWaits fallen s order k → AtRest t later x
+    → ((u : ℕ) → u ≢ x → t u ≡ s u) → ((u : ℕ) → u ≢ x → later u ≡ order u) → RestsOrWaits fallen t later (k + 1)
+rests_more fallen s t order later k x h is before here others orders v =
+    same_or v x
+    (λ e. inl (subst (λ w. AtRest t later w) (sym e) here))
+    (λ n. elim (before v) [
+      | inl r ↦ inl (subst (λ (y : Vertex). y.next ≡ y.kept.value) (sym (others v n)) r.0, orders v n ∙ r.1)
+      | inr w ↦ elim (cases_lt k w.0) [
+        | inl l ↦ inr (w.0, omega arith, w.2)
+        | inr l ↦ let e : w.0 ≡ k = (let m = w.1 in omega arith) in
+            absurd (n (sym (get_or_from_slice_get fallen w.0 v 0 w.2) ∙ ap (λ j. get_or fallen j 0) e ∙ is))
+      ]
+    ])
+
+pub rests_at_last : (fallen : List ℕ) (s : ℕ → Vertex) (order : ℕ → ℕ) (k : ℕ) → length fallen ≤ k → RestsOrWaits fallen s order k → (v : ℕ) → AtRest s order v
+rests_at_last fallen s order k h r v = elim (r v) [ inl a ↦ a | inr w ↦ absurd (let l = slice_get_within fallen w.0 v w.2 in let m = w.1 in omega arith) ]
+
+pub stops_more : (n : ℕ) (stop : LinearStop) → StopsBy 0 stop → StopsBy n stop
+stops_more n (Number e) h = absurd (let l = h.1 in omega arith)
+stops_more n (Pivots k) h = h
+stops_more n Memory h = h
+
+-- the offers to those that are listed were accepted
+pub accepted : (fallen : List ℕ) (s t : ℕ → Vertex) (order : ℕ → ℕ) → AreListed fallen s order → ((v : ℕ) → IsListed fallen v → values t v ≡ nexts s v)
+    → ((v : ℕ) → IsListed fallen v ⊎ (t v ≡ s v)) → (v : ℕ) → values t v ≡ nexts s v
+accepted fallen s t order listed here others v = elim (listed v) [
+  | inl l ↦ here v l
+  | inr r ↦ elim (others v) [ inl l ↦ here v l | inr e ↦ ap (λ (x : Vertex). x.kept.value) e ∙ sym r.0 ]
+]
+
+pub accepted_listed : (fallen : List ℕ) (s t : ℕ → Vertex) (order : ℕ → ℕ) → AreListed fallen s order → ((v : ℕ) → IsListed fallen v ⊎ (t v ≡ s v)) → AreListed fallen t order
+accepted_listed fallen s t order listed others v = elim (listed v) [
+  | inl l ↦ inl l
+  | inr r ↦ elim (others v) [ inl l ↦ inl l | inr e ↦ inr (subst (λ (x : Vertex). x.next ≡ x.kept.value) (sym e) r.0, r.1) ]
+]
+
+pub listed_none : (fallen : List ℕ) (s : ℕ → Vertex) (order : ℕ → ℕ) → ((v : ℕ) → AtRest s order v) → AreListed fallen s order
+listed_none fallen s order h v = inr (h v)
+
+-- ---- one vertex is written
+
+pub set_same_by : {A : Type 0} (f : Vertex → A) (vertices : List Vertex) (x : ℕ) (new : Vertex) → x < length vertices → f new ≡ f (get_or vertices x blank)
+    → (v : ℕ) → f (vertex_at (set vertices x new) v) ≡ f (vertex_at vertices v)
+set_same_by f vertices x new h e v =
+    same_or v x
+    (λ q. ap (λ w. f (vertex_at (set vertices x new) w)) q ∙ ap f (get_or-set_same vertices x new blank h) ∙ e ∙ ap (λ w. f (vertex_at vertices w)) (sym q))
+    (λ n. ap f (get_or-set_other vertices x v new blank n))
+
+pub done_more : (vertices : List Vertex) (r : ℕ → Vertex) (x v : ℕ) (new : Vertex) → x < length vertices → new.kept.value ≡ (get_or vertices x blank).next
+    → ((u : ℕ) → nexts (vertex_at vertices) u ≡ nexts r u) → (values (vertex_at vertices) v ≡ nexts r v) ⊎ (v ≡ x) → values (vertex_at (set vertices x new)) v ≡ nexts r v
+done_more vertices r x v new h e offers done =
+    same_or v x
+    (λ q. ap (λ w. (vertex_at (set vertices x new) w).kept.value) q ∙ ap (λ (y : Vertex). y.kept.value) (get_or-set_same vertices x new blank h) ∙ e ∙ offers x ∙ ap (nexts r) (sym q))
+    (λ n. ap (λ (y : Vertex). y.kept.value) (get_or-set_other vertices x v new blank n) ∙ elim done [ inl d ↦ d | inr q ↦ absurd (n q) ])
+
+pub rest_same : (s t : ℕ → Vertex) (order : ℕ → ℕ) → ((v : ℕ) → values t v ≡ values s v) → ((v : ℕ) → nexts t v ≡ nexts s v) → ((v : ℕ) → AtRest s order v) → (v : ℕ) → AtRest t order v
+rest_same s t order same offers rest v = (offers v ∙ (rest v).0 ∙ sym (same v), (rest v).1)
+
+pub rest_set : (vertices : List Vertex) (x : ℕ) (new : Vertex) (order : ℕ → ℕ) → x < length vertices → new.next ≡ new.kept.value → ((v : ℕ) → AtRest (vertex_at vertices) order v)
+    → (v : ℕ) → AtRest (vertex_at (set vertices x new)) order v
+rest_set vertices x new order h e rest v = (
+  same_or v x
+      (λ q. subst (λ w. nexts (vertex_at (set vertices x new)) w ≡ values (vertex_at (set vertices x new)) w) (sym q)
+      (subst (λ (y : Vertex). y.next ≡ y.kept.value) (sym (get_or-set_same vertices x new blank h)) e))
+      (λ n. subst (λ (y : Vertex). y.next ≡ y.kept.value) (sym (get_or-set_other vertices x v new blank n)) (rest v).0),
+  (rest v).1,
+)

@@ -1,5 +1,5 @@
 -- An equation places a vertex that no arc before names.
-use Rattle.std.proofs.Common.{◌≡◌, ◌≢◌, ℕ, ◌+◌, ◌≤◌, refl, sym, ap, subst, ◌∙◌, arith, List, [], ◌∷◌, ◌++◌, Bool, true, false, if◌then◌else◌, ◌==◌, Some, IfSome, slice_get, inl, inr, length, take, ◌^◌, FitsSigned}
+use Rattle.std.proofs.Common.{◌≡◌, ◌≢◌, ℕ, ◌+◌, ◌≤◌, ◌<◌, refl, sym, ap, subst, ◌∙◌, arith, List, [], ◌∷◌, ◌++◌, Bool, true, false, if◌then◌else◌, ◌==◌, Some, IfSome, slice_get, inl, inr, length, take, ◌^◌, FitsSigned}
 use Rattle.std.proofs.Math.IntN.{ℤ, pos, ◌+ℤ◌}
 use Rattle.std.specs.Int.Signed.{◌≤ℤ◌}
 use Rattle.std.proofs.lemmas.Int.{ints}
@@ -262,3 +262,13 @@ placed_large arcs k n touched a p h s b past = first_large front a p (falls fron
       ]);
       room = room_of arcs k n touched a h b.fall;
     }
+
+pub pair_within : (arcs : List Arc) (k : ℕ) (touched : ℕ → Bool) (a : Arc) → IsPlacing arcs k touched a → k + 1 < length arcs
+pair_within arcs k touched a h = elim h.pair [
+  | inl e ↦ slice_get_within arcs (k + 1) h.back e.1
+  | inr e ↦ slice_get_within arcs (k + 1) a e.1
+]
+
+-- potentials that agree everywhere are one
+pub one_potential : (p q : Potentials) → ((v : ℕ) → p v ≡ q v) → p ≡ q
+one_potential p q h = λ i. λ v. h v i

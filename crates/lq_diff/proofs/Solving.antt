@@ -6,7 +6,7 @@ use Rattle.std.proofs.lemmas.Int.{ints}
 use Rattle.std.proofs.lemmas.List.{take-append-drop}
 use Rattle.std.proofs.lemmas.Option.{slice_get_within, slice_get-get_or}
 use Rattle.lq_diff.specs.declared.arc.Arc.{Arc}
-use Rattle.lq_diff.specs.declared.arc.Vertex.{Vertex}
+use Rattle.lq_diff.specs.declared.vertex.Vertex.{Vertex}
 use Rattle.lq_diff.specs.Arcs.{Potentials, ArcHolds, Meets, IsGreatest, falls}
 use Rattle.lq_diff.specs.Range.{in_range}
 use Rattle.lq_diff.specs.Passes.{IsStuck, IsClosing, IsNext, IsNarrow}

@@ -5,7 +5,7 @@ use Rattle.std.specs.Int.Signed.{◌<ℤ◌}
 use Rattle.std.proofs.lemmas.Int.{ints}
 use Rattle.std.proofs.lemmas.Option.{slice_get-get_or}
 use Rattle.lq_diff.specs.declared.arc.Arc.{Arc}
-use Rattle.lq_diff.specs.declared.arc.Vertex.{Vertex}
+use Rattle.lq_diff.specs.declared.vertex.Vertex.{Vertex}
 use Rattle.lq_diff.specs.Passes.{nexts, IsCaused, IsStuck, IsClosing}
 use Rattle.lq_diff.specs.Cycles.{Each, IsAmong, IsWalk, costs, TagsOnce, marks, IsNegativeCycle, ArePaired}
 

@@ -6,4 +6,5 @@ pub mod Stops
 pub mod Cycles
 pub mod Solving
 pub mod Edges
+pub mod Links
 pub mod Table

@@ -2,13 +2,13 @@
 use Rattle.std.specs.Prelude.{◌≡◌, ◌≢◌, ℕ, ℤ, pos, ◌+ℤ◌, ◌≤ℤ◌, ◌+◌, ◌<◌, ◌≤◌, ◌⊎◌, List, [], ◌∷◌, ◌++◌, length, slice_get, IfSome, Some, slice_index_or}
 use Rattle.std.specs.Int.Signed.{◌<ℤ◌}
 use Rattle.lq_diff.specs.declared.arc.Arc.{Arc}
-use Rattle.lq_diff.specs.declared.arc.Vertex.{Vertex}
+use Rattle.lq_diff.specs.declared.vertex.Vertex.{Vertex}
 use borrow.Author.Differences.{down}
 use Rattle.lq_diff.specs.Arcs.{Potentials, ArcHolds, Meets}
 use Rattle.lq_diff.specs.Range.{InRange}
 
 abbrev pub blank : Vertex
-blank = record { value = pos 0; next = pos 0; parent = 0 }
+blank = record { kept = record { value = pos 0; last = 0 }; next = pos 0; parent = 0 }
 
 abbrev pub vertex_at : List Vertex → ℕ → Vertex
 vertex_at vertices v = slice_index_or vertices v blank
@@ -18,10 +18,24 @@ order_at order v = slice_index_or order v 0
 
 -- the potentials before, and those that are offered
 abbrev pub values : (ℕ → Vertex) → Potentials
-values s v = (s v).value
+values s v = (s v).kept.value
 
 abbrev pub nexts : (ℕ → Vertex) → Potentials
 nexts s v = (s v).next
+
+-- nothing is offered it, and it isn't settled
+abbrev pub AtRest : (ℕ → Vertex) → (ℕ → ℕ) → ℕ → Type 0
+AtRest s order v = (nexts s v ≡ values s v) × (order v ≡ 0)
+
+abbrev pub IsListed : List ℕ → ℕ → Type 0
+IsListed fallen v = (i : ℕ) × (slice_get fallen i ≡ Some v)
+
+-- each other vertex is at rest
+abbrev pub AreListed : List ℕ → (ℕ → Vertex) → (ℕ → ℕ) → Type 0
+AreListed fallen s order = (v : ℕ) → IsListed fallen v ⊎ AtRest s order v
+
+abbrev pub AllBelow : List ℕ → ℕ → Type 0
+AllBelow fallen n = (i : ℕ) → IfSome (slice_get fallen i) (λ v. v < n)
 
 -- the offer by which t fell: by an arc from the vertex at the top, or from one that was settled, before t if t is settled too
 pub record IsCaused (arcs : List Arc) (top : ℕ) (s : ℕ → Vertex) (order : ℕ → ℕ) (t : ℕ) : Type 0 where
@@ -31,8 +45,8 @@ pub record IsCaused (arcs : List Arc) (top : ℕ) (s : ℕ → Vertex) (order : 
   pub tight : (s t).next ≡ (s arc.from).next +ℤ arc.cost
   pub source : (arc.from ≡ top) ⊎ ((0 < order arc.from) × ((order t ≡ 0) ⊎ (order arc.from < order t)))
 
--- the arc that is being admitted leads from the vertex at the top; a vertex's order is 0 until it is settled. The arcs from `at` before
--- the number `upto` were offered, and those from each other vertex that is settled
+-- the arc that is being admitted leads from the vertex at the top; a vertex's order is 0 until it is settled. The arcs from `at` from
+-- the number `upto` on were offered, and those from each other vertex that is settled
 pub record IsPass (arcs : List Arc) (top gap : ℕ) (s : ℕ → Vertex) (order : ℕ → ℕ) (count at upto : ℕ) : Type 0 where
   pub fell : (t : ℕ) → nexts s t ≤ℤ values s t
   pub near : (t : ℕ) → values s t ≤ℤ (nexts s t +ℤ pos gap)
@@ -45,7 +59,7 @@ pub record IsPass (arcs : List Arc) (top gap : ℕ) (s : ℕ → Vertex) (order 
   pub lowered : (t : ℕ) → 0 < order t → nexts s t <ℤ values s t
   pub sooner : (u t : ℕ) → 0 < order u → order t ≡ 0 → (nexts s u +ℤ values s t) ≤ℤ (nexts s t +ℤ values s u)
   pub latest : 0 < order at → (t : ℕ) → 0 < order t → (nexts s t +ℤ values s at) ≤ℤ (nexts s at +ℤ values s t)
-  pub done : (k : ℕ) → IfSome (slice_get arcs k) (λ a. 0 < order a.from → (a.from ≡ at → k < upto) → ArcHolds (nexts s) a)
+  pub done : (k : ℕ) → IfSome (slice_get arcs k) (λ a. 0 < order a.from → (a.from ≡ at → upto ≤ k) → ArcHolds (nexts s) a)
 
 -- an unsettled vertex that fell, as far as any
 pub record IsLeast (s : ℕ → Vertex) (order : ℕ → ℕ) (v : ℕ) : Type 0 where

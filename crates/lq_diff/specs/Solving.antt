@@ -1,7 +1,7 @@
 -- What holds of all arcs at once.
 use Rattle.std.specs.Prelude.{◌≡◌, ◌≢◌, ℕ, pos, ◌+ℤ◌, ◌≤ℤ◌, ◌≤◌, ◌+◌, ◌⊎◌, Bool, false, List, Some, slice_get, slice_index_or, IfSome}
 use Rattle.lq_diff.specs.declared.arc.Arc.{Arc}
-use Rattle.lq_diff.specs.declared.arc.Vertex.{Vertex}
+use Rattle.lq_diff.specs.declared.vertex.Vertex.{Vertex}
 use Rattle.lq_diff.specs.Arcs.{Potentials, IsGreatest, falls}
 use Rattle.lq_diff.specs.Passes.{IsStuck}
 

@@ -1,15 +1,16 @@
 -- What a table is seen as, and what always holds of one.
-use Rattle.std.specs.Prelude.{◌≡◌, ℕ, suc, ℤ, pos, negsuc, ◌+◌, ◌<◌, ◌⊎◌, ◌-ℤ◌, Bool, List, [], ◌∷◌, length, if◌then◌else◌, unsigned_abs}
+use Rattle.std.specs.Prelude.{◌≡◌, ℕ, suc, ℤ, pos, negsuc, ◌+◌, ◌<◌, ◌-ℤ◌, Bool, List, [], ◌∷◌, length, if◌then◌else◌, unsigned_abs}
 use Rattle.lq_math.specs.Rational.{ℚ, whole}
 use Rattle.lq_linear.specs.Row.{Row, Valuation}
 use Rattle.lq_linear.specs.Contradiction.{Tagged}
-use Rattle.lq_linear.specs.Answers.{Last, Nothing, Held, Conflicted, Stopped}
+use Rattle.lq_linear.specs.Answers.{Last, last_of}
+use Rattle.lq_linear.specs.declared.engine.Answer.{Answer}
+use Rattle.lq_linear.specs.declared.engine.Answer.TheVariants.{Solved, Contradicted}
+pub use Rattle.lq_linear.specs.Difference.{IsDifference, TermsBelow}
 use Rattle.lq_linear.specs.declared.engine.LinearStop.{LinearStop}
 use Rattle.lq_diff.specs.declared.arc.Arc.{Arc}
 use Rattle.lq_diff.specs.declared.arc.Edge.{Edge}
-use Rattle.lq_diff.specs.declared.arc.Vertex.{Vertex}
-use Rattle.lq_diff.specs.declared.table.Answer.{Answer}
-use Rattle.lq_diff.specs.declared.table.Answer.TheVariants.{Unasked, Solved, Contradicted, GaveUp}
+use Rattle.lq_diff.specs.declared.vertex.Vertex.{Vertex}
 use Rattle.lq_diff.specs.Passes.{vertex_at, values, nexts}
 use Rattle.lq_diff.specs.Edges.{standing_of, arcs_of, EdgesInRange, TagsApart}
 use Rattle.lq_diff.specs.Cycles.{IsNegativeCycle}
@@ -24,12 +25,6 @@ pub record Table : Type 0 where
   pub answer : Answer
   pub terms : ℕ
   pub rows : ℕ
-
-abbrev pub last_of : Answer → Last
-last_of Unasked = Nothing
-last_of Solved = Held
-last_of Contradicted = Conflicted
-last_of GaveUp = Stopped
 
 abbrev pub table_rows : Table → Tagged
 table_rows t = standing_of t.edges
@@ -56,17 +51,6 @@ multipliers_of (m ∷ ms) = multiplier_of m ∷ multipliers_of ms
 
 abbrev pub table_multipliers : Table → List (ℕ × ℚ)
 table_multipliers t = multipliers_of t.found
-
--- a difference row: at most two terms, one with the coefficient 1 or -1, two with 1 and -1
-abbrev pub IsDifference : List (ℕ × ℤ) → Type 0
-IsDifference [] = Unit {0}
-IsDifference (x ∷ []) = (x.1 ≡ pos 1) ⊎ (x.1 ≡ negsuc 0)
-IsDifference (x ∷ y ∷ []) = ((x.1 ≡ pos 1) × (y.1 ≡ negsuc 0)) ⊎ ((x.1 ≡ negsuc 0) × (y.1 ≡ pos 1))
-IsDifference (x ∷ y ∷ z ∷ more) = ⊥
-
-abbrev pub TermsBelow : ℕ → List (ℕ × ℤ) → Type 0
-TermsBelow n [] = Unit {0}
-TermsBelow n (x ∷ parts) = (x.0 < n) × TermsBelow n parts
 
 abbrev pub TakesRow : List ℕ → Tagged → Row → Type 0
 TakesRow [] rows row = ⊥

@@ -1,3 +1,4 @@
+// Arcs, and the rows that give them.
 /// The bound "the value at `to` is at most the value at `from` plus the cost", taken from the row with this tag: as the row
 /// is read, or, where not `forward`, from an equation read backwards.
 #[derive(Clone, Copy)]
@@ -17,15 +18,4 @@ pub(crate) struct Edge {
     pub(crate) to: usize,
     pub(crate) weight: i128,
     pub(crate) equal: bool,
-}
-
-/// What the table keeps of a vertex: vertex 0 stands for the number 0, and vertex t + 1 for term t.
-#[derive(Clone, Copy)]
-pub(crate) struct Vertex {
-    /// The potential under the arcs that were admitted.
-    pub(crate) value: i128,
-    /// The least that was offered for it while an arc is being admitted.
-    pub(crate) next: i128,
-    /// The arc of that offer.
-    pub(crate) parent: usize,
 }

@@ -3,7 +3,8 @@ ghost use Rattle.std.specs.Prelude.{◌≡◌, ℕ, ◌<◌, length, IfOk};
 ghost use Rattle.lq_diff.specs.Passes.{vertex_at, order_at, AllInRange, IsStuck};
 ghost use Rattle.lq_diff.specs.Cycles.{IsNegativeCycle, ArePaired};
 
-use crate::arc::{Arc, Vertex};
+use crate::arc::Arc;
+use crate::vertex::Vertex;
 use std::alloc::{AllocError, Global};
 
 /// The tags of a closed walk whose costs sum to less than 0, and whether each row is read forwards: from the closing arc along the

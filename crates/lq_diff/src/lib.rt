@@ -7,5 +7,6 @@ mod number;
 mod pass;
 mod solve;
 mod table;
+mod vertex;
 
 pub use table::DistanceTable;

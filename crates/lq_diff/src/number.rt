@@ -1,38 +1,39 @@
 // Sums and differences of whole numbers, refused past 128 bits.
-ghost use Rattle.std.specs.Prelude.{◌≡◌, ◌+ℤ◌, ◌-ℤ◌, FitsSigned, IfOk, IfErr};
+ghost use Rattle.std.specs.Prelude.{◌≡◌, ◌≤◌, ◌^◌, ◌+ℤ◌, ◌-ℤ◌, ℕ, FitsSigned, IfOk, IfErr};
 ghost use Rattle.std.specs.Int.{w128};
-ghost use Rattle.lq_diff.specs.Stops.{IsWholePast};
+ghost use Rattle.lq_diff.specs.Stops.{StopsBy};
 
+use lq_linear::LinearStop;
 use lq_num::{Frac, NumOp, NumberPast};
 
 /// The sum of two whole numbers.
-pub(crate) fn sum(left: i128, right: i128) -> Result<i128, NumberPast>
+pub(crate) fn sum(left: i128, right: i128) -> Result<i128, LinearStop>
     ensures value { IfOk result (λ n. n ≡ left +ℤ right) }
-    ensures past { IfErr result (λ e. IsWholePast e) }
-    ensures large { IfErr result (λ _. ¬ (FitsSigned w128 (left +ℤ right))) }
+    ensures stop { IfErr result (λ stop. (n : ℕ) → (¬ (FitsSigned w128 (left +ℤ right)) → 2 ^ 126 ≤ n)
+        → StopsBy n stop) }
 {
     let Some(total) = left.checked_add(right) else {
-        return Err(NumberPast {
+        return Err(LinearStop::Number(NumberPast {
             left: Frac::whole(left),
             right: Frac::whole(right),
             op: NumOp::Add,
-        });
+        }));
     };
     Ok(total)
 }
 
 /// The difference of two whole numbers.
-pub(crate) fn difference(left: i128, right: i128) -> Result<i128, NumberPast>
+pub(crate) fn difference(left: i128, right: i128) -> Result<i128, LinearStop>
     ensures value { IfOk result (λ n. n ≡ left -ℤ right) }
-    ensures past { IfErr result (λ e. IsWholePast e) }
-    ensures large { IfErr result (λ _. ¬ (FitsSigned w128 (left -ℤ right))) }
+    ensures stop { IfErr result (λ stop. (n : ℕ) → (¬ (FitsSigned w128 (left -ℤ right)) → 2 ^ 126 ≤ n)
+        → StopsBy n stop) }
 {
     let Some(total) = left.checked_sub(right) else {
-        return Err(NumberPast {
+        return Err(LinearStop::Number(NumberPast {
             left: Frac::whole(left),
             right: Frac::whole(right),
             op: NumOp::Sub,
-        });
+        }));
     };
     Ok(total)
 }

@@ -1,32 +1,37 @@
 // A pass: vertices fall to the offers that reach them.
-ghost use Rattle.std.specs.Prelude.{◌≡◌, ℕ, List, [], ◌∷◌, ◌++◌, ◌<◌, ◌≤◌, ◌^◌, length, IfOk, IfErr, IfSome, IfNone};
-ghost use Rattle.lq_diff.specs.Passes.{vertex_at, order_at, values, nexts, AllInRange, IsPass, IsSized, IsLeast, NoneFalls, IsNext, IsStuck, IsNarrow, Falls};
+ghost use Rattle.std.specs.Prelude.{◌≡◌, ◌⊎◌, ℕ, List, [], ◌∷◌, ◌++◌, ◌<◌, ◌≤◌, ◌^◌, length, IfOk, IfErr, IfSome, IfNone, OnOk};
+ghost use Rattle.lq_diff.specs.Passes.{vertex_at, order_at, values, nexts, AllInRange, AllBelow, IsListed, AreListed, AtRest, IsPass, IsSized, IsLeast, NoneFalls, IsNext, IsStuck, IsNarrow, Falls};
 ghost use Rattle.lq_diff.specs.Arcs.{Meets};
-ghost use Rattle.lq_diff.specs.Stops.{IsWholePast};
+ghost use Rattle.lq_diff.specs.Stops.{StopsBy};
+ghost use Rattle.lq_diff.specs.Links.{kept, AreLinked, IsLatest};
 ghost use Rattle.lq_diff.specs.declared.arc.Arc.{Arc};
 
-use crate::arc::{Arc, Vertex};
+use crate::arc::Arc;
 use crate::number::{difference, sum};
-use lq_num::NumberPast;
+use crate::vertex::Vertex;
+use lq_linear::LinearStop;
 
-/// The vertex that fell farthest of those that aren't settled, if one fell.
-fn least(vertices: &[Vertex], order: &[u64]) -> Result<Option<usize>, NumberPast>
-    requires { length order.now ≡ length vertices.now }
+/// The vertex that fell farthest of those that aren't settled, if one fell. Those that fell are listed.
+fn least(vertices: &[Vertex], order: &[u64], fallen: &[usize]) -> Result<Option<usize>, LinearStop>
+    requires same { length order.now ≡ length vertices.now }
+    requires inside { AllBelow fallen.now (length vertices.now) }
+    requires listed { AreListed fallen.now (vertex_at vertices.now) (order_at order.now) }
     ensures inside { IfOk result (λ found. IfSome found (λ v. v < length vertices.now)) }
     ensures some { IfOk result (λ found. IfSome found
         (λ v. IsLeast (vertex_at vertices.now) (order_at order.now) v)) }
     ensures none { IfOk result (λ found. IfNone found
         (NoneFalls (vertex_at vertices.now) (order_at order.now))) }
-    ensures past { IfErr result (λ e. IsWholePast e) }
-    ensures large { IfErr result (λ _. (arcs : List Arc) (top gap count n : ℕ)
+    ensures stop { IfErr result (λ stop. (arcs : List Arc) (top gap count n : ℕ)
         → IsPass arcs top gap (vertex_at vertices.now) (order_at order.now) count top 0 → gap ≤ n
-        → 2 ^ 126 ≤ n) }
+        → StopsBy n stop) }
 {
     let mut lowest = 0;
     let mut found = 0;
-    for (v, vertex) in vertices.iter().enumerate() {
+    for place in fallen {
+        let v = *place;
         if order[v] == 0 {
-            let fall = difference(vertex.next, vertex.value)?;
+            let vertex = vertices[v];
+            let fall = difference(vertex.next, vertex.kept.value)?;
             if fall < lowest {
                 lowest = fall;
                 found = v;
@@ -40,54 +45,81 @@ fn least(vertices: &[Vertex], order: &[u64]) -> Result<Option<usize>, NumberPast
     }
 }
 
-/// Lets a vertex fall to an offer of an arc.
-fn put(vertices: &mut [Vertex], at: usize, offer: i128, parent: usize)
-    requires { at < length vertices.old }
-    ensures falls { Falls (vertex_at vertices.old) (vertex_at vertices.new) at parent offer }
+/// Lets a vertex fall to an offer of an arc, and lists it where it hadn't fallen yet.
+fn fall(
+    vertices: &mut [Vertex],
+    fallen: &mut Vec<usize>,
+    at: usize,
+    offer: i128,
+    parent: usize,
+) -> Result<(), LinearStop>
+    requires at_in { at < length vertices.old }
+    requires inside { AllBelow fallen.old.items (length vertices.old) }
+    ensures inside { AllBelow fallen.new.items (length vertices.new) }
+    ensures falls { OnOk result (Falls (vertex_at vertices.old) (vertex_at vertices.new) at parent offer) }
+    ensures listed { OnOk result ((order : ℕ → ℕ) → AreListed fallen.old.items (vertex_at vertices.old) order
+        → AreListed fallen.new.items (vertex_at vertices.new) order) }
+    ensures kept { (v : ℕ) → kept (vertex_at vertices.new) v ≡ kept (vertex_at vertices.old) v }
+    ensures stop { IfErr result (StopsBy 0) }
 {
+    if vertices[at].next == vertices[at].kept.value {
+        let Ok(()) = fallen.push(at) else {
+            return Err(LinearStop::Memory);
+        };
+    }
     let vertex = &mut vertices[at];
     vertex.next = offer;
     vertex.parent = parent;
+    Ok(())
 }
 
-/// Offers along the arcs from a vertex that was settled just now. The answer is the number of an arc by which the vertex at the
-/// top would fall.
+/// Offers along the arcs from a vertex that was settled just now, the last of them first. The answer is the number of an arc by which the
+/// vertex at the top would fall.
 fn relax(
     arcs: &[Arc],
+    links: &[usize],
     at: usize,
     top: usize,
     vertices: &mut [Vertex],
     order: &[u64],
-) -> Result<Option<usize>, NumberPast>
+    fallen: &mut Vec<usize>,
+) -> Result<Option<usize>, LinearStop>
     requires in_range { AllInRange arcs.now (length vertices.old) }
+    requires linked { AreLinked arcs.now links.now }
+    requires last { IsLatest arcs.now at (length arcs.now) (kept (vertex_at vertices.old) at).last }
     requires same { length order.now ≡ length vertices.old }
     requires at_in { at < length vertices.old }
     requires top_in { top < length vertices.old }
     requires settled { 0 < order_at order.now at }
-    ensures kept { (v : ℕ) → values (vertex_at vertices.new) v ≡ values (vertex_at vertices.old) v }
+    requires inside { AllBelow fallen.old.items (length vertices.old) }
+    ensures inside { AllBelow fallen.new.items (length vertices.new) }
+    ensures listed { OnOk result (AreListed fallen.old.items (vertex_at vertices.old) (order_at order.now)
+        → AreListed fallen.new.items (vertex_at vertices.new) (order_at order.now)) }
+    ensures kept { (v : ℕ) → kept (vertex_at vertices.new) v ≡ kept (vertex_at vertices.old) v }
     ensures offered { IfOk result (λ closing. IfNone closing ((gap count : ℕ)
-        → IsPass arcs.now top gap (vertex_at vertices.old) (order_at order.now) count at 0
+        → IsPass arcs.now top gap (vertex_at vertices.old) (order_at order.now) count at (length arcs.now)
         → IsPass arcs.now top gap (vertex_at vertices.new) (order_at order.now) count top 0)) }
     ensures stuck { IfOk result (λ closing. IfSome closing (λ k. (gap count : ℕ)
-        → IsPass arcs.now top gap (vertex_at vertices.old) (order_at order.now) count at 0
+        → IsPass arcs.now top gap (vertex_at vertices.old) (order_at order.now) count at (length arcs.now)
         → IsStuck arcs.now top k (vertex_at vertices.new) (order_at order.now))) }
-    ensures past { IfErr result (λ e. IsWholePast e) }
-    ensures large { IfErr result (λ _. (gap count n : ℕ)
-        → IsPass arcs.now top gap (vertex_at vertices.old) (order_at order.now) count at 0
-        → IsSized n gap arcs.now (values (vertex_at vertices.old)) → 2 ^ 126 ≤ n) }
+    ensures stop { IfErr result (λ stop. (gap count n : ℕ)
+        → IsPass arcs.now top gap (vertex_at vertices.old) (order_at order.now) count at (length arcs.now)
+        → IsSized n gap arcs.now (values (vertex_at vertices.old)) → StopsBy n stop) }
 {
-    for (k, arc) in arcs.iter().enumerate() {
-        if arc.from == at {
-            let offer = sum(vertices[at].next, arc.cost)?;
-            if offer < vertices[arc.to].next {
-                if arc.to == top {
-                    return Ok(Some(k));
-                }
-                if order[arc.to] == 0 {
-                    put(vertices, arc.to, offer, k);
-                }
+    let mut k = vertices[at].kept.last;
+    while k > 0 {
+        let number = k - 1;
+        let arc = arcs[number];
+        let offer = sum(vertices[at].next, arc.cost)?;
+        if offer < vertices[arc.to].next {
+            if arc.to == top {
+                return Ok(Some(number));
+            }
+            if order[arc.to] == 0 {
+                fall(vertices, fallen, arc.to, offer, number)?;
             }
         }
+        k = links[number];
     }
     Ok(None)
 }
@@ -95,59 +127,74 @@ fn relax(
 /// Settles vertices in the order of their falls, until none falls or the vertex at the top would.
 fn settle(
     arcs: &[Arc],
+    links: &[usize],
     top: usize,
     vertices: &mut [Vertex],
     order: &mut [u64],
-) -> Result<Option<usize>, NumberPast>
+    fallen: &mut Vec<usize>,
+) -> Result<Option<usize>, LinearStop>
     requires in_range { AllInRange arcs.now (length vertices.old) }
+    requires linked { AreLinked arcs.now links.now }
+    requires last { (v : ℕ) → IsLatest arcs.now v (length arcs.now) (kept (vertex_at vertices.old) v).last }
     requires same { length order.old ≡ length vertices.old }
     requires top_in { top < length vertices.old }
     requires unsettled { (v : ℕ) → order_at order.old v ≡ 0 }
-    ensures kept { (v : ℕ) → values (vertex_at vertices.new) v ≡ values (vertex_at vertices.old) v }
+    requires inside { AllBelow fallen.old.items (length vertices.old) }
+    requires listed { AreListed fallen.old.items (vertex_at vertices.old) (order_at order.old) }
+    ensures inside { AllBelow fallen.new.items (length vertices.new) }
+    ensures listed { OnOk result (AreListed fallen.new.items (vertex_at vertices.new) (order_at order.new)) }
+    ensures kept { (v : ℕ) → kept (vertex_at vertices.new) v ≡ kept (vertex_at vertices.old) v }
     ensures next { IfOk result (λ closing. IfNone closing ((gap : ℕ)
         → IsPass arcs.now top gap (vertex_at vertices.old) (order_at order.old) 0 top 0
         → IsNext arcs.now (values (vertex_at vertices.old)) (nexts (vertex_at vertices.new)))) }
     ensures stuck { IfOk result (λ closing. IfSome closing (λ k. (gap : ℕ)
         → IsPass arcs.now top gap (vertex_at vertices.old) (order_at order.old) 0 top 0
         → IsStuck arcs.now top k (vertex_at vertices.new) (order_at order.new))) }
-    ensures past { IfErr result (λ e. IsWholePast e) }
-    ensures large { IfErr result (λ _. (gap n : ℕ)
+    ensures stop { IfErr result (λ stop. (gap n : ℕ)
         → IsPass arcs.now top gap (vertex_at vertices.old) (order_at order.old) 0 top 0
-        → IsSized n gap arcs.now (values (vertex_at vertices.old)) → 2 ^ 126 ≤ n) }
+        → IsSized n gap arcs.now (values (vertex_at vertices.old)) → StopsBy n stop) }
 {
     let mut count = 0;
     loop {
-        let Some(at) = least(vertices, order)? else {
+        let Some(at) = least(vertices, order, fallen)? else {
             return Ok(None);
         };
         count += 1;
         order[at] = count;
-        if let Some(closing) = relax(arcs, at, top, vertices, order)? {
+        if let Some(closing) = relax(arcs, links, at, top, vertices, order, fallen)? {
             return Ok(Some(closing));
         }
     }
 }
 
-/// Nothing is offered and no vertex is settled.
-fn begin(vertices: &mut [Vertex], order: &mut [u64])
-    ensures kept { (v : ℕ) → values (vertex_at vertices.new) v ≡ values (vertex_at vertices.old) v }
-    ensures nexts { (v : ℕ) → nexts (vertex_at vertices.new) v ≡ values (vertex_at vertices.old) v }
-    ensures order { (v : ℕ) → order_at order.new v ≡ 0 }
+/// Nothing is offered and no vertex is settled: only those that are listed were.
+fn rest(vertices: &mut [Vertex], order: &mut [u64], fallen: &[usize])
+    requires same { length order.old ≡ length vertices.old }
+    requires inside { AllBelow fallen.now (length vertices.old) }
+    requires listed { AreListed fallen.now (vertex_at vertices.old) (order_at order.old) }
+    ensures kept { (v : ℕ) → kept (vertex_at vertices.new) v ≡ kept (vertex_at vertices.old) v }
+    ensures rest { (v : ℕ) → AtRest (vertex_at vertices.new) (order_at order.new) v }
 {
-    for vertex in vertices.iter_mut() {
-        vertex.next = vertex.value;
-    }
-    for place in order.iter_mut() {
-        *place = 0;
+    for place in fallen {
+        let v = *place;
+        let vertex = &mut vertices[v];
+        vertex.next = vertex.kept.value;
+        order[v] = 0;
     }
 }
 
-/// The offers become the potentials.
-fn accept(vertices: &mut [Vertex])
-    ensures { (v : ℕ) → values (vertex_at vertices.new) v ≡ nexts (vertex_at vertices.old) v }
+/// The offers to the vertices that fell become their potentials.
+fn accept(vertices: &mut [Vertex], fallen: &[usize])
+    requires inside { AllBelow fallen.now (length vertices.old) }
+    ensures listed { (v : ℕ) → IsListed fallen.now v
+        → values (vertex_at vertices.new) v ≡ nexts (vertex_at vertices.old) v }
+    ensures others { (v : ℕ) → IsListed fallen.now v ⊎ (vertex_at vertices.new v ≡ vertex_at vertices.old v) }
+    ensures last { (v : ℕ) → (kept (vertex_at vertices.new) v).last ≡ (kept (vertex_at vertices.old) v).last }
 {
-    for vertex in vertices.iter_mut() {
-        vertex.value = vertex.next;
+    for place in fallen {
+        let v = *place;
+        let vertex = &mut vertices[v];
+        vertex.kept.value = vertex.next;
     }
 }
 
@@ -155,37 +202,49 @@ fn accept(vertices: &mut [Vertex])
 /// than 0.
 pub(crate) fn admit(
     arcs: &[Arc],
+    links: &[usize],
     vertices: &mut [Vertex],
     order: &mut [u64],
-) -> Result<Option<usize>, NumberPast>
+    fallen: &mut Vec<usize>,
+) -> Result<Option<usize>, LinearStop>
     requires some { 0 < length arcs.now }
     requires in_range { AllInRange arcs.now (length vertices.old) }
+    requires linked { AreLinked arcs.now links.now }
+    requires last { (v : ℕ) → IsLatest arcs.now v (length arcs.now) (kept (vertex_at vertices.old) v).last }
     requires same { length order.old ≡ length vertices.old }
+    requires rest { (v : ℕ) → AtRest (vertex_at vertices.old) (order_at order.old) v }
+    requires empty { fallen.old.items ≡ [] }
+    ensures empty { IfOk result (λ closing. IfNone closing (fallen.new.items ≡ [])) }
+    ensures rest { IfOk result (λ closing. IfNone closing ((v : ℕ)
+        → AtRest (vertex_at vertices.new) (order_at order.new) v)) }
+    ensures lasts { IfOk result (λ closing. IfNone closing ((v : ℕ)
+        → (kept (vertex_at vertices.new) v).last ≡ (kept (vertex_at vertices.old) v).last)) }
     ensures next { IfOk result (λ closing. IfNone closing ((front : List Arc) (last : Arc)
         → arcs.now ≡ front ++ last ∷ [] → Meets (values (vertex_at vertices.old)) front
         → IsNext arcs.now (values (vertex_at vertices.old)) (values (vertex_at vertices.new)))) }
     ensures stuck { IfOk result (λ closing. IfSome closing (λ k. (front : List Arc) (last : Arc)
         → arcs.now ≡ front ++ last ∷ [] → Meets (values (vertex_at vertices.old)) front
         → IsStuck arcs.now last.from k (vertex_at vertices.new) (order_at order.new))) }
-    ensures past { IfErr result (λ e. IsWholePast e) }
-    ensures large { IfErr result (λ _. (front : List Arc) (last : Arc) (m n : ℕ)
+    ensures stop { IfErr result (λ stop. (front : List Arc) (last : Arc) (m n : ℕ)
         → arcs.now ≡ front ++ last ∷ [] → IsNarrow m n front last (values (vertex_at vertices.old))
-        → 2 ^ 126 ≤ n) }
+        → StopsBy n stop) }
 {
     let number = arcs.len() - 1;
     let last = arcs[number];
-    let offer = sum(vertices[last.from].value, last.cost)?;
-    if vertices[last.to].value <= offer {
+    let offer = sum(vertices[last.from].kept.value, last.cost)?;
+    if vertices[last.to].kept.value <= offer {
         return Ok(None);
     }
-    begin(vertices, order);
     if last.from == last.to {
         return Ok(Some(number));
     }
-    put(vertices, last.to, offer, number);
-    match settle(arcs, last.from, vertices, order)? {
+    fall(vertices, fallen, last.to, offer, number)?;
+    match settle(arcs, links, last.from, vertices, order, fallen)? {
         None => {
-            accept(vertices);
+            let listed = fallen.as_slice();
+            accept(vertices, listed);
+            rest(vertices, order, listed);
+            fallen.clear();
             Ok(None)
         }
         Some(closing) => Ok(Some(closing)),

@@ -1,21 +1,30 @@
 // Arcs admitted one by one.
-ghost use Rattle.std.specs.Prelude.{◌≡◌, ◌≢◌, ℕ, pos, true, false, ◌+◌, ◌<◌, ◌≤◌, ◌^◌, ◌+ℤ◌, FitsSigned, length, IfOk, IfErr, IfSome, IfNone};
+ghost use Rattle.std.specs.Prelude.{◌≡◌, ◌≢◌, ℕ, [], pos, true, false, ◌+◌, ◌<◌, ◌≤◌, ◌^◌, ◌+ℤ◌, FitsSigned, length, IfOk, IfErr, IfSome, IfNone, OnOk};
 ghost use Rattle.std.specs.Int.{w128};
-ghost use Rattle.lq_diff.specs.Passes.{vertex_at, order_at, values, AllInRange};
+ghost use Rattle.lq_diff.specs.Passes.{vertex_at, order_at, values, nexts, AllInRange, AtRest};
 ghost use Rattle.lq_diff.specs.Solving.{IsBounded, IsSolved, IsEnded, IsOpposite, IsPlacing, touched_at};
-ghost use Rattle.lq_diff.specs.Stops.{IsWholePast};
+ghost use Rattle.lq_diff.specs.Stops.{StopsBy};
+ghost use Rattle.lq_diff.specs.Links.{kept, HasLinks};
 
-use crate::arc::{Arc, Vertex};
+use crate::arc::Arc;
 use crate::number::sum;
 use crate::pass::admit;
-use lq_num::NumberPast;
+use crate::vertex::{Kept, Vertex};
+use lq_linear::LinearStop;
 
-/// All potentials become 0.
-fn clear(vertices: &mut [Vertex])
-    ensures { (v : ℕ) → values (vertex_at vertices.new) v ≡ pos 0 }
+/// All potentials become 0, nothing is offered, and no vertex is settled or has an arc.
+fn clear(vertices: &mut [Vertex], order: &mut [u64])
+    ensures values { (v : ℕ) → values (vertex_at vertices.new) v ≡ pos 0 }
+    ensures nexts { (v : ℕ) → nexts (vertex_at vertices.new) v ≡ pos 0 }
+    ensures last { (v : ℕ) → (kept (vertex_at vertices.new) v).last ≡ 0 }
+    ensures order { (v : ℕ) → order_at order.new v ≡ 0 }
 {
     for vertex in vertices.iter_mut() {
-        vertex.value = 0;
+        vertex.kept = Kept { value: 0, last: 0 };
+        vertex.next = 0;
+    }
+    for number in order.iter_mut() {
+        *number = 0;
     }
 }
 
@@ -56,21 +65,39 @@ fn placing(arcs: &[Arc], at: usize, touched: &[bool]) -> Option<Arc>
 }
 
 /// Gives the vertex that an arc leads to the potential at which the arc is met exactly.
-fn place(vertices: &mut [Vertex], arc: Arc) -> Result<(), NumberPast>
+fn place(vertices: &mut [Vertex], arc: Arc) -> Result<(), LinearStop>
     requires from_in { arc.from < length vertices.old }
     requires to_in { arc.to < length vertices.old }
-    ensures here { IfOk result (λ _. values (vertex_at vertices.new) arc.to
+    ensures here { OnOk result (values (vertex_at vertices.new) arc.to
         ≡ values (vertex_at vertices.old) arc.from +ℤ arc.cost) }
-    ensures others { IfOk result (λ _. (v : ℕ) → v ≢ arc.to
+    ensures others { OnOk result ((v : ℕ) → v ≢ arc.to
         → values (vertex_at vertices.new) v ≡ values (vertex_at vertices.old) v) }
-    ensures past { IfErr result (λ e. IsWholePast e) }
-    ensures large { IfErr result (λ _. ¬ (FitsSigned w128
-        (values (vertex_at vertices.old) arc.from +ℤ arc.cost))) }
+    ensures lasts { (v : ℕ) → (kept (vertex_at vertices.new) v).last ≡ (kept (vertex_at vertices.old) v).last }
+    ensures rest { (order : ℕ → ℕ) → ((v : ℕ) → AtRest (vertex_at vertices.old) order v)
+        → (v : ℕ) → AtRest (vertex_at vertices.new) order v }
+    ensures stop { IfErr result (λ stop. (n : ℕ) → (¬ (FitsSigned w128
+        (values (vertex_at vertices.old) arc.from +ℤ arc.cost)) → 2 ^ 126 ≤ n) → StopsBy n stop) }
 {
-    let value = sum(vertices[arc.from].value, arc.cost)?;
+    let value = sum(vertices[arc.from].kept.value, arc.cost)?;
     let vertex = &mut vertices[arc.to];
-    vertex.value = value;
+    vertex.kept.value = value;
+    vertex.next = value;
     Ok(())
+}
+
+/// Links the arc of this number to the one before it from the same vertex.
+fn link(arcs: &[Arc], at: usize, links: &mut [usize], vertices: &mut [Vertex])
+    requires at_in { at < length arcs.now }
+    requires in_range { AllInRange arcs.now (length vertices.old) }
+    requires linked { HasLinks arcs.now links.old (vertex_at vertices.old) at }
+    ensures linked { HasLinks arcs.now links.new (vertex_at vertices.new) (at + 1) }
+    ensures values { (v : ℕ) → values (vertex_at vertices.new) v ≡ values (vertex_at vertices.old) v }
+    ensures nexts { (v : ℕ) → nexts (vertex_at vertices.new) v ≡ nexts (vertex_at vertices.old) v }
+{
+    let from = arcs[at].from;
+    let vertex = &mut vertices[from];
+    links[at] = vertex.kept.last;
+    vertex.kept.last = at + 1;
 }
 
 /// Marks the vertices that an arc names.
@@ -89,30 +116,42 @@ fn touch(touched: &mut [bool], arc: Arc)
 /// less than 0.
 pub(crate) fn solve(
     arcs: &[Arc],
+    links: &mut [usize],
     vertices: &mut [Vertex],
     order: &mut [u64],
+    fallen: &mut Vec<usize>,
     touched: &mut [bool],
-) -> Result<Option<usize>, NumberPast>
+) -> Result<Option<usize>, LinearStop>
     requires in_range { AllInRange arcs.now (length vertices.old) }
+    requires links { length links.old ≡ length arcs.now }
     requires same { length order.old ≡ length vertices.old }
+    requires empty { fallen.old.items ≡ [] }
     requires marks { length touched.old ≡ length vertices.old }
     ensures solved { IfOk result (λ closing. IfNone closing
         (IsSolved arcs.now (values (vertex_at vertices.new)))) }
     ensures ended { IfOk result (λ closing. IfSome closing (λ k. IsEnded arcs.now k (vertex_at vertices.new)
         (order_at order.new))) }
-    ensures past { IfErr result (λ e. IsWholePast e) }
-    ensures large { IfErr result (λ _. (n : ℕ) → IsBounded n arcs.now → 2 ^ 126 ≤ n) }
+    ensures stop { IfErr result (λ stop. (n : ℕ) → IsBounded n arcs.now → StopsBy n stop) }
 {
-    clear(vertices);
+    clear(vertices, order);
     let mut k = 0;
     while k < arcs.len() {
         if let Some(arc) = placing(arcs, k, touched) {
             place(vertices, arc)?;
             touch(touched, arc);
+            link(arcs, k, links, vertices);
+            link(arcs, k + 1, links, vertices);
             k += 2;
         } else {
             touch(touched, arcs[k]);
-            if let Some(closing) = admit(&arcs[..k + 1], vertices, order)? {
+            link(arcs, k, links, vertices);
+            if let Some(closing) = admit(
+                &arcs[..k + 1],
+                &links[..k + 1],
+                vertices,
+                order,
+                fallen,
+            )? {
                 return Ok(Some(closing));
             }
             k += 1;

@@ -6,28 +6,20 @@ ghost use Rattle.lq_linear.specs.Row.{Row, IsRow, AscendsFrom};
 ghost use Rattle.lq_linear.specs.Answers.{Last, Held};
 ghost use Rattle.lq_diff.specs.Edges.{parts_of, arcs_of, sizes, EdgesInRange, TagsApart};
 ghost use Rattle.lq_diff.specs.Passes.{vertex_at, order_at, values, nexts};
-ghost use Rattle.lq_diff.specs.Stops.{IsWholePast, StopsBy};
+ghost use Rattle.lq_diff.specs.Stops.{StopsBy};
 ghost use Rattle.lq_diff.specs.Table.{IsDifference, TermsBelow, IsAnswer};
 ghost use Rattle.lq_diff.specs.Range.{InRange};
 ghost use Rattle.lq_diff.specs.Cycles.{IsNegativeCycle};
 
-use crate::arc::{Arc, Edge, Vertex};
+use crate::arc::{Arc, Edge};
 use crate::cycle::cycle;
 use crate::number::difference;
 use crate::solve::solve;
-use lq_linear::{LinearEngine, LinearRow, LinearStop, Mark, Verdict};
-use lq_num::{Frac, NumberPast};
+use crate::vertex::{Kept, Vertex};
+use lq_linear::{Answer, LinearEngine, LinearRow, LinearStop, Mark, Verdict};
+use lq_num::Frac;
 use std::alloc::{AllocError, Global};
 use std::marker::Model;
-
-/// The last answer of a table.
-#[derive(Clone, Copy)]
-pub(crate) enum Answer {
-    Unasked,
-    Solved,
-    Contradicted,
-    GaveUp,
-}
 
 /// Difference rows over the terms below a number, decided by potentials.
 #[derive(Drop)]
@@ -89,10 +81,7 @@ fn arcs(alloc: Global, edges: &[Edge]) -> Result<Vec<Arc>, LinearStop>
 {
     let mut found = Vec::new(alloc);
     for edge in edges {
-        let cost = match difference(0, edge.weight) {
-            Ok(cost) => cost,
-            Err(past) => return Err(LinearStop::Number(past)),
-        };
+        let cost = difference(0, edge.weight)?;
         let forward = Arc {
             tag: edge.tag,
             from: edge.from,
@@ -120,20 +109,19 @@ fn arcs(alloc: Global, edges: &[Edge]) -> Result<Vec<Arc>, LinearStop>
 }
 
 /// Measures each potential from that of the number 0.
-fn measure(vertices: &mut [Vertex]) -> Result<(), NumberPast>
+fn measure(vertices: &mut [Vertex]) -> Result<(), LinearStop>
     requires { 0 < length vertices.old }
     ensures kept { (v : ℕ) → values (vertex_at vertices.new) v ≡ values (vertex_at vertices.old) v }
     ensures measured { IfOk result (λ _. (v : ℕ) → v < length vertices.old
         → nexts (vertex_at vertices.new) v ≡ values (vertex_at vertices.old) v -ℤ values
         (vertex_at vertices.old) 0) }
-    ensures past { IfErr result (λ e. IsWholePast e) }
-    ensures large { IfErr result (λ _. (n : ℕ) → InRange (values (vertex_at vertices.old)) n → 2 ^ 126 ≤ n) }
+    ensures stop { IfErr result (λ stop. (n : ℕ) → InRange (values (vertex_at vertices.old)) n → StopsBy n stop) }
 {
-    let base = vertices[0].value;
+    let base = vertices[0].kept.value;
     for vertex in vertices.iter_mut() {
-        match difference(vertex.value, base) {
+        match difference(vertex.kept.value, base) {
             Ok(from_zero) => vertex.next = from_zero,
-            Err(past) => return Err(past),
+            Err(stop) => return Err(stop),
         }
     }
     Ok(())
@@ -159,11 +147,22 @@ fn decide(
     let Ok(mut touched) = vec![in alloc; false; vertices.len()] else {
         return Err(LinearStop::Memory);
     };
-    match solve(arcs.as_slice(), vertices, order, &mut touched) {
-        Err(past) => Err(LinearStop::Number(past)),
+    let Ok(mut links) = vec![in alloc; 0; arcs.len()] else {
+        return Err(LinearStop::Memory);
+    };
+    let mut fallen = Vec::new(alloc);
+    match solve(
+        arcs.as_slice(),
+        &mut links,
+        vertices,
+        order,
+        &mut fallen,
+        &mut touched,
+    ) {
+        Err(stop) => Err(stop),
         Ok(None) => match measure(vertices) {
             Ok(()) => Ok(None),
-            Err(past) => Err(LinearStop::Number(past)),
+            Err(stop) => Err(stop),
         },
         Ok(Some(closing)) => match cycle(alloc, arcs.as_slice(), vertices, order, closing) {
             Ok(found) => Ok(Some(found)),
@@ -197,7 +196,7 @@ impl DistanceTable {
             return Err(AllocError);
         };
         let vertex = Vertex {
-            value: 0,
+            kept: Kept { value: 0, last: 0 },
             next: 0,
             parent: 0,
         };

@@ -1,4 +1,6 @@
 -- What an engine last answered.
+use Rattle.lq_linear.specs.declared.engine.Answer.{Answer}
+use Rattle.lq_linear.specs.declared.engine.Answer.TheVariants.{Unasked, Solved, Contradicted, GaveUp}
 use Rattle.lq_linear.specs.declared.engine.Verdict.{Verdict}
 use Rattle.lq_linear.specs.declared.engine.Verdict.TheVariants.{Holds, Conflict}
 
@@ -11,3 +13,10 @@ pub data Last : Type 0 where
 abbrev pub verdict_of : Verdict → Last
 verdict_of Holds = Held
 verdict_of Conflict = Conflicted
+
+-- what an engine keeps of it
+abbrev pub last_of : Answer → Last
+last_of Unasked = Nothing
+last_of Solved = Held
+last_of Contradicted = Conflicted
+last_of GaveUp = Stopped

@@ -3,3 +3,7 @@ pub mod Contradiction
 pub mod Clash
 pub mod Answers
 pub mod Steps
+pub mod Difference
+pub mod Near
+pub mod Nearness
+pub mod Seen

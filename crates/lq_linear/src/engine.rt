@@ -20,6 +20,19 @@ pub enum Verdict {
     Conflict,
 }
 
+/// What an engine keeps of its last answer.
+#[derive(Clone, Copy, Debug, PartialEq, Eq)]
+pub enum Answer {
+    /// None since the rows that stand changed.
+    Unasked,
+    /// A point solves them all.
+    Solved,
+    /// A sum of them is a contradiction.
+    Contradicted,
+    /// A stop, until the engine goes back to a mark.
+    GaveUp,
+}
+
 /// Why an engine gave no verdict.
 #[derive(Clone, Copy, Debug, PartialEq, Eq, Error)]
 pub enum LinearStop {
@@ -63,14 +76,16 @@ pub trait LinearEngine {
     // the pairs of a tag and a multiplier, where it is `Conflicted`
     ghost multipliers: { Self → List (ℕ × ℚ) };
 
-    /// Adds a row under a tag that no row that stands has.
+    /// Adds a row under a tag that no row that stands has. A row that is refused was never handed.
     fn assert_row(&mut self, row: &LinearRow, tag: u64) -> Result<(), LinearStop>
         requires takes { takes (limits self.old) (standing self.old) row.now }
         requires fresh { IsNone (tagged (standing self.old) tag) }
         requires going { last self.old ≢ Stopped }
         ensures stands { OnOk result (standing self.new ≡ standing self.old ++ (tag, row.now) ∷ []) }
         ensures last { OnOk result (last self.new ≡ Nothing) }
-        ensures handed { (rows : List Row) → handed self.old rows → handed self.new (rows ++ row.now ∷ []) }
+        ensures handed { OnOk result ((rows : List Row) → handed self.old rows
+            → handed self.new (rows ++ row.now ∷ [])) }
+        ensures refused { OnErr result ((rows : List Row) → handed self.old rows → handed self.new rows) }
         ensures stop { IfErr result (λ stop. (rows : List Row) → handed self.old rows
             → may_stop (limits self.old) (standing self.old ++ (tag, row.now) ∷ []) (rows ++ row.now
             ∷ []) stop) }

@@ -5,6 +5,6 @@ mod engine;
 mod row;
 mod value;
 
-pub use engine::{LinearEngine, LinearStop, Mark, Verdict, conflict_or_point};
+pub use engine::{Answer, LinearEngine, LinearStop, Mark, Verdict, conflict_or_point};
 pub use row::LinearRow;
-pub use value::level_at;
+pub use value::{level_at, level_sees_its_terms, near_values_form_differences};

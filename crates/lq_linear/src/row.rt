@@ -1,5 +1,6 @@
 // Rows of linear arithmetic.
-ghost use Rattle.std.specs.Prelude.{◌≡◌};
+ghost use Rattle.std.specs.Prelude.{◌≡◌, IsTrue};
+ghost use Rattle.lq_linear.specs.Difference.{IsDifference};
 ghost use Rattle.lq_linear.specs.Row.{IsRow};
 
 use std::marker::Model;
@@ -50,6 +51,21 @@ impl LinearRow {
         ensures { result ≡ self.now.constant }
     {
         self.constant
+    }
+
+    /// Whether the row is over at most two terms, one with the coefficient 1 or -1, two with 1 and -1.
+    pub fn is_difference(&self) -> bool
+        ensures difference { IsTrue result → IsDifference self.now.parts }
+        ensures other { IsDifference self.now.parts → IsTrue result }
+    {
+        match self.parts.as_slice() {
+            [] => true,
+            [(_, first)] => *first == 1 || *first == -1,
+            [(_, first), (_, second)] => {
+                (*first == 1 && *second == -1) || (*first == -1 && *second == 1)
+            }
+            _ => false,
+        }
     }
 
     /// Whether the row is an equation.

@@ -1,6 +1,9 @@
 // The level of a row at given values.
-ghost use Rattle.std.specs.Prelude.{◌≡◌, IfOk, IfErr};
-ghost use Rattle.lq_linear.specs.Row.{level};
+ghost use Rattle.std.specs.Prelude.{◌≡◌, ◌<◌, ◌≤◌, ◌^◌, ℕ, unsigned_abs, IfOk, IfErr};
+ghost use Rattle.lq_linear.specs.Difference.{IsDifference, TermsBelow};
+ghost use Rattle.lq_linear.specs.Near.{IsNear};
+ghost use Rattle.lq_linear.specs.Seen.{AgreeOn};
+ghost use Rattle.lq_linear.specs.Row.{Row, Valuation, level};
 ghost use Rattle.lq_linear.specs.Steps.{valuation_of, HasValues, IsStep, IsFormed};
 ghost use Rattle.lq_num.specs.Past.{IsPast};
 ghost use Rattle.lq_num.specs.Value.{value_of};
@@ -25,3 +28,16 @@ pub fn level_at(row: &LinearRow, values: &[Frac]) -> Result<Frac, NumberPast>
     }
     total.add(&Frac::whole(row.constant()))
 }
+
+/// The level of a row sees the values of the row's terms alone.
+pub fn level_sees_its_terms()
+    ensures { (v w : Valuation) (row : Row) → AgreeOn v w row.parts → level v row ≡ level w row }
+{}
+
+/// At whole values that are no larger in size than a number below 2^126, and no farther apart, the level of a difference row whose
+/// constant is no larger either is formed.
+pub fn near_values_form_differences()
+    ensures { (n terms : ℕ) (v : Valuation) (row : Row) → n < 2 ^ 126 → IsNear n terms v
+        → IsDifference row.parts → TermsBelow terms row.parts → unsigned_abs row.constant ≤ n
+        → IsFormed v row }
+{}

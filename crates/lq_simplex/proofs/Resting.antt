@@ -72,10 +72,10 @@ unmoved lines old new v by j h free n =
     ∙ solve (valuation_of old j ∷ by ∷ []) (var 0 ⊕ con (pos 0) ⊗ var 1) (var 0) refl
 
 -- ---- what rests keeps resting
-given_on : (rows more : List Row) (old new : List Parts) (k : ℕ) (x y : ℚ) → GoesOn old new → x ≡ y → IsGiven rows old k x → IsGiven (rows ++ more) new k y
-given_on rows more old new k x y g e i = record {
+given_on : (rows : List Row) (old new : List Parts) (k : ℕ) (x y : ℚ) → GoesOn old new → x ≡ y → IsGiven rows old k x → IsGiven rows new k y
+given_on rows old new k x y g e i = record {
   row = i.row;
-  there = Contains-append_left rows more i.row i.there;
+  there = i.there;
   gives = record {
     bound = i.gives.bound;
     reads = reads_on old new i.row (Some i.gives.bound) g i.gives.reads;
@@ -84,12 +84,19 @@ given_on rows more old new k x y g e i = record {
   };
 }
 
-pub rests_on : (rows more : List Row) (old new : System) → AllStay old new → GoesOn old.forms new.forms → Rests rows old → Rests (rows ++ more) new
-rests_on rows more old new stay g r j f =
+pub rests_on : (rows : List Row) (old new : System) → AllStay old new → GoesOn old.forms new.forms → Rests rows old → Rests rows new
+rests_on rows old new stay g r j f =
     let s = stay j f in
     elim (r j s.0) [
       | inl z ↦ inl (s.1 ∙ z)
-      | inr i ↦ inr (given_on rows more old.forms new.forms j (valuation_of old.values j) (valuation_of new.values j) g (sym s.1) i)
+      | inr i ↦ inr (given_on rows old.forms new.forms j (valuation_of old.values j) (valuation_of new.values j) g (sym s.1) i)
+    ]
+
+pub rests_more : (rows more : List Row) (s : System) → Rests rows s → Rests (rows ++ more) s
+rests_more rows more s r j f =
+    elim (r j f) [
+      | inl z ↦ inl z
+      | inr i ↦ inr (record { row = i.row; there = Contains-append_left rows more i.row i.there; gives = i.gives })
     ]
 
 pub among_more : (rows more : List Row) (standing : List Standing) → AllAmong rows standing → AllAmong (rows ++ more) standing

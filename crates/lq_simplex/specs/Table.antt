@@ -6,12 +6,12 @@ use Rattle.lq_num.specs.Past.{IsPast}
 use Rattle.lq_linear.specs.Row.{Row, Valuation}
 use Rattle.lq_linear.specs.Contradiction.{Tagged, Solves, IsContradiction}
 use Rattle.lq_linear.specs.Steps.{valuation_of}
-use Rattle.lq_linear.specs.Answers.{Last, Nothing, Held, Conflicted, Stopped}
+use Rattle.lq_linear.specs.Answers.{Last, last_of}
+use Rattle.lq_linear.specs.declared.engine.Answer.{Answer}
+use Rattle.lq_linear.specs.declared.engine.Answer.TheVariants.{Solved, Contradicted}
 use Rattle.lq_linear.specs.declared.engine.LinearStop.{LinearStop}
 use Rattle.lq_linear.specs.declared.engine.LinearStop.TheVariants.{Number, Pivots, Memory}
 use Rattle.lq_simplex.specs.declared.row.Standing.{Standing}
-use Rattle.lq_simplex.specs.declared.tableau.Answer.{Answer}
-use Rattle.lq_simplex.specs.declared.tableau.Answer.TheVariants.{Unasked, Solved, Contradicted, GaveUp}
 use Rattle.lq_simplex.specs.Systems.{System, TermsBelow}
 use Rattle.lq_simplex.specs.Standing.{standing_of, multipliers_of, AllRead, TagsApart}
 use Rattle.lq_simplex.specs.Configurations.{AllAmong, Rests}
@@ -23,12 +23,6 @@ pub record Table : Type 0 where
   pub found : List (ℕ × Frac)
   pub answer : Answer
   pub limit : ℕ
-
-abbrev pub last_of : Answer → Last
-last_of Unasked = Nothing
-last_of Solved = Held
-last_of Contradicted = Conflicted
-last_of GaveUp = Stopped
 
 abbrev pub table_rows : Table → Tagged
 table_rows t = standing_of t.rows

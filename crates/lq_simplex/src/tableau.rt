@@ -20,19 +20,10 @@ use crate::limits::Limits;
 use crate::line::Entry;
 use crate::reading::read;
 use crate::row::{Standing, copy};
-use lq_linear::{LinearEngine, LinearRow, LinearStop, Mark, Verdict};
+use lq_linear::{Answer, LinearEngine, LinearRow, LinearStop, Mark, Verdict};
 use lq_num::Frac;
 use std::alloc::{AllocError, Global};
 use std::marker::Model;
-
-/// The last answer of a tableau.
-#[derive(Clone, Copy)]
-pub(crate) enum Answer {
-    Unasked,
-    Solved,
-    Contradicted,
-    GaveUp,
-}
 
 /// All rows over the terms below a number, decided by pivots.
 #[derive(Drop)]
@@ -203,9 +194,9 @@ fn stand(
     ensures kept { OnErr result (rows.new.items ≡ rows.old.items) }
     ensures read { AllRead basis.new.forms rows.new.items }
     ensures apart { TagsApart rows.new.items }
-    ensures among { (ever : List Row) → AllAmong ever rows.old.items
-        → AllAmong (ever ++ row.now ∷ []) rows.new.items }
-    ensures rests { (ever : List Row) → Rests ever basis.old → Rests (ever ++ row.now ∷ []) basis.new }
+    ensures among { OnOk result ((ever : List Row) → AllAmong ever rows.old.items
+        → AllAmong (ever ++ row.now ∷ []) rows.new.items) }
+    ensures rests { (ever : List Row) → Rests ever basis.old → Rests ever basis.new }
     ensures terms { basis.new.terms ≡ basis.old.terms }
     ensures stop { IfErr result IsTableauError }
 {

@@ -1,15 +1,16 @@
-use Rattle.std.proofs.Common.{◌≡◌, ℕ, ◌<◌, ◌-◌, length, pos, ◌+ℤ◌, ◌-ℤ◌, ◌<ℤ◌, to_z, of_z, FitsSigned, arith, rules, get_or, sym, ap, subst, ◌∙◌, false, List, [], ◌∷◌, ◌++◌}
+use Rattle.std.proofs.Common.{Err, IfSome, slice_get, refl, ◌≡◌, ℕ, ◌<◌, ◌-◌, length, pos, ◌+ℤ◌, ◌-ℤ◌, ◌<ℤ◌, to_z, of_z, FitsSigned, arith, rules, get_or, sym, ap, subst, ◌∙◌, false, List, [], ◌∷◌, ◌++◌}
 use Rattle.std.specs.Int.{w128}
 use Rattle.std.proofs.Math.IntN.{ℤ}
 use Rattle.std.proofs.lemmas.Int.{ints, to_z-of_z}
-use Rattle.std.proofs.lemmas.Result.{err_from_is_err_and}
 use borrow.Author.Differences.{up}
-use Rattle.lq_diff.proofs.Passing.{last_is, starts, holds_already, stuck_at_once, first_large, narrow_sized, next_cast, next_before}
+use Rattle.lq_diff.proofs.Passing.{listed_none, accepted, accepted_listed, stops_more, last_is, starts, holds_already, stuck_at_once, first_large, narrow_sized, next_cast, next_before}
 use Rattle.lq_diff.proofs.Numbers.{element, sum_read}
 use Rattle.lq_diff.specs.declared.arc.Arc.{Arc}
-use Rattle.lq_diff.specs.declared.arc.Vertex.{Vertex}
+use Rattle.lq_diff.specs.declared.vertex.Kept.{Kept}
+use Rattle.lq_diff.specs.declared.vertex.Vertex.{Vertex}
+use Rattle.lq_diff.specs.Links.{IsLatest}
 use Rattle.lq_diff.specs.Arcs.{Meets}
-use Rattle.lq_diff.specs.Passes.{blank, vertex_at, order_at, values, nexts, IsStuck, IsNarrow}
+use Rattle.lq_diff.specs.Passes.{AllBelow, AreListed, blank, vertex_at, order_at, values, nexts, IsStuck, IsNarrow}
 use Rattle.lq_diff.proofs.pass.admit.Goals as goal
 
 abbrev none : Arc
@@ -31,41 +32,51 @@ offset_bounds-vertices-last-2 c =
     let l : (end c.args.arcs.now).to < length c.args.vertices.now = omega arith in
     search rules
 
-pub put-requires : goal.put-requires
-put-requires c =
+pub fall-requires-clause-at_in : goal.fall-requires-clause-at_in
+fall-requires-clause-at_in c =
     let s = c.requires.some in
-    let t = c.begin.auto.vertices in
     let b = element c.args.arcs.now (length c.args.arcs.now - 1) none _ (omega arith) (c.requires.in_range (length c.args.arcs.now - 1)) in omega arith
+
+pub fall-requires-clause-inside : goal.fall-requires-clause-inside
+fall-requires-clause-inside c = λ i. subst (λ l. IfSome (slice_get l i) (λ v. v < length c.args.vertices.now)) (sym c.requires.empty) tt
+
+pub settle-requires-clause-last : goal.settle-requires-clause-last
+settle-requires-clause-last c = λ v. subst (λ (q : Kept). IsLatest c.args.arcs.now v (length c.args.arcs.now) q.last) (sym (c.fall.ensures.kept v)) (c.requires.last v)
+
+pub settle-requires-clause-unsettled : goal.settle-requires-clause-unsettled
+settle-requires-clause-unsettled c = λ v. (c.requires.rest v).1
+
+pub settle-requires-clause-listed : goal.settle-requires-clause-listed
+settle-requires-clause-listed c = c.in_ok-fall.ensures.listed (order_at c.args.order.now) (listed_none c.args.fallen.now.items (vertex_at c.args.vertices.now) (order_at c.args.order.now) c.requires.rest)
 
 pub settle-requires-clause-top_in : goal.settle-requires-clause-top_in
 settle-requires-clause-top_in c =
     let s = c.requires.some in
-    let t = c.begin.auto.vertices in
-    let u = c.put.auto.vertices in
+    let u = c.fall.auto.vertices in
     let b = element c.args.arcs.now (length c.args.arcs.now - 1) none _ (omega arith) (c.requires.in_range (length c.args.arcs.now - 1)) in omega arith
 
-pub returns-in_err-offer-clause-large : goal.returns-in_err-offer-clause-large
-returns-in_err-offer-clause-large c =
+pub returns-in_err-offer-clause-stop : goal.returns-in_err-offer-clause-stop
+returns-in_err-offer-clause-stop c =
     let a : Arc = end c.args.arcs.now in
     let x : Vertex = get_or c.args.vertices.now a.from blank in
-    let fx : FitsSigned w128 x.value = search rules in
+    let fx : FitsSigned w128 x.kept.value = search rules in
     let fc : FitsSigned w128 a.cost = search rules in
-    let p = err_from_is_err_and c.from_residual.result c.from_residual.ensures.1 in
-    rw (p.1) (λ front last m n e h.
+    let was : c.from_residual.result ≡ Err c.in_err-offer.field-0.0 = search rules in
+    rw was (λ front last m n e h. c.in_err-offer.ensures.stop n (λ past.
     first_large front last (values (vertex_at c.args.vertices.now)) m n h
     (subst (λ (b : Arc). ¬ (FitsSigned w128 (values (vertex_at c.args.vertices.now) b.from +ℤ b.cost))) (last_is front last c.args.arcs.now none e)
-    (subst (λ z. ¬ (FitsSigned w128 z)) (sum_read x.value a.cost fx fc) c.in_err-offer.ensures.large)))
+    (subst (λ z. ¬ (FitsSigned w128 z)) (sum_read x.kept.value a.cost fx fc) past))))
 
 pub returns-then-vertices-last-clause-next : goal.returns-then-vertices-last-clause-next
 returns-then-vertices-last-clause-next c = λ front last e meets.
     let a : Arc = end c.args.arcs.now in
     let x : Vertex = get_or c.args.vertices.now a.from blank in
     let y : Vertex = get_or c.args.vertices.now a.to blank in
-    let fx : FitsSigned w128 x.value = search rules in
-    let fy : FitsSigned w128 y.value = search rules in
+    let fx : FitsSigned w128 x.kept.value = search rules in
+    let fy : FitsSigned w128 y.kept.value = search rules in
     let fc : FitsSigned w128 a.cost = search rules in
     let fo : FitsSigned w128 c.in_ok-offer.offer = search rules in
-    let value : c.in_ok-offer.offer ≡ x.value +ℤ a.cost = c.in_ok-offer.ensures.value ∙ sum_read x.value a.cost fx fc in
+    let value : c.in_ok-offer.offer ≡ x.kept.value +ℤ a.cost = c.in_ok-offer.ensures.value ∙ sum_read x.kept.value a.cost fx fc in
     let t = c.if-vertices-last.true in
     holds_already front a c.args.arcs.now (values (vertex_at c.args.vertices.now)) (again front last c.args.arcs.now e) meets (omega (arith, ints))
 
@@ -74,91 +85,106 @@ returns-then-last-clause-stuck c = λ front last e meets.
     let a : Arc = end c.args.arcs.now in
     let x : Vertex = get_or c.args.vertices.now a.from blank in
     let y : Vertex = get_or c.args.vertices.now a.to blank in
-    let fx : FitsSigned w128 x.value = search rules in
-    let fy : FitsSigned w128 y.value = search rules in
+    let fx : FitsSigned w128 x.kept.value = search rules in
+    let fy : FitsSigned w128 y.kept.value = search rules in
     let fc : FitsSigned w128 a.cost = search rules in
     let fo : FitsSigned w128 c.in_ok-offer.offer = search rules in
-    let value : c.in_ok-offer.offer ≡ x.value +ℤ a.cost = c.in_ok-offer.ensures.value ∙ sum_read x.value a.cost fx fc in
+    let value : c.in_ok-offer.offer ≡ x.kept.value +ℤ a.cost = c.in_ok-offer.ensures.value ∙ sum_read x.kept.value a.cost fx fc in
     let t = c.if-vertices-last.false in
-    let less : c.in_ok-offer.offer <ℤ y.value = omega (arith, ints) in
-    subst (λ (b : Arc). IsStuck c.args.arcs.now b.from (length c.args.arcs.now - 1) (vertex_at c.begin.new.vertices) (order_at c.begin.new.order)) (last_is front last c.args.arcs.now none e)
-    (stuck_at_once front a c.args.arcs.now (vertex_at c.args.vertices.now) (vertex_at c.begin.new.vertices) (order_at c.begin.new.order) c.in_ok-offer.offer
-    (again front last c.args.arcs.now e) c.begin.ensures.order c.begin.ensures.kept c.begin.ensures.nexts value less c.if-last.true)
+    let less : c.in_ok-offer.offer <ℤ y.kept.value = omega (arith, ints) in
+    subst (λ (b : Arc). IsStuck c.args.arcs.now b.from (length c.args.arcs.now - 1) (vertex_at c.args.vertices.now) (order_at c.args.order.now)) (last_is front last c.args.arcs.now none e)
+    (stuck_at_once front a c.args.arcs.now (vertex_at c.args.vertices.now) (vertex_at c.args.vertices.now) (order_at c.args.order.now) c.in_ok-offer.offer
+    (again front last c.args.arcs.now e) (λ v. (c.requires.rest v).1) (λ v. refl) (λ v. (c.requires.rest v).0) value less c.if-last.true)
 
-pub returns-in_err-settle-clause-large : goal.returns-in_err-settle-clause-large
-returns-in_err-settle-clause-large c =
+pub returns-in_err-settle-clause-stop : goal.returns-in_err-settle-clause-stop
+returns-in_err-settle-clause-stop c =
     let a : Arc = end c.args.arcs.now in
     let x : Vertex = get_or c.args.vertices.now a.from blank in
     let y : Vertex = get_or c.args.vertices.now a.to blank in
-    let fx : FitsSigned w128 x.value = search rules in
-    let fy : FitsSigned w128 y.value = search rules in
+    let fx : FitsSigned w128 x.kept.value = search rules in
+    let fy : FitsSigned w128 y.kept.value = search rules in
     let fc : FitsSigned w128 a.cost = search rules in
     let fo : FitsSigned w128 c.in_ok-offer.offer = search rules in
-    let value : c.in_ok-offer.offer ≡ x.value +ℤ a.cost = c.in_ok-offer.ensures.value ∙ sum_read x.value a.cost fx fc in
+    let value : c.in_ok-offer.offer ≡ x.kept.value +ℤ a.cost = c.in_ok-offer.ensures.value ∙ sum_read x.kept.value a.cost fx fc in
     let t = c.if-vertices-last.false in
-    let less : c.in_ok-offer.offer <ℤ y.value = omega (arith, ints) in
+    let less : c.in_ok-offer.offer <ℤ y.kept.value = omega (arith, ints) in
     let o : ℤ = to_z w128 (of_z w128 c.in_ok-offer.offer) in
     let oe : o ≡ c.in_ok-offer.offer = to_z-of_z w128 c.in_ok-offer.offer fo in
     let r = vertex_at c.args.vertices.now in
-    let b = vertex_at c.begin.new.vertices in
-    let s = vertex_at c.put.new.vertices in
-    let kept : (v : ℕ) → values s v ≡ values r v = λ v. c.put.ensures.falls.kept v ∙ c.begin.ensures.kept v in
-    let gap : ℕ = up (y.value -ℤ o) in
-    let p = err_from_is_err_and c.from_residual-in_err-settle.result c.from_residual-in_err-settle.ensures.1 in
-    rw (p.1) (λ front last m n e h.
+    let s = vertex_at c.fall.new.vertices in
+    let same : (v : ℕ) → values s v ≡ values r v = c.in_ok-fall.ensures.falls.kept in
+    let gap : ℕ = up (y.kept.value -ℤ o) in
+    let was : c.from_residual-in_err-settle.result ≡ Err c.in_err-settle.field-0.0 = search rules in
+    rw was (λ front last m n e h.
     let meets : Meets (values r) front = h.meets in
     let narrow : IsNarrow m n front a (values r) = subst (λ (w : Arc). IsNarrow m n front w (values r)) (sym (last_is front last c.args.arcs.now none e)) h in
-    c.in_err-settle.ensures.large gap n
-    (starts front a c.args.arcs.now r b s (order_at c.begin.new.order) o (again front last c.args.arcs.now e) meets c.begin.ensures.order c.begin.ensures.kept c.begin.ensures.nexts
-    c.put.ensures.falls (oe ∙ value) (subst (λ z. z <ℤ y.value) (sym oe) less) c.if-last.false)
-    (narrow_sized front a c.args.arcs.now r s m n o (again front last c.args.arcs.now e) narrow kept (oe ∙ value)))
+    c.in_err-settle.ensures.stop gap n
+    (starts front a c.args.arcs.now r r s (order_at c.args.order.now) o (again front last c.args.arcs.now e) meets (λ v. (c.requires.rest v).1) (λ v. refl) (λ v. (c.requires.rest v).0)
+    c.in_ok-fall.ensures.falls (oe ∙ value) (subst (λ z. z <ℤ y.kept.value) (sym oe) less) c.if-last.false)
+    (narrow_sized front a c.args.arcs.now r s m n o (again front last c.args.arcs.now e) narrow same (oe ∙ value)))
 
 pub returns-in-None-clause-next : goal.returns-in-None-clause-next
 returns-in-None-clause-next c = λ front last e meets.
     let a : Arc = end c.args.arcs.now in
     let x : Vertex = get_or c.args.vertices.now a.from blank in
     let y : Vertex = get_or c.args.vertices.now a.to blank in
-    let fx : FitsSigned w128 x.value = search rules in
-    let fy : FitsSigned w128 y.value = search rules in
+    let fx : FitsSigned w128 x.kept.value = search rules in
+    let fy : FitsSigned w128 y.kept.value = search rules in
     let fc : FitsSigned w128 a.cost = search rules in
     let fo : FitsSigned w128 c.in_ok-offer.offer = search rules in
-    let value : c.in_ok-offer.offer ≡ x.value +ℤ a.cost = c.in_ok-offer.ensures.value ∙ sum_read x.value a.cost fx fc in
+    let value : c.in_ok-offer.offer ≡ x.kept.value +ℤ a.cost = c.in_ok-offer.ensures.value ∙ sum_read x.kept.value a.cost fx fc in
     let t = c.if-vertices-last.false in
-    let less : c.in_ok-offer.offer <ℤ y.value = omega (arith, ints) in
+    let less : c.in_ok-offer.offer <ℤ y.kept.value = omega (arith, ints) in
     let o : ℤ = to_z w128 (of_z w128 c.in_ok-offer.offer) in
     let oe : o ≡ c.in_ok-offer.offer = to_z-of_z w128 c.in_ok-offer.offer fo in
     let r = vertex_at c.args.vertices.now in
-    let b = vertex_at c.begin.new.vertices in
-    let s = vertex_at c.put.new.vertices in
-    let kept : (v : ℕ) → values s v ≡ values r v = λ v. c.put.ensures.falls.kept v ∙ c.begin.ensures.kept v in
-    let gap : ℕ = up (y.value -ℤ o) in
+    let s = vertex_at c.fall.new.vertices in
+    let same : (v : ℕ) → values s v ≡ values r v = c.in_ok-fall.ensures.falls.kept in
+    let gap : ℕ = up (y.kept.value -ℤ o) in
     let next = rw c.in-None.is at c.in_ok-settle.ensures.next in
-    next_cast c.args.arcs.now (values r) (values (vertex_at c.accept.new.vertices)) (nexts (vertex_at c.settle.new.vertices)) c.accept.ensures
-    (next_before c.args.arcs.now (values r) (values s) (nexts (vertex_at c.settle.new.vertices)) kept (next gap
-    (starts front a c.args.arcs.now r b s (order_at c.begin.new.order) o (again front last c.args.arcs.now e) meets c.begin.ensures.order c.begin.ensures.kept c.begin.ensures.nexts
-    c.put.ensures.falls (oe ∙ value) (subst (λ z. z <ℤ y.value) (sym oe) less) c.if-last.false)))
+    next_cast c.args.arcs.now (values r) (values (vertex_at c.rest.new.vertices)) (nexts (vertex_at c.settle.new.vertices))
+    (λ v. ap (λ (q : Kept). q.value) (c.rest.ensures.kept v) ∙ accepted c.as_slice-listed.result.now (vertex_at c.settle.new.vertices) (vertex_at c.accept.new.vertices) (order_at c.settle.new.order)
+    (subst (λ l. AreListed l (vertex_at c.settle.new.vertices) (order_at c.settle.new.order)) (sym c.as_slice-listed.ensures.value) c.in_ok-settle.ensures.listed) c.accept.ensures.listed c.accept.ensures.others v)
+    (next_before c.args.arcs.now (values r) (values s) (nexts (vertex_at c.settle.new.vertices)) same (next gap
+    (starts front a c.args.arcs.now r r s (order_at c.args.order.now) o (again front last c.args.arcs.now e) meets (λ v. (c.requires.rest v).1) (λ v. refl) (λ v. (c.requires.rest v).0)
+    c.in_ok-fall.ensures.falls (oe ∙ value) (subst (λ z. z <ℤ y.kept.value) (sym oe) less) c.if-last.false)))
 
 pub returns-in-Some-clause-stuck : goal.returns-in-Some-clause-stuck
 returns-in-Some-clause-stuck c = λ front last e meets.
     let a : Arc = end c.args.arcs.now in
     let x : Vertex = get_or c.args.vertices.now a.from blank in
     let y : Vertex = get_or c.args.vertices.now a.to blank in
-    let fx : FitsSigned w128 x.value = search rules in
-    let fy : FitsSigned w128 y.value = search rules in
+    let fx : FitsSigned w128 x.kept.value = search rules in
+    let fy : FitsSigned w128 y.kept.value = search rules in
     let fc : FitsSigned w128 a.cost = search rules in
     let fo : FitsSigned w128 c.in_ok-offer.offer = search rules in
-    let value : c.in_ok-offer.offer ≡ x.value +ℤ a.cost = c.in_ok-offer.ensures.value ∙ sum_read x.value a.cost fx fc in
+    let value : c.in_ok-offer.offer ≡ x.kept.value +ℤ a.cost = c.in_ok-offer.ensures.value ∙ sum_read x.kept.value a.cost fx fc in
     let t = c.if-vertices-last.false in
-    let less : c.in_ok-offer.offer <ℤ y.value = omega (arith, ints) in
+    let less : c.in_ok-offer.offer <ℤ y.kept.value = omega (arith, ints) in
     let o : ℤ = to_z w128 (of_z w128 c.in_ok-offer.offer) in
     let oe : o ≡ c.in_ok-offer.offer = to_z-of_z w128 c.in_ok-offer.offer fo in
     let r = vertex_at c.args.vertices.now in
-    let b = vertex_at c.begin.new.vertices in
-    let s = vertex_at c.put.new.vertices in
-    let kept : (v : ℕ) → values s v ≡ values r v = λ v. c.put.ensures.falls.kept v ∙ c.begin.ensures.kept v in
-    let gap : ℕ = up (y.value -ℤ o) in
+    let s = vertex_at c.fall.new.vertices in
+    let same : (v : ℕ) → values s v ≡ values r v = c.in_ok-fall.ensures.falls.kept in
+    let gap : ℕ = up (y.kept.value -ℤ o) in
     let stuck = rw c.in-Some.is at c.in_ok-settle.ensures.stuck in
     subst (λ (w : Arc). IsStuck c.args.arcs.now w.from c.in-Some.closing (vertex_at c.settle.new.vertices) (order_at c.settle.new.order)) (last_is front last c.args.arcs.now none e)
     (stuck gap
-    (starts front a c.args.arcs.now r b s (order_at c.begin.new.order) o (again front last c.args.arcs.now e) meets c.begin.ensures.order c.begin.ensures.kept c.begin.ensures.nexts
-    c.put.ensures.falls (oe ∙ value) (subst (λ z. z <ℤ y.value) (sym oe) less) c.if-last.false))
+    (starts front a c.args.arcs.now r r s (order_at c.args.order.now) o (again front last c.args.arcs.now e) meets (λ v. (c.requires.rest v).1) (λ v. refl) (λ v. (c.requires.rest v).0)
+    c.in_ok-fall.ensures.falls (oe ∙ value) (subst (λ z. z <ℤ y.kept.value) (sym oe) less) c.if-last.false))
+
+pub returns-in_err-fall-clause-stop : goal.returns-in_err-fall-clause-stop
+returns-in_err-fall-clause-stop c =
+    let was : c.from_residual-in_err-fall.result ≡ Err c.in_err-fall.field-0.0 = search rules in
+    rw was (λ front last m n e h. stops_more n c.in_err-fall.field-0.0 c.in_err-fall.ensures.stop)
+
+pub accept-requires : goal.accept-requires
+accept-requires c = record { inside = subst (λ l. AllBelow l (length c.settle.new.vertices)) (sym c.as_slice-listed.ensures.value) c.settle.ensures.inside }
+
+pub rest-requires-clause-listed : goal.rest-requires-clause-listed
+rest-requires-clause-listed c =
+    accepted_listed c.as_slice-listed.result.now (vertex_at c.settle.new.vertices) (vertex_at c.accept.new.vertices) (order_at c.settle.new.order)
+    (subst (λ l. AreListed l (vertex_at c.settle.new.vertices) (order_at c.settle.new.order)) (sym c.as_slice-listed.ensures.value) c.in_ok-settle.ensures.listed) c.accept.ensures.others
+
+pub returns-in-None-clause-lasts : goal.returns-in-None-clause-lasts
+returns-in-None-clause-lasts c = λ v. ap (λ (q : Kept). q.last) (c.rest.ensures.kept v) ∙ c.accept.ensures.last v ∙ ap (λ (q : Kept). q.last) (c.settle.ensures.kept v ∙ c.fall.ensures.kept v)

@@ -1,9 +1,18 @@
-use Rattle.std.proofs.Common.{◌≡◌, ℕ}
-use Rattle.lq_diff.specs.Passes.{vertex_at, order_at, values, IsPass}
+use Rattle.std.proofs.Common.{◌≡◌, ℕ, suc, ◌≤◌, length, slice_get, IfSome}
+use Rattle.lq_diff.specs.Passes.{vertex_at, order_at, AllBelow, AreListed, IsPass}
+use Rattle.lq_diff.specs.Links.{kept}
 use Rattle.lq_diff.proofs.pass.relax.Given as goal
 
 abbrev pub invariant-loop-k : goal.invariant-loop-k
 invariant-loop-k l = record {
-  kept : (v : ℕ) → values (vertex_at l.vertices) v ≡ values (vertex_at l.fn.vertices) v;
-  passes : (gap count : ℕ) → IsPass l.arcs l.top gap (vertex_at l.fn.vertices) (order_at l.order) count l.at 0 → IsPass l.arcs l.top gap (vertex_at l.vertices) (order_at l.order) count l.at l.k;
+  within : l.k ≤ length l.arcs;
+  from : (j : ℕ) → l.k ≡ suc j → IfSome (slice_get l.arcs j) (λ a. a.from ≡ l.at);
+  inside : AllBelow l.fallen.items (length l.vertices);
+  listed : AreListed l.fn.fallen.items (vertex_at l.fn.vertices) (order_at l.order) → AreListed l.fallen.items (vertex_at l.vertices) (order_at l.order);
+  kept : (v : ℕ) → kept (vertex_at l.vertices) v ≡ kept (vertex_at l.fn.vertices) v;
+  passes : (gap count : ℕ) → IsPass l.arcs l.top gap (vertex_at l.fn.vertices) (order_at l.order) count l.at (length l.arcs)
+      → IsPass l.arcs l.top gap (vertex_at l.vertices) (order_at l.order) count l.at l.k;
 }
+
+abbrev pub decreases-loop-k : goal.decreases-loop-k
+decreases-loop-k l = l.k

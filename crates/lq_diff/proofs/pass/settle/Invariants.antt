@@ -1,10 +1,13 @@
 use Rattle.std.proofs.Common.{◌≡◌, ℕ, ◌+◌, ◌-◌, ◌≤◌, length, sum_by}
-use Rattle.lq_diff.specs.Passes.{vertex_at, order_at, values, IsPass}
+use Rattle.lq_diff.specs.Passes.{vertex_at, order_at, AllBelow, AreListed, IsPass}
+use Rattle.lq_diff.specs.Links.{kept}
 use Rattle.lq_diff.proofs.pass.settle.Given as goal
 
 abbrev pub invariant-loop-at : goal.invariant-loop-at
 invariant-loop-at l = record {
-  kept : (v : ℕ) → values (vertex_at l.vertices) v ≡ values (vertex_at l.fn.vertices) v;
+  inside : AllBelow l.fallen.items (length l.vertices);
+  listed : AreListed l.fallen.items (vertex_at l.vertices) (order_at l.order);
+  kept : (v : ℕ) → kept (vertex_at l.vertices) v ≡ kept (vertex_at l.fn.vertices) v;
   room : l.count + sum_by (λ o. 1 - o) l.order ≤ length l.order;
   passes : (gap : ℕ) → IsPass l.arcs l.top gap (vertex_at l.fn.vertices) (order_at l.fn.order) 0 l.top 0 → IsPass l.arcs l.top gap (vertex_at l.vertices) (order_at l.order) l.count l.top 0;
 }

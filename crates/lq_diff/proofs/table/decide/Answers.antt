@@ -21,16 +21,12 @@ cycle-requires-clause-paired c =
     subst ArePaired (sym (c.as_slice-in-Ok-Some.ensures.value ∙ c.in_ok-arcs.ensures.arcs)) (paired c.args.edges.now c.requires.apart)
 
 pub returns-in-Err-clause-stop : goal.returns-in-Err-clause-stop
-returns-in-Err-clause-stop c = (
-  c.in-Err.ensures.past,
-  c.in-Err.ensures.large (sizes c.args.edges.now)
-      (subst (λ l. IsBounded (sizes c.args.edges.now) l) (sym (c.as_slice.ensures.value ∙ c.in_ok-arcs.ensures.arcs)) (bounded c.args.edges.now)),
-)
+returns-in-Err-clause-stop c =
+    c.in-Err.ensures.stop (sizes c.args.edges.now)
+    (subst (λ l. IsBounded (sizes c.args.edges.now) l) (sym (c.as_slice.ensures.value ∙ c.in_ok-arcs.ensures.arcs)) (bounded c.args.edges.now))
 
 pub returns-in-Ok-None-clause-stop : goal.returns-in-Ok-None-clause-stop
-returns-in-Ok-None-clause-stop c = (
-  c.in-Err-measure.ensures.past,
-  c.in-Err-measure.ensures.large (sizes c.args.edges.now)
-      (near_sizes c.args.edges.now (values (vertex_at c.solve.new.vertices))
-      (subst (λ l. IsSolved l (values (vertex_at c.solve.new.vertices))) (c.as_slice.ensures.value ∙ c.in_ok-arcs.ensures.arcs) (rw c.in-Ok-None.field-0-is at c.in-Ok-None.ensures.solved))),
-)
+returns-in-Ok-None-clause-stop c =
+    c.in-Err-measure.ensures.stop (sizes c.args.edges.now)
+    (near_sizes c.args.edges.now (values (vertex_at c.solve.new.vertices))
+    (subst (λ l. IsSolved l (values (vertex_at c.solve.new.vertices))) (c.as_slice.ensures.value ∙ c.in_ok-arcs.ensures.arcs) (rw c.in-Ok-None.field-0-is at c.in-Ok-None.ensures.solved)))

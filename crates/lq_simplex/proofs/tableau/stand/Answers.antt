@@ -2,7 +2,7 @@ use Rattle.std.proofs.Common.{◌∙◌, ◌++◌, ◌∷◌, [], sym, ap, subst
 use Rattle.lq_linear.specs.Row.{Row}
 use Rattle.lq_simplex.specs.Standing.{standing_of, ReadsBy}
 use Rattle.lq_simplex.proofs.Tables.{standing_push, read_on, read_push, apart_push}
-use Rattle.lq_simplex.proofs.Resting.{among_more, among_push, rests_on}
+use Rattle.lq_simplex.proofs.Resting.{among_push, rests_on}
 use Rattle.lq_simplex.proofs.tableau.stand.Goals as goal
 
 pub returns-in_err-bound-clause-read : goal.returns-in_err-bound-clause-read
@@ -29,27 +29,18 @@ returns-clause-apart c =
     rw c.in_ok-push.ensures.items
     (apart_push c.args.rows.now.items (record { tag = c.args.tag; row = c.in_ok-row.row; bound = c.in_ok-bound.bound }) c.requires.apart c.requires.fresh)
 
-pub returns-in_err-bound-clause-among : goal.returns-in_err-bound-clause-among
-returns-in_err-bound-clause-among c = λ ever among. among_more ever (c.args.row.now ∷ []) c.args.rows.now.items among
-
 pub returns-in_err-bound-clause-rests : goal.returns-in_err-bound-clause-rests
-returns-in_err-bound-clause-rests c = λ ever rests. rests_on ever (c.args.row.now ∷ []) c.args.basis.now c.read.new.basis c.read.ensures.stays c.read.ensures.forms rests
-
-pub returns-in_err-row-clause-among : goal.returns-in_err-row-clause-among
-returns-in_err-row-clause-among c = λ ever among. among_more ever (c.args.row.now ∷ []) c.args.rows.now.items among
+returns-in_err-bound-clause-rests c = λ ever rests. rests_on ever c.args.basis.now c.read.new.basis c.read.ensures.stays c.read.ensures.forms rests
 
 pub returns-in_err-row-clause-rests : goal.returns-in_err-row-clause-rests
-returns-in_err-row-clause-rests c = λ ever rests. rests_on ever (c.args.row.now ∷ []) c.args.basis.now c.read.new.basis c.read.ensures.stays c.read.ensures.forms rests
-
-pub returns-in_err-push-clause-among : goal.returns-in_err-push-clause-among
-returns-in_err-push-clause-among c = λ ever among. rw c.in_err-push.ensures.items (among_more ever (c.args.row.now ∷ []) c.args.rows.now.items among)
+returns-in_err-row-clause-rests c = λ ever rests. rests_on ever c.args.basis.now c.read.new.basis c.read.ensures.stays c.read.ensures.forms rests
 
 pub returns-in_err-push-clause-rests : goal.returns-in_err-push-clause-rests
-returns-in_err-push-clause-rests c = λ ever rests. rests_on ever (c.args.row.now ∷ []) c.args.basis.now c.read.new.basis c.read.ensures.stays c.read.ensures.forms rests
+returns-in_err-push-clause-rests c = λ ever rests. rests_on ever c.args.basis.now c.read.new.basis c.read.ensures.stays c.read.ensures.forms rests
 
 pub returns-clause-among : goal.returns-clause-among
 returns-clause-among c = λ ever among. rw c.in_ok-push.ensures.items
     (among_push ever c.args.rows.now.items (record { tag = c.args.tag; row = c.in_ok-row.row; bound = c.in_ok-bound.bound }) c.args.row.now c.in_ok-row.ensures among)
 
 pub returns-clause-rests : goal.returns-clause-rests
-returns-clause-rests c = λ ever rests. rests_on ever (c.args.row.now ∷ []) c.args.basis.now c.read.new.basis c.read.ensures.stays c.read.ensures.forms rests
+returns-clause-rests c = λ ever rests. rests_on ever c.args.basis.now c.read.new.basis c.read.ensures.stays c.read.ensures.forms rests

@@ -1,8 +1,8 @@
 use Rattle.std.proofs.Common.{◌≡◌, suc, arith, refl}
-use Rattle.lq_linear.specs.Answers.{Held}
-use Rattle.lq_diff.specs.Table.{Table, table_last, last_of}
-use Rattle.lq_diff.specs.declared.table.Answer.{Answer}
-use Rattle.lq_diff.specs.declared.table.Answer.TheVariants.{Unasked, Solved, Contradicted, GaveUp}
+use Rattle.lq_linear.specs.Answers.{Held, last_of}
+use Rattle.lq_diff.specs.Table.{Table, table_last}
+use Rattle.lq_linear.specs.declared.engine.Answer.{Answer}
+use Rattle.lq_linear.specs.declared.engine.Answer.TheVariants.{Unasked, Solved, Contradicted, GaveUp}
 use Rattle.lq_diff.proofs.Rows.{value_near, difference_near}
 use Rattle.lq_diff.proofs.table.DistanceTable.values_are_near.Goals as goal
 

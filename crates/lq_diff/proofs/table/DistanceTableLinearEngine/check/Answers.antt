@@ -1,7 +1,7 @@
 use Rattle.std.proofs.Common.{◌≡◌, ◌∙◌, sym, ap, subst, length, arith, ℕ, List}
 use Rattle.lq_diff.specs.declared.arc.Edge.{Edge}
-use Rattle.lq_diff.specs.declared.arc.Vertex.{Vertex}
-use Rattle.lq_diff.specs.declared.table.Answer.TheVariants.{Solved}
+use Rattle.lq_diff.specs.declared.vertex.Vertex.{Vertex}
+use Rattle.lq_linear.specs.declared.engine.Answer.TheVariants.{Solved}
 use Rattle.lq_diff.specs.Edges.{EdgesInRange, arcs_of, sizes}
 use Rattle.lq_diff.specs.Cycles.{IsNegativeCycle}
 use Rattle.lq_diff.specs.Stops.{StopsBy}

@@ -1,15 +1,20 @@
-use Rattle.std.proofs.Common.{sym, subst}
+use Rattle.std.proofs.Common.{◌∷◌, [], sym, subst}
+use Rattle.lq_simplex.specs.Configurations.{AllAmong}
 use Rattle.lq_simplex.specs.Table.{Table, Handed}
+use Rattle.lq_simplex.proofs.Resting.{rests_more}
 use Rattle.lq_simplex.proofs.tableau.TableauLinearEngine.assert_row.Goals as goal
 
 pub returns-in-Ok-clause-handed : goal.returns-in-Ok-clause-handed
 returns-in-Ok-clause-handed c = λ rows h.
     let t : Table = record { system = c.self.inside.basis; rows = c.self.inside.rows.items; found = c.self.inside.found.items; answer = c.self.inside.answer; limit = c.self.inside.limit } in
     let before : Handed t rows = subst (λ u. Handed u rows) (sym c.self.view_is) h in
-    record { among = c.stand.ensures.among rows before.among; rests = c.stand.ensures.rests rows before.rests }
+    record {
+      among = c.in-Ok.ensures.among rows before.among;
+      rests = rests_more rows (c.args.row.now ∷ []) c.stand.new.basis (c.stand.ensures.rests rows before.rests);
+    }
 
-pub returns-in-Err-clause-handed : goal.returns-in-Err-clause-handed
-returns-in-Err-clause-handed c = λ rows h.
+pub returns-in-Err-clause-refused : goal.returns-in-Err-clause-refused
+returns-in-Err-clause-refused c = λ rows h.
     let t : Table = record { system = c.self.inside.basis; rows = c.self.inside.rows.items; found = c.self.inside.found.items; answer = c.self.inside.answer; limit = c.self.inside.limit } in
     let before : Handed t rows = subst (λ u. Handed u rows) (sym c.self.view_is) h in
-    record { among = c.stand.ensures.among rows before.among; rests = c.stand.ensures.rests rows before.rests }
+    record { among = subst (λ l. AllAmong rows l) (sym c.in-Err.ensures.kept) before.among; rests = c.stand.ensures.rests rows before.rests }

@@ -18,9 +18,9 @@ use Rattle.lq_num.specs.declared.past.NumOp.{NumOp}
 use Rattle.lq_num.specs.declared.past.NumOp.TheVariants.{Add, Mul}
 use Rattle.lq_num.specs.declared.past.NumberPast.{NumberPast}
 use Rattle.lq_linear.specs.Row.{Row, Valuation, sum_at}
-use Rattle.lq_linear.specs.Steps.{IsStep, member_product, member_sum, constant_sum}
-use Rattle.lq_diff.specs.Table.{IsDifference, TermsBelow}
-use Rattle.lq_demand.specs.Solution.{IsNear}
+use Rattle.lq_linear.specs.Steps.{IsStep, IsFormed, member_product, member_sum, constant_sum}
+use Rattle.lq_linear.specs.Difference.{IsDifference, TermsBelow}
+use Rattle.lq_linear.specs.Near.{IsNear}
 
 -- ---- fractions that are whole numbers
 
@@ -175,11 +175,15 @@ step_fits n terms v row _ _ _ small near d t size constant_sum f g ef eg past =
     no_sum_past f g (sum_of near.at row.parts) row.constant (ef ∙ sum_is terms v near.at row.parts near.whole_at t) eg
     (fits_one n _ small all) (fits_one n _ small one) (fits_two n _ _ small all one) past
 
+pub near_formed : (n terms : ℕ) (v : Valuation) (row : Row) → n < 2 ^ 126 → IsNear n terms v → IsDifference row.parts → TermsBelow terms row.parts
+    → unsigned_abs row.constant ≤ n → IsFormed v row
+near_formed n terms v row small near d t size e step past = step_fits n terms v row e.op (value_of e.left) (value_of e.right) small near d t size step e.left e.right refl refl past
+
 -- so where one is, the sizes are large
 pub large_by_step : (n terms : ℕ) (v : Valuation) (row : Row) (e : NumberPast) → IsNear n terms v → IsDifference row.parts → TermsBelow terms row.parts
     → unsigned_abs row.constant ≤ n → IsStep v row e.op (value_of e.left) (value_of e.right) → IsPast e → 2 ^ 126 ≤ n
 large_by_step n terms v row e near d t size step past = by (cases_lt n (2 ^ 126))
   where
     by : (n < 2 ^ 126) ⊎ (2 ^ 126 ≤ n) → 2 ^ 126 ≤ n
-    by (inl l) = absurd (step_fits n terms v row e.op (value_of e.left) (value_of e.right) l near d t size step e.left e.right refl refl past)
+    by (inl l) = absurd (near_formed n terms v row l near d t size e step past)
     by (inr h) = h
