@@ -1,0 +1,6 @@
+mod Lets
+mod Listed
+mod Nexts
+mod PatternPlaces
+mod Rows
+mod Spreads

@@ -1,0 +1,8 @@
+//! Trees seen by the shapes of their nodes, and walks over them that need no stack of calls.
+#![tactic(auto)]
+
+mod shape;
+mod walk;
+
+pub use shape::{Leaf, One, Row, Shape, Three, Two};
+pub use walk::{Visit, Walk};
