@@ -10,7 +10,7 @@ use Rattle.lq_name.specs.declared.place.TextKind.TheVariants as kind
 use Rattle.lq_parse.specs.Texts.{IsSyntax, IsTooDeep}
 use Rattle.lq_parse.specs.declared.error.ParseError.{ParseError}
 use Rattle.lq_parse.specs.declared.error.ParseError.TheVariants as parsing
-use Rattle.lq_report.specs.Refusals.{HasName, code_of, refusal_line}
+use Rattle.lq_report.specs.Refusals.{code_of, refusal_line}
 use Rattle.lq_report.specs.Stages.{Then}
 use Rattle.lq_report.specs.declared.refused.Refused.{Refused}
 use Rattle.lq_report.specs.declared.refused.Refused.TheVariants.{At}
@@ -77,33 +77,6 @@ items_count (t ∷ ts) l e =
     let count = items_count ts rest.0 rest.1 in
     let same : first.0 ∷ rest.0 ≡ l = ap (λ (f : Found (List (Item NameAt))). found_items f) rest.2 in
     subst (λ (m : List (Item NameAt)). length m ≡ length (t ∷ ts)) same (ap suc count)
-
--- each refusal has a code with a name
-at_named : (r : Refused) (code : ℕ) (p : Place) → 0 < code → code < 18 → At code p ≡ r → HasName r
-at_named r code p low high is = subst HasName is (low, high)
-
-fault_named : (e : LexError) (r : Refused) → fault_refusal e ≡ Some r → HasName r
-fault_named (lexing.BadByte p) r is = at_named r 1 p (omega arith) (omega arith) cc
-fault_named (lexing.OpenComment p) r is = at_named r 2 p (omega arith) (omega arith) cc
-fault_named (lexing.LiteralPast p) r is = at_named r 3 p (omega arith) (omega arith) cc
-fault_named lexing.Memory r is = absurd cc
-
-stop_named : (e : ParseError) (r : Refused) → stop_refusal e ≡ Some r → HasName r
-stop_named (parsing.Syntax p) r is = at_named r 4 p (omega arith) (omega arith) cc
-stop_named (parsing.TooDeep p) r is = at_named r 5 p (omega arith) (omega arith) cc
-stop_named parsing.Memory r is = absurd cc
-
-parse_named : (text : List ℕ) (r : Refused) → ParsesTo text (Err r) → HasName r
-parse_named text r (inl fault) = fault_named fault.0 r fault.2
-parse_named text r (inr stop) = stop_named stop.2.0 r stop.2.2
-
-form_named : (text : List ℕ) (r : Refused) → RecognisesTo text (Err r) → HasName r
-form_named text r (inl is) = parse_named text r is
-form_named text r (inr is) = at_named r 17 is.2.0 (omega arith) (omega arith) (sym is.2.2)
-
-pub named : (text : List ℕ) (r : Refused) → ResolvesTo text (Err r) → HasName r
-named text r (inl is) = form_named text r is
-named text r (inr is) = subst HasName (sym is.2.2) (omega arith, omega arith)
 
 -- a refusal with its line is due
 pub refused_due : (text : List ℕ) (r : Refused) (answer : Refusal) → ResolvesTo text (Err r) → (answer ≡ refusal.Memory) ⊎ (answer ≡ refusal.Code (code_of r) (refusal_line r))

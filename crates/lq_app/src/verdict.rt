@@ -14,7 +14,7 @@ ghost use Rattle.lq_straight.specs.declared.item.Item.{Item};
 ghost use Rattle.lq_straight.specs.declared.item.NameAt.{NameAt};
 ghost use Rattle.lq_straight.specs.Uses.{AreSmall};
 ghost use Rattle.lq_straight.specs.Demands.{implications_of, assertions_of};
-ghost use Rattle.lq_report.specs.Refusals.{HasName, code_of, refusal_line};
+ghost use Rattle.lq_report.specs.Refusals.{code_of, refusal_line};
 ghost use Rattle.lq_app.specs.Stages.{ResolvesTo, IsBoundAs};
 ghost use Rattle.lq_app.specs.NotJudged.{IsBy};
 ghost use Rattle.lq_app.specs.Judgement.{IsAccepted, IsSafeText, IsRejected, IsUngathered, IsJudgement, Agree, IsByNumber, HasSmallDemands};
@@ -106,7 +106,6 @@ pub fn judge(
 
 // A refusal with the line that reports it.
 fn refusal_of(alloc: Global, refused: &Refused) -> Refusal
-    requires { HasName refused.now }
     ensures { (result ≡ Refusal.Memory)
         ⊎ (result ≡ Refusal.Code (code_of refused.now) (refusal_line refused.now)) }
 {

@@ -2,13 +2,8 @@ use Rattle.std.proofs.Common.{Err, ⊎_elim, inl, inr, ap, subst}
 use Rattle.lq_app.specs.declared.verdict.Refusal.{Refusal}
 use Rattle.lq_app.specs.NotJudged.{IsBy}
 use Rattle.lq_app.specs.Stages.{ResolvesTo}
-use Rattle.lq_app.proofs.Refusing.{named, refused_due}
+use Rattle.lq_app.proofs.Refusing.{refused_due}
 use Rattle.lq_app.proofs.verdict.reported.Goals as goal
-
-pub refusal_of-requires : goal.refusal_of-requires
-refusal_of-requires c =
-    let by = subst (IsBy (ResolvesTo c.args.text.now)) c.in-Err-Refused.field-0-is c.in-Err-Refused.ensures.refused in
-    named c.args.text.now c.in-Err-Refused.refused by
 
 pub returns-in-Err-Refused : goal.returns-in-Err-Refused
 returns-in-Err-Refused c =
