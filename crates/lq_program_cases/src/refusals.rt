@@ -1,6 +1,5 @@
 // Refusals by their codes, and the lines that report them.
 ghost use Rattle.std.specs.Prelude.{◌≡◌, true};
-ghost use Rattle.lq_report.specs.Refusals.{HasName};
 
 use crate::notation::quoted;
 use lq_name::{NameText, Place, TextKind};
@@ -59,23 +58,7 @@ pub(crate) fn refused_of(
     }
 }
 
-fn has_name(refused: &Refused) -> bool
-    ensures { result ≡ true → HasName refused.now }
-{
-    let code = match refused {
-        Refused::At(code, _)
-        | Refused::Named(code, _, _)
-        | Refused::Wanted(code, _, _, _)
-        | Refused::Nodes(code, _, _)
-        | Refused::Counted(code, _) => *code,
-    };
-    0 < code && code < 18
-}
-
 /// The line on the refusal.
 pub(crate) fn refused_text(alloc: Global, refused: &Refused) -> Result<String, AllocError> {
-    if !has_name(refused) {
-        return String::from_str(alloc, "no code");
-    }
     quoted(alloc, refusal_text(alloc, refused)?.as_bytes())
 }

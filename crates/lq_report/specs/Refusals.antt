@@ -1,20 +1,21 @@
 -- How texts are refused: the codes with their names, and the lines that report them.
-use Rattle.std.specs.Prelude.{ℕ, ◌-◌, ◌<◌, List, [], ◌∷◌, ◌++◌, unwrap_or, slice_get, codes, decimal}
+use Rattle.std.specs.Prelude.{ℕ, List, [], ◌∷◌, ◌++◌, unwrap_or, slice_get, codes, decimal}
 use Rattle.lq_name.specs.declared.place.Place.{Place}
 use Rattle.lq_name.specs.declared.place.TextKind.{TextKind}
 use Rattle.lq_name.specs.declared.place.TextKind.TheVariants.{Program, Measures, Quals}
 use Rattle.lq_report.specs.declared.refused.Refused.{Refused}
 use Rattle.lq_report.specs.declared.refused.Refused.TheVariants.{At, Named, Wanted, Nodes, Counted}
 
--- the names of the codes, from 1 on
+-- the names of the codes: what has no code, 0, has the empty one
 abbrev pub names : List (List ℕ)
 names =
-    codes "BadByte" ∷ codes "OpenComment" ∷ codes "LiteralPast" ∷ codes "Syntax" ∷ codes "TooDeep" ∷ codes "Unknown" ∷ codes "Twice"
+    [] ∷ codes "BadByte" ∷ codes "OpenComment" ∷ codes "LiteralPast" ∷ codes "Syntax" ∷ codes "TooDeep" ∷ codes "Unknown" ∷ codes "Twice"
     ∷ codes "Arity" ∷ codes "NotPositive" ∷ codes "NotStructural" ∷ codes "BadSort" ∷ codes "IllTyped" ∷ codes "WeakType"
     ∷ codes "TypePast" ∷ codes "InstancesPast" ∷ codes "ImplicationsPast" ∷ codes "Unbuilt" ∷ []
 
+-- a number that is no code has the empty name
 abbrev pub name_of : ℕ → List ℕ
-name_of code = unwrap_or (slice_get names (code - 1)) []
+name_of code = unwrap_or (slice_get names code) []
 
 abbrev pub code_of : Refused → ℕ
 code_of (At code place) = code
@@ -22,10 +23,6 @@ code_of (Named code place name) = code
 code_of (Wanted code place wanted found) = code
 code_of (Nodes code place count) = code
 code_of (Counted code count) = code
-
--- its code has a name
-abbrev pub HasName : Refused → Type 0
-HasName r = (0 < code_of r) × (code_of r < 18)
 
 abbrev pub kind_text : TextKind → List ℕ
 kind_text Program = codes "program"

@@ -1,16 +1,14 @@
 // The lines that report refusals.
 ghost use Rattle.std.specs.Prelude.{◌≡◌, ◌<◌, ◌++◌, codes, decimal, IfOk, OnOk};
-ghost use Rattle.lq_report.specs.Refusals.{name_of, kind_text, place_text, head_text, located_text, refusal_line, HasName};
+ghost use Rattle.lq_report.specs.Refusals.{name_of, kind_text, place_text, head_text, located_text, refusal_line};
 
 use crate::Refused;
 use itoa::Buffer;
 use lq_name::{Place, TextBuf, TextKind};
 use std::alloc::{AllocError, Global};
 
-// The name of a code.
+// The name of a code; one that isn't from 1 to 17 has the empty name.
 fn name_of(code: u8) -> &'static [u8]
-    requires least { 0 < code }
-    requires last { code < 18 }
     ensures { result.now ≡ name_of code }
 {
     match code {
@@ -31,7 +29,7 @@ fn name_of(code: u8) -> &'static [u8]
         15 => b"InstancesPast",
         16 => b"ImplicationsPast",
         17 => b"Unbuilt",
-        _ => unreachable!(),
+        _ => b"",
     }
 }
 
@@ -63,8 +61,6 @@ pub fn push_place(line: &mut Vec<u8>, place: Place) -> Result<(), AllocError>
 
 // The front of a line, with the code and its name.
 fn head_of(alloc: Global, code: u8) -> Result<Vec<u8>, AllocError>
-    requires least { 0 < code }
-    requires last { code < 18 }
     ensures { IfOk result (λ v. v.items ≡ head_text code) }
 {
     let mut line = Vec::from_slice(alloc, b"refused ")?;
@@ -76,8 +72,6 @@ fn head_of(alloc: Global, code: u8) -> Result<Vec<u8>, AllocError>
 
 // The same with the text and the place.
 fn located(alloc: Global, code: u8, place: Place) -> Result<Vec<u8>, AllocError>
-    requires least { 0 < code }
-    requires last { code < 18 }
     ensures { IfOk result (λ v. v.items ≡ located_text code place) }
 {
     let mut line = head_of(alloc, code)?;
@@ -109,7 +103,6 @@ fn push_told(line: &mut Vec<u8>, word: &[u8], n: u64) -> Result<(), AllocError>
 
 // The line without its end.
 fn line_of(alloc: Global, refused: &Refused) -> Result<Vec<u8>, AllocError>
-    requires { HasName refused.now }
     ensures { IfOk result (λ v. v.items ++ codes "\n" ≡ refusal_line refused.now) }
 {
     match refused {
@@ -140,7 +133,6 @@ fn line_of(alloc: Global, refused: &Refused) -> Result<Vec<u8>, AllocError>
 
 /// The line that reports a refusal: its code and the code's name, the text and the place in it, and what else is told.
 pub fn refusal_text(alloc: Global, refused: &Refused) -> Result<TextBuf, AllocError>
-    requires { HasName refused.now }
     ensures { IfOk result (λ t. t ≡ refusal_line refused.now) }
 {
     let mut line = line_of(alloc, refused)?;
