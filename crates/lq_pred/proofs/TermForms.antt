@@ -1,5 +1,5 @@
 -- Terms of two forms are not one.
-use Rattle.std.proofs.Common.{◌≡◌, ℤ, refl, false, Some, None}
+use Rattle.std.proofs.Common.{◌≡◌, ℤ, refl, false, Some}
 use Rattle.std.specs.declared.alloc.Global.{Global}
 use Rattle.std.specs.declared.boxed.Box.{Box}
 use Rattle.lq_name.specs.declared.name.Name.{Name}
@@ -48,10 +48,6 @@ not_length s _ k = refl
 pub not_measure : (f : Name) (s : Sum) (t : Term) → ((g : Name) (a : Box Term Global) → t ≡ Measure g a → ⊥) → false ≡ same (measure f s) (sum_of t)
 not_measure f s (Measure' g p a) k = absurd (k _ _ refl)
 not_measure f s _ k = refl
-
-pub not_literal : (t : Term) → ((m : ℤ) → t ≡ Whole m → ⊥) → None ≡ literal_of (sum_of t)
-not_literal (Whole m) k = absurd (k _ refl)
-not_literal _ k = refl
 
 pub of_literal : (s : Sum) (n : ℤ) → literal_of s ≡ Some n → s ≡ whole n
 of_literal (whole m) n h = cc

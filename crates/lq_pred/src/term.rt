@@ -71,7 +71,15 @@ impl Term {
     {
         match self {
             Term::Whole(n) => Some(*n),
-            _ => None,
+            Term::Var(_)
+            | Term::Neg(_)
+            | Term::Add(_, _)
+            | Term::Sub(_, _)
+            | Term::Mul(_, _)
+            | Term::Div(_, _)
+            | Term::Mod(_, _)
+            | Term::Length(_)
+            | Term::Measure(_, _) => None,
         }
     }
 
