@@ -5,7 +5,8 @@ use Rattle.lq_math.specs.Solver.{var, con, ◌⊕◌, ◌⊗◌, solve}
 use Rattle.lq_math.specs.Whole.{whole-sum}
 use Rattle.lq_pivots.specs.Ranges.{sum_below, one_if, count_below, combine}
 use Rattle.lq_linear.specs.Row.{sum_at}
-use Rattle.lq_pivots.specs.Rows.{Parts, Variables, size, form, at}
+use Rattle.lq_linear.specs.Forms.{Parts}
+use Rattle.lq_pivots.specs.Rows.{Variables, size, form, at}
 use Rattle.lq_pivots.specs.Configurations.{Configuration, Free, Basic}
 use Rattle.lq_pivots.proofs.Ranges.{unit, unit_here, unit_elsewhere, combine-unit}
 use Rattle.lq_cramer.specs.Determinants.{Rows, det, put}

@@ -3,7 +3,8 @@ use Rattle.std.specs.Prelude.{◌≡◌, if◌then◌else◌, ◌==◌, ℕ, ℤ
 use Rattle.std.proofs.Math.IntN.{◌+ℤ◌}
 use Rattle.lq_math.specs.Rational.{whole, ◌*ℚ◌}
 use Rattle.lq_linear.specs.Row.{Row}
-use Rattle.lq_pivots.specs.Rows.{Parts, Variables, size, form}
+use Rattle.lq_linear.specs.Forms.{Parts}
+use Rattle.lq_pivots.specs.Rows.{Variables, size, form}
 use Rattle.lq_pivots.specs.Configurations.{Configuration, Free, Basic, IsConfiguration}
 use Rattle.lq_cramer.specs.Sizes.{WithinWhole, limit}
 

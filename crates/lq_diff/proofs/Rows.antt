@@ -25,7 +25,10 @@ use Rattle.lq_diff.specs.Solving.{IsBounded}
 use Rattle.lq_diff.specs.Range.{InRange, in_range}
 use Rattle.lq_diff.specs.Passes.{vertex_at, values, nexts}
 use Rattle.lq_diff.specs.Solving.{IsSolved}
-use Rattle.lq_diff.specs.Table.{Table, table_point, table_rows, multiplier_of, multipliers_of, constants, IsAnswer, TermsBelow}
+use Rattle.lq_linear.specs.Answers.{Conflicted, last_of}
+use Rattle.lq_linear.specs.declared.engine.Answer.{Answer}
+use Rattle.lq_linear.specs.declared.engine.Answer.TheVariants.{Unasked, Solved, Contradicted, GaveUp}
+use Rattle.lq_diff.specs.Table.{Table, table_point, table_rows, table_last, table_multipliers, multiplier_of, multipliers_of, constants, IsAnswer, IsTable, TermsBelow}
 use Rattle.lq_diff.proofs.Passing.{each, there}
 
 -- ---- the arcs of a list of rows
@@ -490,3 +493,12 @@ multiplier_none (x ∷ found) (suc k) h = multiplier_none found k h
 pub terms_wider : (m n : ℕ) (parts : List (ℕ × ℤ)) → m ≤ n → TermsBelow m parts → TermsBelow n parts
 terms_wider m n [] h k = tt
 terms_wider m n (x ∷ parts) h k = (omega arith, terms_wider m n parts h k.1)
+
+last_conflicted : (a : Answer) → last_of a ≡ Conflicted → a ≡ Contradicted
+last_conflicted Unasked e = absurd (cc)
+last_conflicted Solved e = absurd (cc)
+last_conflicted Contradicted e = refl
+last_conflicted GaveUp e = absurd (cc)
+
+pub answered : (t : Table) (order : List ℕ) → IsTable t order → table_last t ≡ Conflicted → IsContradiction (table_rows t) (table_multipliers t)
+answered t order is e = contradiction t.edges t.found is.apart (is.contradicted (last_conflicted t.answer e))

@@ -227,6 +227,7 @@ impl DistanceTable {
 }
 
 impl LinearEngine for DistanceTable {
+    ghost use Rattle.lq_linear.specs.Answers.{Conflicted};
     ghost use Rattle.lq_diff.specs.Table.{table_rows, table_last, table_limits, table_point, table_multipliers, TakesRow, MayStop};
 
     ghost standing = { table_rows };
@@ -244,6 +245,8 @@ impl LinearEngine for DistanceTable {
     ghost point = { table_point };
 
     ghost multipliers = { table_multipliers };
+
+    ghost known = { λ table. table_last table ≡ Conflicted };
 
     fn assert_row(&mut self, row: &LinearRow, tag: u64) -> Result<(), LinearStop> {
         let _ = &self.terms;
@@ -276,7 +279,14 @@ impl LinearEngine for DistanceTable {
         self.answer = Answer::Unasked;
     }
 
+    fn contradicted(&self) -> bool {
+        matches!(self.answer, Answer::Contradicted)
+    }
+
     fn check(&mut self) -> Result<Verdict, LinearStop> {
+        if self.contradicted() {
+            return Ok(Verdict::Conflict);
+        }
         match decide(self.alloc, &self.edges, &mut self.vertices, &mut self.order) {
             Ok(None) => {
                 self.answer = Answer::Solved;

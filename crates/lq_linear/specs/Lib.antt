@@ -7,3 +7,5 @@ pub mod Difference
 pub mod Near
 pub mod Nearness
 pub mod Seen
+pub mod Forms
+pub mod Bounds

@@ -1,11 +1,12 @@
 // The trait of the engines that decide rows, and what they answer.
-ghost use Rattle.std.specs.Prelude.{◌≡◌, ◌≢◌, ℕ, List, [], ◌∷◌, ◌++◌, ◌≤◌, length, take, slice_get, Some, OnOk, OnErr, IfOk, IfErr, IfSome, IfNone, IsNone};
+ghost use Rattle.std.specs.Prelude.{◌≡◌, ◌≢◌, ℕ, List, [], ◌∷◌, ◌++◌, ◌≤◌, length, take, slice_get, Some, OnOk, OnErr, IfOk, IfErr, IfSome, IfNone, IsNone, IsTrue, Ok};
 ghost use Rattle.lq_math.specs.Rational.{ℚ};
 ghost use Rattle.lq_num.specs.Value.{value_of};
 ghost use Rattle.lq_linear.specs.Row.{Row, Valuation};
 ghost use Rattle.lq_linear.specs.Contradiction.{Tagged, tagged, Solves, IsContradiction};
 ghost use Rattle.lq_linear.specs.Answers.{Last, Nothing, Held, Conflicted, Stopped, verdict_of};
 ghost use Rattle.lq_linear.specs.declared.engine.LinearStop.{LinearStop};
+ghost use Rattle.lq_linear.specs.declared.engine.Verdict.TheVariants.{Conflict};
 
 use crate::row::LinearRow;
 use lq_num::{Frac, NumberPast};
@@ -76,6 +77,9 @@ pub trait LinearEngine {
     // the pairs of a tag and a multiplier, where it is `Conflicted`
     ghost multipliers: { Self → List (ℕ × ℚ) };
 
+    // a contradiction of the rows that stand is known, so that a check has no work left
+    ghost known: { Self → Type 0 };
+
     /// Adds a row under a tag that no row that stands has. A row that is refused was never handed.
     fn assert_row(&mut self, row: &LinearRow, tag: u64) -> Result<(), LinearStop>
         requires takes { takes (limits self.old) (standing self.old) row.now }
@@ -105,9 +109,17 @@ pub trait LinearEngine {
         ensures last { last self.new ≡ Nothing }
         ensures limits { limits self.new ≡ limits self.old };
 
+    /// Whether a contradiction of the rows that stand is known already, as it is after `Conflict` and may be as soon as a row was
+    /// asserted. It does no work.
+    fn contradicted(&self) -> bool
+        ensures known { IsTrue result → known self.now }
+        ensures contradicts { IsTrue result → (ms : List (ℕ × ℚ)) × IsContradiction (standing self.now) ms }
+        ensures answered { last self.now ≡ Conflicted → IsTrue result };
+
     /// Decides the rows that stand.
     fn check(&mut self) -> Result<Verdict, LinearStop>
         requires { last self.old ≢ Stopped }
+        ensures known { known self.old → result ≡ Ok Conflict }
         ensures solves { last self.new ≡ Held → Solves (point self.new) (standing self.new) }
         ensures contradicts { last self.new ≡ Conflicted
             → IsContradiction (standing self.new) (multipliers self.new) }

@@ -5,7 +5,8 @@ use Rattle.lq_math.specs.Rational.{ℚ}
 use Rattle.lq_math.specs.OrderLaws.{≤ℚ_antisym}
 use Rattle.lq_pivots.specs.Ranges.{one_if, count_below}
 use Rattle.lq_linear.specs.Row.{Row}
-use Rattle.lq_pivots.specs.Rows.{Variables, size, Gives, Breaks, Side, lower, upper, Within}
+use Rattle.lq_linear.specs.Bounds.{Side, lower, upper, Within}
+use Rattle.lq_pivots.specs.Rows.{Variables, size, Gives, Breaks}
 use Rattle.lq_pivots.specs.Configurations.{Configuration}
 use Rattle.lq_pivots.specs.Pivots.{IsChain}
 use Rattle.lq_pivots.specs.Laws.{AtMostSoMany, HadAtStart, choose}

@@ -5,8 +5,9 @@ use Rattle.lq_math.specs.Rational.{ℚ, whole, ◌*ℚ◌, ◌-ℚ◌}
 use Rattle.lq_math.specs.RationalOrder.{≤ℚ_refl}
 use Rattle.lq_math.specs.Whole.{whole_once, whole_below}
 use Rattle.lq_math.specs.Solver.{var, con, ◌⊕◌, ◌⊖◌, ◌⊗◌, solve}
-use Rattle.lq_linear.specs.Row.{Row}
-use Rattle.lq_pivots.specs.Rows.{Side, lower, upper, form, times, BoundsOn, Bounds, Gives, Breaks}
+use Rattle.lq_linear.specs.Forms.{times}
+use Rattle.lq_linear.specs.Bounds.{Side, lower, upper, Beyond, BoundsOn, Bounds}
+use Rattle.lq_pivots.specs.Rows.{form, Gives, Breaks}
 use Rattle.lq_pivots.specs.Configurations.{Free, Basic, IsCombination, IsConfiguration}
 use Rattle.lq_pivots.specs.Pivots.{Pivot, IsChain}
 use Rattle.lq_pivots.specs.Example.{variables, row, rows, before, after, chain}
@@ -16,11 +17,9 @@ gives : Gives variables rows lower 2 (whole (pos 1))
 gives = record {
   row = row;
   there = (0, omega arith, refl);
+  inside = omega arith;
   bounds = record {
-    inside = omega arith;
-    factor = negsuc 0;
-    parts = refl;
-    some = λ e. absurd (cc);
+    multiple = record { factor = negsuc 0; some = λ e. absurd (cc); is = refl };
     on = inr (omega (arith, ints));
     is = solve [] (con (negsuc 0) ⊗ con (pos 1)) (con (pos 0) ⊖ con (pos 1)) refl;
   };
@@ -41,9 +40,9 @@ one_factor (suc (suc zero)) f l e =
     (refl, r)
 one_factor (suc (suc (suc k))) f l e = absurd (omega arith)
 
-bounds_it : (side : Side) (k : ℕ) (x : ℚ) → Bounds variables row side k x → IsIt side k x
-bounds_it side k x b =
-    let q = one_factor k b.factor b.inside b.parts in
+bounds_it : (side : Side) (k : ℕ) (x : ℚ) → k < 3 → Bounds (form variables k) row side x → IsIt side k x
+bounds_it side k x l b =
+    let q = one_factor k b.multiple.factor l b.multiple.is in
     record {
       side_is = by side b.on;
       variable_is = q.0;
@@ -53,13 +52,13 @@ bounds_it side k x b =
           ∙ solve [] (con (pos 0) ⊖ (con (pos 0) ⊖ con (pos 1))) (con (pos 1)) refl;
     }
   where
-    by : (side : Side) → (row.equal ≡ true) ⊎ BoundsOn side b.factor → side ≡ lower
+    by : (side : Side) → (row.equal ≡ true) ⊎ BoundsOn side b.multiple.factor → side ≡ lower
     by lower on = refl
     by upper (inl e) = absurd (cc)
-    by upper (inr above) = let q = one_factor k b.factor b.inside b.parts in let r : b.factor ≡ negsuc 0 = q.1 in absurd (omega (arith, ints))
+    by upper (inr above) = let q = one_factor k b.multiple.factor l b.multiple.is in let r : b.multiple.factor ≡ negsuc 0 = q.1 in absurd (omega (arith, ints))
 
 is_it : (side : Side) (k : ℕ) (x : ℚ) → Gives variables rows side k x → IsIt side k x
-is_it side k x g = bounds_it side k x (subst (λ r. Bounds variables r side k x) (by g.there.0 g.there.1 g.there.2) g.bounds)
+is_it side k x g = bounds_it side k x g.inside (subst (λ r. Bounds (form variables k) r side x) (by g.there.0 g.there.1 g.there.2) g.bounds)
   where
     by : (i : ℕ) → i < 1 → Rattle.std.specs.Prelude.slice_index_or rows i g.row ≡ g.row → g.row ≡ row
     by zero l e = sym e
@@ -77,7 +76,7 @@ small_keep k x l b = let q = (is_it b.side k b.bound b.given).variable_is in abs
 one_keeps : (k : ℕ) → Breaks variables rows k (whole (pos 1)) → ⊥
 one_keeps k b = by b.side (is_it b.side k b.bound b.given) b.beyond
   where
-    by : (side : Side) → IsIt side k b.bound → Rattle.lq_pivots.specs.Rows.Beyond side (whole (pos 1)) b.bound → ⊥
+    by : (side : Side) → IsIt side k b.bound → Beyond side (whole (pos 1)) b.bound → ⊥
     by lower i h = h (subst (λ x. Rattle.lq_math.specs.RationalOrder.◌≤ℚ◌ x (whole (pos 1))) (sym i.value_is) (≤ℚ_refl (whole (pos 1))))
     by upper i h = absurd (let e : upper ≡ lower = i.side_is in cc)
 

@@ -2,7 +2,8 @@
 use Rattle.std.proofs.Common.{◌≡◌, ℕ, zero, suc, ◌⊎◌, inl, inr, arith, refl, sym, subst, List}
 use Rattle.lq_math.specs.Rational.{ℚ}
 use Rattle.lq_linear.specs.Row.{Row}
-use Rattle.lq_pivots.specs.Rows.{Variables, Gives, Side, lower, upper}
+use Rattle.lq_linear.specs.Bounds.{Side, lower, upper}
+use Rattle.lq_pivots.specs.Rows.{Variables, Gives}
 use Rattle.lq_pivots.specs.Configurations.{Configuration, Free}
 use Rattle.lq_pivots.specs.Laws.{AllStand}
 use Rattle.lq_pivots.proofs.Sharing.{free_or_basic}

@@ -4,7 +4,8 @@ use Rattle.std.proofs.lemmas.Int.{ints}
 use Rattle.std.proofs.Math.Nat.{eq-one_of_dvd-one}
 use Rattle.lq_linear.specs.Row.{Row}
 use Rattle.lq_pivots.specs.Rows.{form}
-use Rattle.lq_pivots.specs.Variables.{IsNormal, IsOf, ComesAt, AreVariables}
+use Rattle.lq_linear.specs.Forms.{IsNormal}
+use Rattle.lq_pivots.specs.Variables.{IsOf, ComesAt, AreVariables}
 use Rattle.lq_pivots.specs.Example.{variables, row, rows}
 
 named : (t : ℕ) → t < 2 → form variables t ≡ (t, pos 1) ∷ []
@@ -34,7 +35,7 @@ once (suc zero) (suc (suc (suc k))) l m e = absurd (omega arith)
 once (suc (suc zero)) (suc (suc (suc k))) l m e = absurd (omega arith)
 
 is_of : IsOf variables 2 row
-is_of = record { factor = negsuc 0; some = λ e. absurd (cc); parts = refl }
+is_of = record { factor = negsuc 0; some = λ e. absurd (cc); is = refl }
 
 last_two : (k : ℕ) → 2 ≤ k → k < 3 → 2 ≡ k
 last_two k l m = omega arith

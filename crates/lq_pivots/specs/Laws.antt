@@ -1,7 +1,8 @@
 -- What holds of chains of pivots.
 use Rattle.std.specs.Prelude.{◌≡◌, ℕ, zero, suc, ◌+◌, ◌*◌, ◌^◌, ◌<◌, ◌≤◌, ◌⊎◌, List}
 use Rattle.lq_linear.specs.Row.{Row}
-use Rattle.lq_pivots.specs.Rows.{Variables, size, Gives, lower, upper}
+use Rattle.lq_linear.specs.Bounds.{lower, upper}
+use Rattle.lq_pivots.specs.Rows.{Variables, size, Gives}
 use Rattle.lq_pivots.specs.Configurations.{Configuration, Free, Same}
 use Rattle.lq_pivots.specs.Pivots.{IsChain}
 

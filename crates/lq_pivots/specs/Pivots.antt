@@ -3,7 +3,8 @@ use Rattle.std.specs.Prelude.{◌≡◌, ◌≢◌, if◌then◌else◌, ℕ, su
 use Rattle.lq_math.specs.Rational.{ℚ, whole}
 use Rattle.lq_math.specs.OrderLaws.{is_at_most}
 use Rattle.lq_linear.specs.Row.{Row}
-use Rattle.lq_pivots.specs.Rows.{Variables, size, Side, other, Gives, Breaks}
+use Rattle.lq_linear.specs.Bounds.{Side, other}
+use Rattle.lq_pivots.specs.Rows.{Variables, size, Gives, Breaks}
 use Rattle.lq_pivots.specs.Configurations.{Configuration, Free, Basic, IsConfiguration}
 
 -- the side to which a free one with this entry has to move where the leaving variable breaks a bound on the given side, so moves away

@@ -1,29 +1,12 @@
 -- The variables of n terms and a list of rows: the terms, then the rows' forms of two or more terms, by first appearance.
-use Rattle.std.specs.Prelude.{◌≡◌, ◌≢◌, ℕ, ℤ, pos, ◌<◌, ◌≤◌, List, [], ◌∷◌, Some, Contains, length, slice_get, unsigned_abs}
-use Rattle.std.specs.Int.{◌∣◌}
-use Rattle.std.specs.Int.Signed.{◌<ℤ◌}
+use Rattle.std.specs.Prelude.{◌≡◌, ◌≢◌, ℕ, pos, ◌<◌, ◌≤◌, List, [], ◌∷◌, Some, Contains, length, slice_get}
 use Rattle.lq_linear.specs.Row.{Row}
-use Rattle.lq_pivots.specs.Rows.{Parts, Variables, size, form, times}
-
--- the number divides each coefficient
-abbrev pub DividesAll : ℕ → Parts → Type 0
-DividesAll d [] = Unit {0}
-DividesAll d (part ∷ parts) = (d ∣ unsigned_abs part.1) × DividesAll d parts
-
-abbrev pub FirstAbove : Parts → Type 0
-FirstAbove [] = ⊥
-FirstAbove (part ∷ parts) = pos 0 <ℤ part.1
-
--- the first coefficient is above 0, and no number but 1 divides all
-pub record IsNormal (parts : Parts) : Type 0 where
-  pub above : FirstAbove parts
-  pub lowest : (d : ℕ) → DividesAll d parts → d ≡ 1
+use Rattle.lq_linear.specs.Forms.{IsNormal, IsMultiple}
+use Rattle.lq_pivots.specs.Rows.{Variables, size, form}
 
 -- the row is a multiple of the variable's form
-pub record IsOf (vs : Variables) (k : ℕ) (row : Row) : Type 0 where
-  pub factor : ℤ
-  pub some : ¬ (factor ≡ pos 0)
-  pub parts : row.parts ≡ times factor (form vs k)
+abbrev pub IsOf : Variables → ℕ → Row → Type 0
+IsOf vs k row = IsMultiple (form vs k) row.parts
 
 -- the row at this place is a multiple of the variable's form
 abbrev pub ComesAt : Variables → List Row → ℕ → ℕ → Type 0

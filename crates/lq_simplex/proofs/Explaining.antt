@@ -18,7 +18,8 @@ use Rattle.lq_simplex.specs.declared.limits.Side.{Side}
 use Rattle.lq_simplex.specs.declared.limits.Limit.{Limit}
 use Rattle.lq_simplex.specs.declared.limits.Broken.{Broken}
 use Rattle.lq_simplex.specs.Lines.{combine, AscendsFrom, IsLine}
-use Rattle.lq_simplex.specs.Systems.{Parts, form_at, form_values}
+use Rattle.lq_linear.specs.Forms.{Parts}
+use Rattle.lq_simplex.specs.Systems.{form_at, form_values}
 use Rattle.lq_simplex.specs.Standing.{standing_of, multiplier_of, multipliers_of, scale_of, ReadsAs, ReadsBy, Reads, AllRead, HasNoTag, TagsApart}
 use Rattle.lq_simplex.specs.Bounds.{other, Within, IsOn, Tightest, limit_at, bound_value, IsLimit, blocking_of}
 use Rattle.lq_simplex.specs.Conflicts.{toward, AllGiven, Names, IsKept}

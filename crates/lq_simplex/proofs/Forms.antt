@@ -17,7 +17,9 @@ use Rattle.lq_linear.specs.Row.{Valuation, sum_at}
 use Rattle.lq_linear.specs.Steps.{valuation_of, value_or_zero}
 use Rattle.lq_simplex.specs.declared.line.Entry.{Entry}
 use Rattle.lq_simplex.specs.Lines.{combine, unit, factor_of, IsLine, IsOwnLine}
-use Rattle.lq_simplex.specs.Systems.{Parts, System, form_at, line_at, TermsBelow, IsNormal, Fits, Meets, IsFree, form_values, AreForms, AreLines, IsSystem, GoesOn}
+use Rattle.lq_linear.specs.Forms.{Parts, IsNormal}
+use Rattle.lq_linear.specs.Difference.{TermsBelow}
+use Rattle.lq_simplex.specs.Systems.{System, form_at, line_at, Fits, Meets, IsFree, form_values, AreForms, AreLines, IsSystem, GoesOn}
 use Rattle.lq_simplex.specs.Configurations.{AllStay}
 use Rattle.lq_simplex.proofs.Combinations.{one_apart, unit_here, unit_elsewhere, eq_or}
 use Rattle.lq_simplex.proofs.Values.{get_push_old, get_push_here, last_or_before}

@@ -10,8 +10,8 @@ use Rattle.lq_math.specs.Coprime.{Coprime, Coprime_swap, Coprime-from_gcd, eucli
 use Rattle.lq_math.specs.Lcm.{gcd_exists}
 use Rattle.lq_math.specs.IntOrder.{mul_cancel}
 use Rattle.lq_math.specs.IntRing.{at, nat, ◌⊗◌, ring, ring_out}
-use Rattle.lq_simplex.specs.Systems.{Parts, DividesAll, FirstAbove, IsNormal}
-use Rattle.lq_simplex.specs.RowParts.{Scales, AreMultiples, turned_by, IsTurned, IsDivided}
+use Rattle.lq_linear.specs.Forms.{Parts, DividesAll, FirstAbove, IsNormal, Scales, AreMultiples}
+use Rattle.lq_simplex.specs.RowParts.{turned_by, IsTurned, IsDivided}
 
 -- ---- whole numbers
 cancel : (x y c : ℤ) → c ≢ pos 0 → x *ℤ c ≡ y *ℤ c → x ≡ y

@@ -14,7 +14,8 @@ use Rattle.lq_math.specs.RationalQuotient.{◌/ℚ◌, /ℚ_is}
 use Rattle.lq_math.specs.NumberForms.{HasNoForm, HasNoForm-from}
 use Rattle.lq_math.specs.Solver.{var, con, ◌⊕◌, ◌⊖◌, ◌⊗◌, solve}
 use Rattle.lq_linear.specs.Row.{Valuation, sum_at}
-use Rattle.lq_simplex.specs.Systems.{Parts, TermsBelow, DividesAll, IsAbove, FirstAbove, IsNormal}
+use Rattle.lq_linear.specs.Forms.{Parts, DividesAll, IsAbove, FirstAbove, IsNormal}
+use Rattle.lq_linear.specs.Difference.{TermsBelow}
 use Rattle.lq_simplex.specs.Standing.{signed}
 use Rattle.lq_simplex.specs.RowParts.{IsGreatest, turned_by, IsTurned, IsDivided}
 

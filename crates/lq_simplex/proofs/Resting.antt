@@ -12,7 +12,8 @@ use Rattle.lq_simplex.specs.declared.line.Entry.{Entry}
 use Rattle.lq_simplex.specs.declared.row.Standing.{Standing}
 use Rattle.lq_simplex.specs.declared.limits.Broken.{Broken}
 use Rattle.lq_simplex.specs.Lines.{combine}
-use Rattle.lq_simplex.specs.Systems.{Parts, System, form_at, line_at, Meets, IsFree, AreLines, IsSystem, IsShifted, GoesOn}
+use Rattle.lq_linear.specs.Forms.{Parts}
+use Rattle.lq_simplex.specs.Systems.{System, form_at, line_at, Meets, IsFree, AreLines, IsSystem, IsShifted, GoesOn}
 use Rattle.lq_simplex.specs.Standing.{AllRead}
 use Rattle.lq_simplex.specs.Bounds.{Tightest, limit_at, bound_value, IsLimit, Breaks}
 use Rattle.lq_simplex.specs.Conflicts.{AllGiven}

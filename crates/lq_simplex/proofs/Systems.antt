@@ -11,7 +11,8 @@ use Rattle.lq_linear.specs.Row.{Valuation}
 use Rattle.lq_linear.specs.Steps.{valuation_of}
 use Rattle.lq_simplex.specs.declared.line.Entry.{Entry}
 use Rattle.lq_simplex.specs.Lines.{combine, unit, factor_of, IsLine}
-use Rattle.lq_simplex.specs.Systems.{Parts, System, line_at, Meets, IsFree, AreLines, IsSystem, after, change_at, IsChange, IsAdded, IsShifted}
+use Rattle.lq_linear.specs.Forms.{Parts}
+use Rattle.lq_simplex.specs.Systems.{System, line_at, Meets, IsFree, AreLines, IsSystem, after, change_at, IsChange, IsAdded, IsShifted}
 use Rattle.lq_simplex.proofs.Values.{last_or_before}
 use Rattle.lq_simplex.proofs.Combinations.{one_apart, eq_or, combine-same, combine-plus, entry_is, entry_apart, unit_here, unit_elsewhere, own_combination}
 

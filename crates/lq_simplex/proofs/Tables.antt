@@ -25,8 +25,8 @@ use Rattle.lq_simplex.specs.declared.limits.Side.TheVariants.{Lower, Upper}
 use Rattle.lq_simplex.specs.declared.limits.Limit.{Limit}
 use Rattle.lq_simplex.specs.declared.limits.Broken.{Broken}
 use Rattle.lq_simplex.specs.Lines.{combine, factor_of, VariablesBelow}
-use Rattle.lq_simplex.specs.Systems.{Parts, System, form_at, line_at, Fits, IsSystem, GoesOn}
-use Rattle.lq_simplex.specs.RowParts.{AreMultiples}
+use Rattle.lq_linear.specs.Forms.{Parts, AreMultiples}
+use Rattle.lq_simplex.specs.Systems.{System, form_at, line_at, Fits, IsSystem, GoesOn}
 use Rattle.lq_simplex.specs.Standing.{standing_of, multipliers_of, signed, scale_of, ReadsAs, ReadsBy, Reads, AllRead, HasNoTag, TagsApart, BareHolds, AllBare, BoundBelow, BoundsBelow}
 use Rattle.lq_simplex.specs.Bounds.{other, Within, IsOn, Tightest, limit_at, bound_value, Covers, Keeps, AreTightest, Breaks, blocking_of, AllBlocked}
 use Rattle.lq_simplex.specs.Conflicts.{AllGiven, AllKeep, IsKept}

@@ -10,8 +10,8 @@ use Rattle.lq_simplex.specs.declared.row.Standing.{Standing}
 use Rattle.lq_simplex.specs.declared.limits.Side.{Side}
 use Rattle.lq_simplex.specs.declared.limits.Limit.{Limit}
 use Rattle.lq_simplex.specs.Lines.{combine}
-use Rattle.lq_simplex.specs.Systems.{Parts, System, form_at, line_at, form_values, IsFree, IsNormal}
-use Rattle.lq_simplex.specs.RowParts.{AreMultiples}
+use Rattle.lq_linear.specs.Forms.{Parts, IsNormal, AreMultiples}
+use Rattle.lq_simplex.specs.Systems.{System, form_at, line_at, form_values, IsFree}
 use Rattle.lq_simplex.specs.Standing.{ReadsAs}
 use Rattle.lq_simplex.specs.Bounds.{Tightest, limit_at, bound_value}
 

@@ -11,7 +11,8 @@ use Rattle.lq_simplex.specs.declared.limits.Side.TheVariants.{Lower, Upper}
 use Rattle.lq_simplex.specs.declared.limits.Broken.{Broken}
 use Rattle.lq_simplex.specs.declared.limits.Limit.{Limit}
 use Rattle.lq_simplex.specs.Lines.{combine, IsLine}
-use Rattle.lq_simplex.specs.Systems.{Parts, System, IsSystem, form_at, form_values}
+use Rattle.lq_linear.specs.Forms.{Parts}
+use Rattle.lq_simplex.specs.Systems.{System, IsSystem, form_at, form_values}
 use Rattle.lq_simplex.specs.Standing.{AllRead, TagsApart}
 use Rattle.lq_simplex.specs.Bounds.{Tightest, limit_at, Keeps, IsLimit, Breaks, AllBlocked}
 

@@ -9,8 +9,8 @@ use Rattle.lq_linear.specs.Row.{Row, Valuation, level, sum_at}
 use Rattle.lq_linear.specs.Contradiction.{Tagged}
 use Rattle.lq_simplex.specs.declared.row.Bound.{Bound}
 use Rattle.lq_simplex.specs.declared.row.Standing.{Standing}
-use Rattle.lq_simplex.specs.Systems.{Parts, form_at}
-use Rattle.lq_simplex.specs.RowParts.{AreMultiples}
+use Rattle.lq_linear.specs.Forms.{Parts, AreMultiples}
+use Rattle.lq_simplex.specs.Systems.{form_at}
 
 abbrev pub standing_of : List Standing → Tagged
 standing_of [] = []

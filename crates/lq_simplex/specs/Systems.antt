@@ -1,16 +1,13 @@
 -- Variables, each a form over the terms, and each a combination of the free ones.
-use Rattle.std.specs.Prelude.{◌≡◌, ℕ, ℤ, pos, ◌<◌, ◌≤◌, ◌⊎◌, Bool, true, false, List, [], ◌∷◌, Option, Some, None, length, slice_index_or, unsigned_abs}
-use Rattle.std.specs.Int.{◌∣◌}
-use Rattle.std.specs.Int.Signed.{◌<ℤ◌}
+use Rattle.std.specs.Prelude.{◌≡◌, ℕ, pos, ◌<◌, ◌≤◌, ◌⊎◌, List, [], ◌∷◌, Option, Some, None, length, slice_index_or}
 use Rattle.lq_math.specs.Rational.{ℚ, whole, ◌+ℚ◌, ◌*ℚ◌}
 use Rattle.lq_num.specs.declared.frac.Frac.{Frac}
 use Rattle.lq_linear.specs.Row.{Valuation, sum_at}
+use Rattle.lq_linear.specs.Forms.{Parts, IsNormal}
+use Rattle.lq_linear.specs.Difference.{TermsBelow}
 use Rattle.lq_linear.specs.Steps.{valuation_of}
 use Rattle.lq_simplex.specs.declared.line.Entry.{Entry}
 use Rattle.lq_simplex.specs.Lines.{combine, factor_of, unit, IsLine}
-
-abbrev pub Parts : Type 0
-Parts = List (ℕ × ℤ)
 
 -- the terms come first, as forms of one part; a combination and a value for each variable
 pub record System : Type 0 where
@@ -24,29 +21,6 @@ form_at forms k = slice_index_or forms k []
 
 abbrev pub line_at : List (List Entry) → ℕ → List Entry
 line_at lines k = slice_index_or lines k []
-
-abbrev pub TermsBelow : ℕ → Parts → Type 0
-TermsBelow n [] = Unit {0}
-TermsBelow n (part ∷ parts) = (part.0 < n) × TermsBelow n parts
-
--- the number divides each coefficient
-abbrev pub DividesAll : ℕ → Parts → Type 0
-DividesAll d [] = Unit {0}
-DividesAll d (part ∷ parts) = (d ∣ unsigned_abs part.1) × DividesAll d parts
-
--- the first coefficient is above 0, or, where it is turned, below
-abbrev pub IsAbove : Bool → ℤ → Type 0
-IsAbove true n = n <ℤ pos 0
-IsAbove false n = pos 0 <ℤ n
-
-abbrev pub FirstAbove : Bool → Parts → Type 0
-FirstAbove turned [] = ⊥
-FirstAbove turned (part ∷ parts) = IsAbove turned part.1
-
--- the first coefficient is above 0, and no number but 1 divides all
-pub record IsNormal (form : Parts) : Type 0 where
-  pub above : FirstAbove false form
-  pub lowest : (d : ℕ) → DividesAll d form → d ≡ 1
 
 -- each variable has the value of its form
 abbrev pub Fits : List Parts → Valuation → Type 0

@@ -12,7 +12,8 @@ use Rattle.lq_linear.specs.declared.engine.Answer.TheVariants.{Solved, Contradic
 use Rattle.lq_linear.specs.declared.engine.LinearStop.{LinearStop}
 use Rattle.lq_linear.specs.declared.engine.LinearStop.TheVariants.{Number, Pivots, Memory}
 use Rattle.lq_simplex.specs.declared.row.Standing.{Standing}
-use Rattle.lq_simplex.specs.Systems.{System, TermsBelow}
+use Rattle.lq_linear.specs.Difference.{TermsBelow}
+use Rattle.lq_simplex.specs.Systems.{System}
 use Rattle.lq_simplex.specs.Standing.{standing_of, multipliers_of, AllRead, TagsApart}
 use Rattle.lq_simplex.specs.Configurations.{AllAmong, Rests}
 

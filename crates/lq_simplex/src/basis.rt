@@ -6,7 +6,9 @@ ghost use Rattle.lq_linear.specs.Steps.{valuation_of};
 ghost use Rattle.lq_num.specs.Past.{IsPast};
 ghost use Rattle.lq_num.specs.Value.{value_of};
 ghost use Rattle.lq_simplex.specs.Lines.{combine, factor_of, IsLine, IsOwnLine, IsTableauError};
-ghost use Rattle.lq_simplex.specs.Systems.{form_at, line_at, change_at, after, TermsBelow, IsNormal, IsChange, IsAdded, IsShifted, IsSystem, GoesOn};
+ghost use Rattle.lq_linear.specs.Forms.{IsNormal};
+ghost use Rattle.lq_linear.specs.Difference.{TermsBelow};
+ghost use Rattle.lq_simplex.specs.Systems.{form_at, line_at, change_at, after, IsChange, IsAdded, IsShifted, IsSystem, GoesOn};
 ghost use Rattle.lq_simplex.specs.Configurations.{StandsIn, AllStay, Brings};
 
 use crate::error::TableauError;

@@ -7,7 +7,8 @@ ghost use Rattle.lq_linear.specs.Row.{Row};
 ghost use Rattle.lq_linear.specs.Contradiction.{tagged, Solves, IsContradiction};
 ghost use Rattle.lq_linear.specs.Steps.{valuation_of};
 ghost use Rattle.lq_simplex.specs.Lines.{IsTableauError};
-ghost use Rattle.lq_simplex.specs.Systems.{Parts, TermsBelow};
+ghost use Rattle.lq_linear.specs.Forms.{Parts};
+ghost use Rattle.lq_linear.specs.Difference.{TermsBelow};
 ghost use Rattle.lq_simplex.specs.Standing.{standing_of, multipliers_of, AllRead, TagsApart, AllBare};
 ghost use Rattle.lq_simplex.specs.Conflicts.{AllGiven, AllKeep};
 ghost use Rattle.lq_simplex.specs.Configurations.{AllAmong, Rests, Settles};
@@ -253,6 +254,7 @@ impl Tableau {
 }
 
 impl LinearEngine for Tableau {
+    ghost use Rattle.lq_linear.specs.Answers.{Conflicted};
     ghost use Rattle.lq_simplex.specs.Table.{table_rows, table_last, table_limits, table_point, table_multipliers, TakesRow, Handed, MayStop};
 
     ghost standing = { table_rows };
@@ -270,6 +272,8 @@ impl LinearEngine for Tableau {
     ghost point = { table_point };
 
     ghost multipliers = { table_multipliers };
+
+    ghost known = { λ table. table_last table ≡ Conflicted };
 
     fn assert_row(&mut self, row: &LinearRow, tag: u64) -> Result<(), LinearStop> {
         match stand(self.alloc, &mut self.basis, &mut self.rows, row, tag) {
@@ -293,7 +297,14 @@ impl LinearEngine for Tableau {
         self.answer = Answer::Unasked;
     }
 
+    fn contradicted(&self) -> bool {
+        matches!(self.answer, Answer::Contradicted)
+    }
+
     fn check(&mut self) -> Result<Verdict, LinearStop> {
+        if self.contradicted() {
+            return Ok(Verdict::Conflict);
+        }
         match decide(self.alloc, &mut self.basis, &self.rows, self.limit) {
             Ok(None) => {
                 self.answer = Answer::Solved;

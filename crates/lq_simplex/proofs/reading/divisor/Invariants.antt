@@ -1,5 +1,5 @@
 use Rattle.std.proofs.Common.{take}
-use Rattle.lq_simplex.specs.Systems.{DividesAll}
+use Rattle.lq_linear.specs.Forms.{DividesAll}
 use Rattle.lq_simplex.specs.RowParts.{IsGreatest}
 use Rattle.lq_simplex.proofs.reading.divisor.Given as goal
 

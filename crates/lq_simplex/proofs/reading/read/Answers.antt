@@ -5,9 +5,9 @@ use Rattle.std.proofs.lemmas.Int.{to_z-of_z, ints}
 use Rattle.lq_math.specs.Rational.{whole, ◌-ℚ◌, ◌*ℚ◌, neg_ℚ}
 use Rattle.lq_num.specs.Value.{value_of}
 use Rattle.lq_linear.specs.Row.{sum_at}
-use Rattle.lq_simplex.specs.Systems.{Parts, FirstAbove}
+use Rattle.lq_linear.specs.Forms.{Parts, FirstAbove, AreMultiples}
 use Rattle.lq_simplex.specs.Standing.{signed}
-use Rattle.lq_simplex.specs.RowParts.{IsTurned, IsDivided, IsGreatest, AreMultiples}
+use Rattle.lq_simplex.specs.RowParts.{IsTurned, IsDivided, IsGreatest}
 use Rattle.lq_simplex.proofs.Readings.{turned_below, divided_below, turned_first, form_normal, row_reads}
 use Rattle.lq_simplex.proofs.Multiples.{form_multiple}
 use Rattle.lq_simplex.proofs.reading.read.Goals as goal

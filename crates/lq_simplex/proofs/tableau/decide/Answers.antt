@@ -1,6 +1,7 @@
 use Rattle.std.proofs.Common.{◌≡◌, ◌∙◌, sym, subst, List}
 use Rattle.std.proofs.lemmas.Result.{IfOk-weaker}
-use Rattle.lq_simplex.specs.Systems.{Parts, System}
+use Rattle.lq_linear.specs.Forms.{Parts}
+use Rattle.lq_simplex.specs.Systems.{System}
 use Rattle.lq_simplex.specs.Standing.{AllRead, AllBare}
 use Rattle.lq_simplex.proofs.Tables.{bounds_below, BothTight, both_given, crossed_kept, all_solved, none_weaker}
 use Rattle.lq_simplex.proofs.Resting.{rests_settled}

@@ -1,5 +1,5 @@
 use Rattle.std.proofs.Common.{◌∙◌, refl, sym, subst, List}
-use Rattle.lq_simplex.specs.Systems.{Parts}
+use Rattle.lq_linear.specs.Forms.{Parts}
 use Rattle.lq_linear.specs.Steps.{valuation_of}
 use Rattle.lq_simplex.specs.Standing.{AllRead}
 use Rattle.lq_simplex.proofs.Tables.{line_variables, kept}

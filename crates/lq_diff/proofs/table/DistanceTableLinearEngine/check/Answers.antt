@@ -9,7 +9,7 @@ use Rattle.lq_diff.specs.Table.{Table, IsAnswer, table_point, table_rows}
 use Rattle.lq_linear.specs.Contradiction.{Solves}
 use Rattle.std.specs.Vec.{with_items}
 use Rattle.std.proofs.lemmas.List.{with_items_is}
-use Rattle.lq_diff.proofs.Rows.{answer_solves, contradiction, sizes_are}
+use Rattle.lq_diff.proofs.Rows.{answer_solves, contradiction, answered, sizes_are}
 use Rattle.lq_diff.proofs.table.DistanceTableLinearEngine.check.Goals as goal
 
 pub returns-in-Ok-None-clause-solves : goal.returns-in-Ok-None-clause-solves
@@ -41,3 +41,8 @@ returns-in-Err-clause-stop c = rw (← c.self.view_is) (λ rows h.
     let edges : List Edge = c.self.inside.edges.items in
     let d : c.deref.result.now ≡ edges = c.deref.ensures.value in
     subst (λ (n : ℕ). StopsBy n c.in-Err.stop) (ap sizes d ∙ sym (sizes_are edges)) c.in-Err.ensures.stop)
+
+pub returns-then-contradicted-clause-contradicts : goal.returns-then-contradicted-clause-contradicts
+returns-then-contradicted-clause-contradicts c =
+    let t : Table = record { edges = c.self.inside.edges.items; vertices = c.self.inside.vertices.items; found = c.self.inside.found.items; answer = c.self.inside.answer; terms = c.self.inside.terms; rows = c.self.inside.rows } in
+    rw (← c.self.view_is) (answered t c.self.inside.order.items c.self.invariant)

@@ -3,7 +3,8 @@ use Rattle.lq_num.specs.Value.{value_of}
 use Rattle.lq_linear.specs.Row.{Valuation, sum_at}
 use Rattle.lq_linear.specs.Steps.{valuation_of}
 use Rattle.lq_simplex.specs.Lines.{combine}
-use Rattle.lq_simplex.specs.Systems.{System, form_at, line_at, TermsBelow}
+use Rattle.lq_linear.specs.Difference.{TermsBelow}
+use Rattle.lq_simplex.specs.Systems.{System, form_at, line_at}
 use Rattle.lq_simplex.specs.Configurations.{AllStay}
 use Rattle.lq_simplex.proofs.Forms.{further_system, further_stays}
 use Rattle.lq_simplex.proofs.basis.Basis.add.Goals as goal

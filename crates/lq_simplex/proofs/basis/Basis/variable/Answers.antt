@@ -1,5 +1,6 @@
 use Rattle.std.proofs.Common.{sym, subst, arith, length}
-use Rattle.lq_simplex.specs.Systems.{System, TermsBelow}
+use Rattle.lq_linear.specs.Difference.{TermsBelow}
+use Rattle.lq_simplex.specs.Systems.{System}
 use Rattle.lq_simplex.proofs.Forms.{terms_below}
 use Rattle.lq_simplex.proofs.basis.Basis.variable.Goals as goal
 

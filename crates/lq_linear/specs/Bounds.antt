@@ -1,0 +1,36 @@
+-- The bounds that rows give forms.
+use Rattle.std.specs.Prelude.{◌≡◌, ℤ, pos, ◌⊎◌, true}
+use Rattle.std.specs.Int.Signed.{◌<ℤ◌}
+use Rattle.lq_math.specs.Rational.{ℚ, whole, ◌*ℚ◌, neg_ℚ}
+use Rattle.lq_math.specs.RationalOrder.{◌≤ℚ◌, ◌<ℚ◌}
+use Rattle.lq_linear.specs.Row.{Row}
+use Rattle.lq_linear.specs.Forms.{Parts, IsMultiple}
+
+pub data Side : Type 0 where
+  lower : Side
+  upper : Side
+
+abbrev pub other : Side → Side
+other lower = upper
+other upper = lower
+
+-- a value keeps to a bound, or breaks it
+abbrev pub Within : Side → ℚ → ℚ → Type 0
+Within lower value bound = bound ≤ℚ value
+Within upper value bound = value ≤ℚ bound
+
+abbrev pub Beyond : Side → ℚ → ℚ → Type 0
+Beyond lower value bound = value <ℚ bound
+Beyond upper value bound = bound <ℚ value
+
+-- so many times the form plus the constant is at most 0: from above where that is a positive multiple, else from below
+abbrev pub BoundsOn : Side → ℤ → Type 0
+BoundsOn lower factor = factor <ℤ pos 0
+BoundsOn upper factor = pos 0 <ℤ factor
+
+-- the row is a multiple of the form, and bounds it on this side, an equation on both, by its negated constant divided by the
+-- multiple: by the constant, negated where the first coefficient is positive, divided by the divisor of the coefficients
+pub record Bounds (form : Parts) (row : Row) (side : Side) (x : ℚ) : Type 0 where
+  pub multiple : IsMultiple form row.parts
+  pub on : (row.equal ≡ true) ⊎ BoundsOn side multiple.factor
+  pub is : whole multiple.factor *ℚ x ≡ neg_ℚ (whole row.constant)
