@@ -9,7 +9,7 @@ use Rattle.lq_name.specs.declared.place.TextKind.{TextKind}
 use Rattle.lq_lex.specs.declared.front.Front.{Front}
 use Rattle.lq_lex.specs.declared.front.Front.TheVariants as fronts
 use Rattle.lq_lex.specs.Bytes.{is_blank, is_digit, begins_lower, begins_upper, is_name_byte, is_number_byte}
-use Rattle.lq_lex.specs.Words.{is_keyword, symbol_len, is_triple, is_pair, is_single}
+use Rattle.lq_lex.specs.Symbols.{symbol_len, is_triple, is_pair, is_single}
 use Rattle.lq_lex.specs.Front.{run, front_of, token_front, word_front, quote_front, is_type_variable, number_front, number_from, literal_front, begins_letter, symbol_front, symbol_of_len, is_opening, FitsIn}
 
 -- by the two ways that a test goes
@@ -61,7 +61,7 @@ unfolding word_front
 word_fits kind word bytes some within =
     choose (λ (f : Front). FitsIn f bytes) (bytes_eq word (codes "_")) _ _
     (λ e. record { within = omega arith; some = omega arith })
-    (λ e. choose (λ (f : Front). FitsIn f bytes) (is_keyword kind word) _ _ (λ k. record { within = within; some = some }) (λ k. record { within = within; some = some }))
+    (λ e. record { within = within; some = some })
 
 quote_fits : (b : ℕ) (bytes : List ℕ) → FitsIn (quote_front bytes) (b ∷ bytes)
 unfolding quote_front
@@ -148,7 +148,7 @@ token_no_end : (kind : TextKind) (b : ℕ) (bytes : List ℕ) → token_front ki
 unfolding token_front word_front quote_front number_front symbol_front IsNoEnd
 token_no_end kind b bytes =
     choose IsNoEnd (begins_lower b) _ _
-    (λ e. choose IsNoEnd (bytes_eq (take_while is_name_byte (b ∷ bytes)) (codes "_")) _ _ (λ t h. cc) (λ t. choose IsNoEnd (is_keyword kind (take_while is_name_byte (b ∷ bytes))) _ _ (λ k h. cc) (λ k h. cc)))
+    (λ e. choose IsNoEnd (bytes_eq (take_while is_name_byte (b ∷ bytes)) (codes "_")) _ _ (λ t h. cc) (λ t h. cc))
     (λ l. choose IsNoEnd (begins_upper b) _ _
     (λ e h. cc)
     (λ u. choose IsNoEnd (eqb b 39) _ _

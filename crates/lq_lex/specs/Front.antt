@@ -1,23 +1,30 @@
 -- What stands at the front of bytes: a blank, the beginning of a comment, the longest token, or a fault.
-use Rattle.std.specs.Prelude.{ℕ, ◌+◌, ◌-◌, ◌*◌, ◌^◌, ◌==◌, ◌<◌, ◌≤◌, Bool, false, nat_lt, List, [], ◌∷◌, length, drop, take_while, if◌then◌else◌, codes}
+use Rattle.std.specs.Prelude.{ℕ, ◌+◌, ◌-◌, ◌*◌, ◌==◌, ◌<◌, ◌≤◌, Bool, false, nat_lt, List, [], ◌∷◌, Option, Some, None, length, drop, take_while, if◌then◌else◌, codes}
 use Rattle.std.specs.Str.{bytes_eq}
+use Rattle.lq_name.specs.declared.limits.TheConstants.{LITERAL_LIMIT}
 use Rattle.lq_name.specs.declared.place.TextKind.{TextKind}
+use Rattle.lq_lex.specs.declared.keyword.Keyword.{Keyword}
+use Rattle.lq_lex.specs.declared.token.TokenKind.{TokenKind}
 use Rattle.lq_lex.specs.declared.token.TokenKind.TheVariants as kinds
 use Rattle.lq_lex.specs.declared.front.Front.{Front}
 use Rattle.lq_lex.specs.declared.front.Front.TheVariants.{End, Blank, Comment, Token, BadByte, LiteralPast}
 use Rattle.lq_lex.specs.Bytes.{is_blank, is_digit, begins_lower, begins_upper, is_letter, is_name_byte, is_number_byte}
-use Rattle.lq_lex.specs.Words.{is_keyword, symbol_len}
+use Rattle.lq_lex.specs.Keywords.{keyword_of}
+use Rattle.lq_lex.specs.Symbols.{symbol_len}
 
 -- how many bytes at the front pass the test
 abbrev pub run : (ℕ → Bool) → List ℕ → ℕ
 run p bytes = length (take_while p bytes)
 
+abbrev pub word_kind : Option Keyword → TokenKind
+word_kind None = kinds.Lower
+word_kind (Some keyword) = kinds.Keyword keyword
+
 -- a lower name, a reserved word, or the symbol _
 unfoldable pub word_front : TextKind → List ℕ → Front
 word_front kind word =
     if bytes_eq word (codes "_") then Token kinds.Symbol 1
-    else if is_keyword kind word then Token kinds.Keyword (length word)
-    else Token kinds.Lower (length word)
+    else Token (word_kind (keyword_of kind word)) (length word)
 
 -- the name that a type variable has behind its quote: also a reserved word, but not _ alone
 abbrev pub is_type_variable : List ℕ → Bool
@@ -40,7 +47,7 @@ begins_letter (b ∷ bytes) = is_letter b
 -- a literal; a letter may not stand directly behind it
 abbrev pub literal_front : ℕ → ℕ → List ℕ → Front
 literal_front value len behind =
-    if nat_lt (2 ^ 127) value then LiteralPast
+    if nat_lt LITERAL_LIMIT value then LiteralPast
     else if begins_letter behind then BadByte len
     else Token (kinds.Number value) len
 

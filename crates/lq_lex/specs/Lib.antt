@@ -1,6 +1,7 @@
 -- The definitions of tokens.
 pub mod Bytes
-pub mod Words
+pub mod Keywords
+pub mod Symbols
 pub mod Comments
 pub mod Front
 pub mod Places

@@ -1,7 +1,8 @@
 // Comments, which nest.
-ghost use Rattle.std.specs.Prelude.{◌≡◌, ◌+◌, ◌≤◌, ◌^◌, List, ℕ, length, drop, IfSome, IfNone};
+ghost use Rattle.std.specs.Prelude.{◌≡◌, ◌+◌, ◌≤◌, List, ℕ, length, drop, IfSome, IfNone};
 ghost use Rattle.lq_lex.specs.Comments.{mark_of, mark_len, EndsComment};
 ghost use Rattle.lq_lex.specs.Places.{StandsAt};
+ghost use Rattle.lq_lex.specs.declared.limits.TheConstants.{TEXT_LIMIT};
 
 use crate::cursor::Cursor;
 
@@ -45,7 +46,7 @@ fn mark_at(text: &[u8], at: usize) -> Mark
 
 // From behind the opening of a comment to behind its end, where it has one.
 pub(crate) fn behind_comment(text: &[u8], from: Cursor) -> Option<Cursor>
-    requires small { length text.now ≤ 2 ^ 24 }
+    requires small { length text.now ≤ TEXT_LIMIT }
     requires stands { StandsAt text.now from }
     ensures stands { IfSome result (StandsAt text.now) }
     ensures further { IfSome result (λ c. from.at ≤ c.at) }

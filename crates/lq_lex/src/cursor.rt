@@ -1,5 +1,5 @@
 // An offset of a text with its line and column.
-ghost use Rattle.std.specs.Prelude.{◌≡◌, ◌+◌, ◌<◌, ◌≤◌, ◌^◌, length};
+ghost use Rattle.std.specs.Prelude.{◌≡◌, ◌+◌, ◌<◌, ◌≤◌, length};
 
 use lq_name::{Place, TextKind};
 
@@ -12,6 +12,7 @@ pub(crate) struct Cursor {
 
 impl Cursor {
     ghost use Rattle.lq_lex.specs.Places.{StandsAt, place_at};
+    ghost use Rattle.lq_lex.specs.declared.limits.TheConstants.{TEXT_LIMIT};
 
     pub(crate) fn start(text: &[u8]) -> Cursor
         ensures at { result.at ≡ 0 }
@@ -26,7 +27,7 @@ impl Cursor {
 
     // Behind the byte at which it stands.
     pub(crate) fn next(self, text: &[u8]) -> Cursor
-        requires small { length text.now ≤ 2 ^ 24 }
+        requires small { length text.now ≤ TEXT_LIMIT }
         requires stands { StandsAt text.now self }
         requires inside { self.at < length text.now }
         ensures at { result.at ≡ self.at + 1 }
@@ -49,7 +50,7 @@ impl Cursor {
 
     // Behind so many bytes.
     pub(crate) fn behind(self, text: &[u8], len: usize) -> Cursor
-        requires small { length text.now ≤ 2 ^ 24 }
+        requires small { length text.now ≤ TEXT_LIMIT }
         requires stands { StandsAt text.now self }
         requires inside { self.at + len ≤ length text.now }
         ensures at { result.at ≡ self.at + len }

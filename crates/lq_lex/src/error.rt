@@ -15,7 +15,7 @@ pub enum LexError {
     /// A comment that isn't closed: the outermost one.
     #[error("a comment without an end")]
     OpenComment(Place),
-    /// A literal above 2^127.
+    /// A literal above `LITERAL_LIMIT`.
     #[error("a literal that is too large")]
     LiteralPast(Place),
     #[error("out of memory")]

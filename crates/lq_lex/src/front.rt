@@ -1,13 +1,17 @@
 // What stands at the front of the rest of a text.
-ghost use Rattle.std.specs.Prelude.{◌≡◌, ◌+◌, ◌≤◌, ◌<◌, ◌^◌, SomeIff, length, drop};
-ghost use Rattle.lq_lex.specs.Front.{front_of, word_front, quote_front, number_front, symbol_front, token_front, number_from, is_type_variable, is_opening, begins_letter, front_len, HasBytes, FitsIn};
+ghost use Rattle.std.specs.Prelude.{◌≡◌, ◌+◌, ◌≤◌, ◌<◌, SomeIff, length, drop};
+ghost use Rattle.lq_lex.specs.Front.{front_of, word_kind, word_front, quote_front, number_front, symbol_front, token_front, number_from, is_type_variable, is_opening, begins_letter, front_len, HasBytes, FitsIn};
+ghost use Rattle.lq_lex.specs.Keywords.{keyword_of};
+ghost use Rattle.lq_lex.specs.declared.limits.TheConstants.{TEXT_LIMIT};
+ghost use Rattle.lq_name.specs.declared.limits.TheConstants.{LITERAL_LIMIT};
 
 use crate::bytes::{
     begins_lower, begins_upper, is_blank, is_digit, is_letter, name_len, number_len,
 };
 use crate::comments::rest_from;
+use crate::keyword::keyword_of;
+use crate::symbol::symbol_len;
 use crate::token::TokenKind;
-use crate::words::{is_keyword, symbol_len};
 use lq_name::{LITERAL_LIMIT, TextKind};
 
 #[derive(Clone, Copy)]
@@ -22,16 +26,24 @@ pub(crate) enum Front {
     LiteralPast,
 }
 
+// A lower name or a keyword.
+fn word_kind(kind: TextKind, word: &[u8]) -> TokenKind
+    ensures { result ≡ word_kind (keyword_of kind word.now) }
+{
+    match keyword_of(kind, word) {
+        Some(keyword) => TokenKind::Keyword(keyword),
+        None => TokenKind::Lower,
+    }
+}
+
 #[tactic(auto, unfolding(crate::specs::Front::word_front))]
 fn word_front(kind: TextKind, word: &[u8]) -> Front
     ensures { result ≡ word_front kind word.now }
 {
     if word == b"_".as_slice() {
         Front::Token(TokenKind::Symbol, 1)
-    } else if is_keyword(kind, word) {
-        Front::Token(TokenKind::Keyword, word.len())
     } else {
-        Front::Token(TokenKind::Lower, word.len())
+        Front::Token(word_kind(kind, word), word.len())
     }
 }
 
@@ -52,7 +64,7 @@ fn is_type_variable(text: &[u8]) -> bool
 
 #[tactic(auto, unfolding(crate::specs::Front::quote_front))]
 fn quote_front(text: &[u8]) -> Front
-    requires { length text.now < 2 ^ 24 }
+    requires { length text.now < TEXT_LIMIT }
     ensures { result ≡ quote_front text.now }
 {
     if is_type_variable(text) {
@@ -62,9 +74,9 @@ fn quote_front(text: &[u8]) -> Front
     }
 }
 
-// The value of the digits, where it is at most 2^127.
+// The value of the digits, where it is at most the limit.
 fn value_of(digits: &[u8]) -> Option<u128>
-    ensures { SomeIff result (number_from 0 digits.now ≤ 2 ^ 127) (number_from 0 digits.now) }
+    ensures { SomeIff result (number_from 0 digits.now ≤ LITERAL_LIMIT) (number_from 0 digits.now) }
 {
     let mut value: u128 = 0;
     for b in digits {
@@ -126,7 +138,7 @@ fn is_opening(text: &[u8]) -> bool
 
 // What stands at this offset.
 pub(crate) fn front_at(kind: TextKind, text: &[u8], at: usize) -> Front
-    requires small { length text.now ≤ 2 ^ 24 }
+    requires small { length text.now ≤ TEXT_LIMIT }
     requires inside { at ≤ length text.now }
     ensures front { result ≡ front_of kind (drop at text.now) }
     ensures within { at + front_len result ≤ length text.now }
@@ -136,7 +148,7 @@ pub(crate) fn front_at(kind: TextKind, text: &[u8], at: usize) -> Front
 }
 
 fn front_of(kind: TextKind, text: &[u8]) -> Front
-    requires { length text.now ≤ 2 ^ 24 }
+    requires { length text.now ≤ TEXT_LIMIT }
     ensures front { result ≡ front_of kind text.now }
     ensures fits { FitsIn result text.now }
 {
@@ -145,7 +157,7 @@ fn front_of(kind: TextKind, text: &[u8]) -> Front
 
 #[tactic(auto, unfolding(crate::specs::Front::front_of, crate::specs::Front::token_front))]
 fn classified(kind: TextKind, text: &[u8]) -> Front
-    requires { length text.now ≤ 2 ^ 24 }
+    requires { length text.now ≤ TEXT_LIMIT }
     ensures { result ≡ front_of kind text.now }
 {
     match text {

@@ -1,8 +1,9 @@
 // The lexer.
-ghost use Rattle.std.specs.Prelude.{◌≡◌, ◌≤◌, ◌^◌, ℕ, List, length, IfOk, IfErr, ◌⊎◌};
+ghost use Rattle.std.specs.Prelude.{◌≡◌, ◌≤◌, ℕ, List, length, IfOk, IfErr, ◌⊎◌};
 ghost use Rattle.lq_lex.specs.Places.{place_at};
 ghost use Rattle.lq_lex.specs.Reading.{IsTokens, HasFault, HasOneReading, tokens_of, end_place_of};
 ghost use Rattle.lq_name.specs.declared.place.TextKind.{TextKind};
+ghost use Rattle.lq_lex.specs.declared.limits.TheConstants.{TEXT_LIMIT};
 
 use crate::comments::behind_comment;
 use crate::cursor::Cursor;
@@ -14,7 +15,7 @@ use std::alloc::Global;
 
 /// The tokens of a text. The first fault in the order of the text is the one that is answered.
 pub fn lex(alloc: Global, text: &[u8], kind: TextKind) -> Result<Tokens, LexError>
-    requires { length text.now ≤ 2 ^ 24 }
+    requires { length text.now ≤ TEXT_LIMIT }
     ensures found { IfOk result (λ t. IsTokens kind text.now (tokens_of t)) }
     ensures end { IfOk result (λ t. end_place_of t ≡ place_at kind text.now (length text.now)) }
     ensures refused { IfErr result (λ e. (e ≡ LexError.Memory) ⊎ HasFault kind text.now e) }

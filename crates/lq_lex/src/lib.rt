@@ -6,10 +6,14 @@ mod comments;
 mod cursor;
 mod error;
 mod front;
+mod keyword;
 mod lexer;
+mod limits;
+mod symbol;
 mod token;
-mod words;
 
 pub use error::LexError;
+pub use keyword::Keyword;
 pub use lexer::{lex, one_reading};
+pub use limits::TEXT_LIMIT;
 pub use token::{Token, TokenKind, Tokens};

@@ -2,9 +2,10 @@
 ghost use Rattle.std.specs.Prelude.{◌≡◌, length, slice_get, IsTrue, ◌↔◌, []};
 ghost use Rattle.std.specs.Option.{option_copied};
 
+use crate::keyword::Keyword;
 use lq_name::Place;
 
-/// The kind of a token. Which word or symbol it is, its bytes say.
+/// The kind of a token. Which name or symbol it is, its bytes say.
 #[derive(Clone, Copy, Debug, PartialEq, Eq)]
 pub enum TokenKind {
     /// A name that begins with a small letter or an underscore.
@@ -16,7 +17,7 @@ pub enum TokenKind {
     /// A decimal literal, with its value.
     Number(u128),
     /// A word that is no name, also one that no rule of the grammar uses.
-    Keyword,
+    Keyword(Keyword),
     /// Punctuation or an operator; also the underscore alone.
     Symbol,
 }
