@@ -1,8 +1,10 @@
 -- Each step makes at most one item.
-use Rattle.std.specs.Prelude.{◌^◌, nat_lt}
+use Rattle.std.specs.Prelude.{nat_lt}
 use Rattle.std.proofs.Common.{◌≡◌, ℕ, suc, ◌+◌, ◌≤◌, Bool, true, false, if◌then◌else◌, List, [], ◌∷◌, ◌++◌, length, Option, Some, None, subst, arith}
 use Rattle.std.proofs.lemmas.List.{length-append}
+use Rattle.lq_name.specs.declared.limits.TheConstants.{LITERAL_LIMIT}
 use Rattle.lq_name.specs.declared.place.Place.{Place}
+use Rattle.lq_tree.specs.Items as tree
 use Rattle.lq_tree.specs.Items.{ItemTree, type_of, let_of, let_rec_of}
 use Rattle.lq_tree.specs.PredTree as pred
 use Rattle.lq_tree.specs.PredTree.{PredTree, PredForm}
@@ -27,14 +29,15 @@ use Rattle.lq_grammar.specs.declared.symbol.EntryAction.{EntryAction}
 use Rattle.lq_grammar.specs.declared.symbol.EntryAction.TheVariants.{NoQualifiers, AddQualifier, NoMeasures, AddMeasure, NoEquations, AppendEquation}
 use Rattle.lq_grammar.specs.declared.symbol.PredAction.{PredAction}
 use Rattle.lq_grammar.specs.declared.symbol.PredAction.TheVariants.{PredLiteral, PredNegative, PredTruth, PredUntruth, PredUse, PredPlaceholder, PredApply, PredQualified, PredNegate, PredNot, PredAnd, PredOr, IffOf, PredInside, PredArith, PredCompare}
-use Rattle.lq_action.specs.Value.{Lexeme, Commas, bare, absent, Value, mark, named, expression, expressions, element, arms, recursive, pattern_read, patterns, type_read, types, parameters, constructors, items, predicate, qualifiers, equations, measures, Making, with_values}
+use Rattle.lq_action.specs.Value.{Lexeme, by_name, Commas, bare, absent, Value, mark, named, expression, expressions, element, arms, recursive, pattern_read, patterns, type_read, types, parameters, constructors, items, predicate, qualifiers, equations, measures, Making, with_values}
 use Rattle.lq_action.specs.Types.{two_types, append_type, apply_type, apply_types, product_type, arrow_type, type_inside, typing_made}
 use Rattle.lq_action.specs.Patterns.{cons_name, unit_pattern, nil_pattern, cons_pattern, two_patterns, append_pattern, tuple_pattern, tuple_here, build_pattern, pattern_inside, pattern_made}
 use Rattle.lq_action.specs.Expressions.{literal, negative_literal, in_parentheses, assert_form, of_name, at_mark, of_one, of_two, of_row, build_one, enclose, element_of, fetch_of, store_of, function_of, function_here, recursive_of, recursive_here, let_of_all, let_rec_of_all, append_arm, match_of, if_of, if_only, two_trees, append_tree, operand_made, block_made}
-use Rattle.lq_action.specs.Items.{add_let, add_rec, add_type, add_parameter, add_constructor, add_qualifier, append_equation, add_measure, item_made, entry_made}
+use Rattle.lq_action.specs.Items.{parameter_at, add_let, add_rec, add_type, add_parameter, add_constructor, add_qualifier, append_equation, add_measure, item_made, entry_made}
 use Rattle.lq_action.specs.Predicates.{pred_literal, pred_negative, pred_of_name, pred_apply, pred_qualified, pred_of_one, pred_of_two, pred_inside, pred_made}
 use Rattle.lq_action.specs.Made.{made}
 use Rattle.lq_action.specs.Trees.{and_then, run}
+use Rattle.lq_action.proofs.Contents.{any_name, any_number}
 
 -- how many items are among the values
 abbrev pub counted : List Value → ℕ
@@ -74,18 +77,18 @@ one_item_more : (is : List ItemTree) (i : ItemTree) (vs : List Value) → counte
 one_item_more is i vs = let more = length-append is (i ∷ []) in omega arith
 
 few_literal : (n v : ℕ) (vs : List Value) (p : Place) → FewMade vs (literal n v vs p)
-few_literal n v vs p = few_made_if (nat_lt v (2 ^ 127)) vs _ (omega arith)
+few_literal n v vs p = few_made_if (nat_lt v LITERAL_LIMIT) vs _ (omega arith)
 
 few_negative_literal : (n v : ℕ) (vs : List Value) → FewMade vs (negative_literal n v vs)
-few_negative_literal n v (mark p ∷ vs) = few_made_unless (nat_lt (2 ^ 127) v) (mark p ∷ vs) _ (omega arith)
+few_negative_literal n v (mark p ∷ vs) = few_made_unless (nat_lt LITERAL_LIMIT v) (mark p ∷ vs) _ (omega arith)
 few_negative_literal n v _ = tt
 
-few_pred_literal : (l : Lexeme) (vs : List Value) → Few vs (pred_literal l vs)
-few_pred_literal l vs = few_if (nat_lt l.value (2 ^ 127)) vs _ (omega arith)
+few_pred_literal : (v : ℕ) (place : Place) (vs : List Value) → Few vs (pred_literal v place vs)
+few_pred_literal v place vs = few_if (nat_lt v LITERAL_LIMIT) vs _ (omega arith)
 
-few_pred_negative : (l : Lexeme) (vs : List Value) → Few vs (pred_negative l vs)
-few_pred_negative l (mark p ∷ vs) = few_unless (nat_lt (2 ^ 127) l.value) (mark p ∷ vs) _ (omega arith)
-few_pred_negative l _ = tt
+few_pred_negative : (v : ℕ) (vs : List Value) → Few vs (pred_negative v vs)
+few_pred_negative v (mark p ∷ vs) = few_unless (nat_lt LITERAL_LIMIT v) (mark p ∷ vs) _ (omega arith)
+few_pred_negative v _ = tt
 
 few_two_types : (vs : List Value) → Few vs (two_types vs)
 few_two_types (type_read b q ∷ type_read a p ∷ vs) = omega arith
@@ -95,13 +98,13 @@ few_append_type : (vs : List Value) → Few vs (append_type vs)
 few_append_type (type_read b q ∷ types ts p ∷ vs) = omega arith
 few_append_type _ = tt
 
-few_apply_type : (l : Lexeme) (vs : List Value) → Few vs (apply_type l vs)
-few_apply_type l (type_read a p ∷ vs) = omega arith
-few_apply_type l _ = tt
+few_apply_type : (x : ℕ) (place : Place) (vs : List Value) → Few vs (apply_type x place vs)
+few_apply_type x place (type_read a p ∷ vs) = omega arith
+few_apply_type x place _ = tt
 
-few_apply_types : (l : Lexeme) (vs : List Value) → Few vs (apply_types l vs)
-few_apply_types l (types ts q ∷ mark p ∷ vs) = omega arith
-few_apply_types l _ = tt
+few_apply_types : (x : ℕ) (place : Place) (vs : List Value) → Few vs (apply_types x place vs)
+few_apply_types x place (types ts q ∷ mark p ∷ vs) = omega arith
+few_apply_types x place _ = tt
 
 few_product_type : (vs : List Value) → Few vs (product_type vs)
 few_product_type (types ts p ∷ vs) = omega arith
@@ -239,9 +242,9 @@ few_append_tree : (vs : List Value) → Few vs (append_tree vs)
 few_append_tree (expression b q c ∷ expressions es p ∷ vs) = omega arith
 few_append_tree _ = tt
 
-few_add_parameter : (l : Lexeme) (vs : List Value) → Few vs (add_parameter l vs)
-few_add_parameter l (parameters ps ∷ vs) = omega arith
-few_add_parameter l _ = tt
+few_add_parameter : (p : tree.Named) (vs : List Value) → Few vs (add_parameter p vs)
+few_add_parameter p (parameters ps ∷ vs) = omega arith
+few_add_parameter p _ = tt
 
 few_add_constructor : (vs : List Value) → Few vs (add_constructor vs)
 few_add_constructor (types ts q ∷ named c p ∷ constructors cs ∷ vs) = omega arith
@@ -299,16 +302,16 @@ few_typing_made : (a : TypingAction) (l : Lexeme) (vs : List Value) → Few vs (
 few_typing_made NoTypes l vs = omega arith
 few_typing_made TwoTypes l vs = few_two_types vs
 few_typing_made AppendType l vs = few_append_type vs
-few_typing_made VariableType l vs = omega arith
-few_typing_made NamedType l vs = omega arith
-few_typing_made ApplyType l vs = few_apply_type l vs
-few_typing_made ApplyTypes l vs = few_apply_types l vs
+few_typing_made VariableType l vs = any_name (Few vs) l.content _ tt (λ x. omega arith)
+few_typing_made NamedType l vs = any_name (Few vs) l.content _ tt (λ x. omega arith)
+few_typing_made ApplyType l vs = any_name (Few vs) l.content _ tt (λ x. few_apply_type x l.place vs)
+few_typing_made ApplyTypes l vs = any_name (Few vs) l.content _ tt (λ x. few_apply_types x l.place vs)
 few_typing_made ProductType l vs = few_product_type vs
 few_typing_made ArrowType l vs = few_arrow_type vs
 few_typing_made TypeInside l vs = few_type_inside vs
 
 few_pattern_made : (a : PatternAction) (l : Lexeme) (vs : List Value) → Few vs (pattern_made a l vs)
-few_pattern_made Bind l vs = omega arith
+few_pattern_made Bind l vs = any_name (Few vs) l.content _ tt (λ x. omega arith)
 few_pattern_made Any l vs = omega arith
 few_pattern_made UnitPattern l vs = few_unit_pattern vs
 few_pattern_made NilPattern l vs = few_nil_pattern vs
@@ -322,12 +325,12 @@ few_pattern_made BuildPattern l vs = few_build_pattern vs
 few_pattern_made PatternInside l vs = few_pattern_inside vs
 
 few_operand_made : (a : OperandAction) (l : Lexeme) (n : ℕ) (vs : List Value) → FewMade vs (operand_made a l n vs)
-few_operand_made Literal l n vs = few_literal n l.value vs l.place
-few_operand_made NegativeLiteral l n vs = few_negative_literal n l.value vs
+few_operand_made Literal l n vs = any_number (FewMade vs) l.content _ tt (λ v. few_literal n v vs l.place)
+few_operand_made NegativeLiteral l n vs = any_number (FewMade vs) l.content _ tt (λ v. few_negative_literal n v vs)
 few_operand_made Truth l n vs = omega arith
 few_operand_made Untruth l n vs = omega arith
-few_operand_made UseOf l n vs = omega arith
-few_operand_made QualifiedOf l n vs = few_of_name (λ m. qualified m l.name) n vs
+few_operand_made UseOf l n vs = any_name (FewMade vs) l.content _ tt (λ x. omega arith)
+few_operand_made QualifiedOf l n vs = any_name (FewMade vs) l.content _ tt (λ x. few_of_name (λ m. qualified m x) n vs)
 few_operand_made ConstantOf l n vs = few_of_name (λ c. build c Apart (trees_of [])) n vs
 few_operand_made BuildOf l n vs = few_build_one n vs
 few_operand_made UnitHere l n vs = few_at_mark unit n vs
@@ -371,8 +374,8 @@ few_item_made AddLet l vs = few_add_let vs
 few_item_made AddRec l vs = few_add_rec vs
 few_item_made AddType l vs = few_add_type vs
 few_item_made NoParameters l vs = omega arith
-few_item_made FirstParameter l vs = omega arith
-few_item_made AddParameter l vs = few_add_parameter l vs
+few_item_made FirstParameter l vs = any_name (Few vs) l.content _ tt (λ x. omega arith)
+few_item_made AddParameter l vs = any_name (Few vs) l.content _ tt (λ x. few_add_parameter (parameter_at l.place x) vs)
 few_item_made NoConstructors l vs = omega arith
 few_item_made AddConstructor l vs = few_add_constructor vs
 
@@ -385,8 +388,8 @@ few_entry_made NoEquations l vs = omega arith
 few_entry_made AppendEquation l vs = few_append_equation vs
 
 few_pred_made : (a : PredAction) (l : Lexeme) (vs : List Value) → Few vs (pred_made a l vs)
-few_pred_made PredLiteral l vs = few_pred_literal l vs
-few_pred_made PredNegative l vs = few_pred_negative l vs
+few_pred_made PredLiteral l vs = any_number (Few vs) l.content _ tt (λ v. few_pred_literal v l.place vs)
+few_pred_made PredNegative l vs = any_number (Few vs) l.content _ tt (λ v. few_pred_negative v vs)
 few_pred_made PredTruth l vs = omega arith
 few_pred_made PredUntruth l vs = omega arith
 few_pred_made PredUse l vs = few_pred_of_name pred.use_of vs
@@ -404,7 +407,7 @@ few_pred_made (PredCompare o) l vs = few_pred_of_two (pred.compare o) vs
 
 few_made : (a : Action) (l : Lexeme) (m : Making) → FewMade m.values (made a l m)
 few_made Mark l m = omega arith
-few_made Named l m = omega arith
+few_made Named l m = few_values m.made m.values (by_name l.content (λ x. Some (named x l.place ∷ m.values))) (any_name (Few m.values) l.content _ tt (λ x. omega arith))
 few_made (Item a) l m = few_values m.made m.values (item_made a l m.values) (few_item_made a l m.values)
 few_made (Typing a) l m = few_values m.made m.values (typing_made a l m.values) (few_typing_made a l m.values)
 few_made (Pattern a) l m = few_values m.made m.values (pattern_made a l m.values) (few_pattern_made a l m.values)

@@ -6,7 +6,7 @@ use Rattle.lq_grammar.specs.declared.symbol.Symbol.{Symbol}
 use Rattle.lq_grammar.specs.declared.symbol.Symbol.TheVariants.{Word, Part, Make, Leave}
 use Rattle.lq_grammar.specs.Kinds as kinds
 use Rattle.lq_grammar.specs.Levels.{depth}
-use Rattle.lq_action.proofs.Sorts.{Sort, same_sort, Step, beside, below, Need, After, anything, a_token, a_number, a_limit_number, Signature}
+use Rattle.lq_action.proofs.Sorts.{Sort, same_sort, Step, beside, below, Need, After, anything, a_token, a_named_token, a_number, a_limit_number, Signature}
 use Rattle.lq_action.proofs.Signatures.{signature, action_signature}
 
 -- the sort of a value, and its level: what its trees nest and the level are together at most the limit and 1
@@ -17,11 +17,18 @@ pub data Slot : Type 0 where
 pub data Last : Type 0 where
   unknown : Last
   other : Last
+  name : Last
   number : Last
   limit_number : Last
 
 abbrev last_at : ℕ → Last
-last_at c = if eqb c 23 then number else if eqb c 24 then limit_number else other
+last_at c =
+    if eqb c 20 then name
+    else if eqb c 21 then name
+    else if eqb c 22 then name
+    else if eqb c 23 then number
+    else if eqb c 24 then limit_number
+    else other
 
 abbrev pub last_of : Kind → Last
 last_of k = last_at (kinds.code k)
@@ -30,6 +37,8 @@ abbrev pub follows : After → Last → Bool
 follows anything l = true
 follows a_token unknown = false
 follows a_token l = true
+follows a_named_token name = true
+follows a_named_token l = false
 follows a_number number = true
 follows a_number l = false
 follows a_limit_number number = true
@@ -102,9 +111,11 @@ Vaguer l m = l ≡ m
 follows-vaguer : (a : After) (l m : Last) → Vaguer l m → follows a l ≡ true → follows a m ≡ true
 follows-vaguer anything l m v e = refl
 follows-vaguer a_token unknown m v e = absurd cc
+follows-vaguer a_named_token unknown m v e = absurd cc
 follows-vaguer a_number unknown m v e = absurd cc
 follows-vaguer a_limit_number unknown m v e = absurd cc
 follows-vaguer a other m v e = rw (← v) e
+follows-vaguer a name m v e = rw (← v) e
 follows-vaguer a number m v e = rw (← v) e
 follows-vaguer a limit_number m v e = rw (← v) e
 
@@ -181,6 +192,7 @@ FlowsAbove k r l t w = (m : Last) × (u : List Slot) × (w ≡ ends m u) × Vagu
 pub vaguer-same : (l : Last) → Vaguer l l
 vaguer-same unknown = tt
 vaguer-same other = refl
+vaguer-same name = refl
 vaguer-same number = refl
 vaguer-same limit_number = refl
 

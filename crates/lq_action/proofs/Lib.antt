@@ -3,6 +3,7 @@ pub mod Signatures
 pub mod Flows
 pub mod Checked
 pub mod Nesting
+pub mod Contents
 pub mod Rows
 pub mod Terms
 pub mod Nodes

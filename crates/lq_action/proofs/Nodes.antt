@@ -1,8 +1,9 @@
 -- The actions on expressions find what they need.
-use Rattle.std.specs.Prelude.{max, ◌^◌, nat_lt, pos, neg_ℤ}
+use Rattle.std.specs.Prelude.{max, nat_lt, pos, neg_ℤ}
 use Rattle.std.proofs.Common.{◌≡◌, ℕ, suc, ◌+◌, ◌≤◌, refl, true, false, Some, List, [], ◌∷◌, arith}
 use Rattle.std.proofs.Math.Nat.{max-le, le_trans}
 use Rattle.std.proofs.lemmas.Bool.{lt-ltb, le-ltb}
+use Rattle.lq_name.specs.declared.limits.TheConstants.{LITERAL_LIMIT}
 use Rattle.lq_name.specs.declared.place.Place.{Place}
 use Rattle.lq_tree.specs.declared.expr.Arguments.TheVariants.{Apart}
 use Rattle.lq_tree.specs.Levels.{nesting, nesting_in, nesting_of_cases}
@@ -14,23 +15,23 @@ use Rattle.lq_grammar.specs.declared.symbol.BlockAction.TheVariants.{Function, F
 use Rattle.lq_grammar.specs.declared.symbol.OperandAction.{OperandAction}
 use Rattle.lq_grammar.specs.declared.symbol.OperandAction.TheVariants.{Literal, NegativeLiteral, Truth, Untruth, UseOf, QualifiedOf, ConstantOf, BuildOf, UnitHere, Enclosed, BlockOf, ElementOf, FetchOf, StoreOf, CallOf, NegateOf, ConsOf, AndOf, OrOf, ArithOf, CompareOf}
 use Rattle.lq_grammar.specs.declared.symbol.Action.TheVariants.{Block, Operand}
-use Rattle.lq_action.specs.Value.{Lexeme, Commas, bare, absent, mark, named, expression, expressions, element, arms, recursive, pattern_read, with_node}
+use Rattle.lq_action.specs.Value.{Lexeme, by_name, by_number, Commas, bare, absent, mark, named, expression, expressions, element, arms, recursive, pattern_read, with_node}
 use Rattle.lq_action.specs.Patterns.{cons_name}
 use Rattle.lq_action.specs.Expressions.{literal, negative_literal, of_name, at_mark, of_one, of_two, of_row, build_one, in_parentheses, enclose, element_of, fetch_of, store_of, operand_made, function_of, function_here, recursive_of, recursive_here, let_form, let_of_all, let_rec_of_all, append_arm, match_of, if_of, if_only, assert_form, two_trees, append_tree, block_made}
 use Rattle.lq_action.proofs.Sorts.{a_mark, a_name, a_tree, some_trees, an_element, some_arms, a_function, a_pattern, Need}
 use Rattle.lq_action.proofs.Signatures.{action_signature, keeps, sinks}
 use Rattle.lq_action.proofs.Nesting.{Held, Gives, Makes, gives-makes, trees-append, cases-append}
+use Rattle.lq_action.proofs.Contents.{FitsAfter, on_name, on_below, on_up_to}
 use Rattle.lq_action.proofs.Rows.{leaf_gives}
-use Rattle.lq_action.proofs.Terms.{FitsAfter}
 
 -- a node with nothing below it
 leaf_makes : (form : Form) (place : Place) → nesting_in form ≡ 0 → Makes [] a_tree (λ n vs. with_node n place form absent vs)
 leaf_makes form place flat bound n vs h = (expression (tree n place form) place absent, suc n, refl, refl, omega (arith, flat), omega arith)
 
-literal_makes : (l : Lexeme) → nat_lt l.value (2 ^ 127) ≡ true → Makes [] a_tree (λ n vs. literal n l.value vs l.place)
-literal_makes l small bound n vs h = (expression (tree n l.place (whole (pos l.value))) l.place absent, suc n, rw small refl, refl, omega arith, omega arith)
+literal_makes : (v : ℕ) (place : Place) → nat_lt v LITERAL_LIMIT ≡ true → Makes [] a_tree (λ n vs. literal n v vs place)
+literal_makes v place small bound n vs h = (expression (tree n place (whole (pos v))) place absent, suc n, rw small refl, refl, omega arith, omega arith)
 
-negative_makes : (v : ℕ) → nat_lt (2 ^ 127) v ≡ false → Makes (keeps a_mark ∷ []) a_tree (λ n vs. negative_literal n v vs)
+negative_makes : (v : ℕ) → nat_lt LITERAL_LIMIT v ≡ false → Makes (keeps a_mark ∷ []) a_tree (λ n vs. negative_literal n v vs)
 negative_makes v small bound n (mark p ∷ vs) h = (expression (tree n p (whole (neg_ℤ (pos v)))) p absent, suc n, rw small refl, refl, omega arith, omega arith)
 negative_makes v small bound n vs h = absurd cc
 
@@ -81,12 +82,12 @@ cons-nests : (a b : ℕ) → max a (max (b + 1) 0) ≡ max a (b + 1)
 cons-nests a b = omega arith
 
 pub operand_makes : (a : OperandAction) (l : Lexeme) → FitsAfter (action_signature (Operand a)).after l → Makes (action_signature (Operand a)).needs (action_signature (Operand a)).gives (λ n vs. operand_made a l n vs)
-operand_makes Literal l f = literal_makes l (lt-ltb l.value (2 ^ 127) f)
-operand_makes NegativeLiteral l f = negative_makes l.value (le-ltb (2 ^ 127) l.value f)
+operand_makes Literal l f = on_below (λ c. Makes [] a_tree (λ n vs. by_number c (λ v. literal n v vs l.place))) l.content f (λ v small. literal_makes v l.place (lt-ltb v LITERAL_LIMIT small))
+operand_makes NegativeLiteral l f = on_up_to (λ c. Makes (keeps a_mark ∷ []) a_tree (λ n vs. by_number c (λ v. negative_literal n v vs))) l.content f (λ v small. negative_makes v (le-ltb LITERAL_LIMIT v small))
 operand_makes Truth l f = leaf_makes (flag true) l.place refl
 operand_makes Untruth l f = leaf_makes (flag false) l.place refl
-operand_makes UseOf l f = leaf_makes (use_of l.name) l.place refl
-operand_makes QualifiedOf l f = of_name_makes (λ m. qualified m l.name) (λ x. refl)
+operand_makes UseOf l f = on_name (λ c. Makes [] a_tree (λ n vs. by_name c (λ x. with_node n l.place (use_of x) absent vs))) l.content f (λ x. leaf_makes (use_of x) l.place refl)
+operand_makes QualifiedOf l f = on_name (λ c. Makes (keeps a_name ∷ []) a_tree (λ n vs. by_name c (λ x. of_name (λ m. qualified m x) n vs))) l.content f (λ x. of_name_makes (λ m. qualified m x) (λ y. refl))
 operand_makes ConstantOf l f = of_name_makes (λ c. build c Apart (trees_of [])) (λ x. refl)
 operand_makes BuildOf l f = build_makes
 operand_makes UnitHere l f = at_mark_makes unit refl

@@ -2,7 +2,8 @@
 use Rattle.std.specs.Prelude.{max}
 use Rattle.std.proofs.Common.{◌≡◌, ℕ, ◌≤◌, refl, Some, [], ◌∷◌, arith}
 use Rattle.std.proofs.Math.Nat.{max-le, le_trans}
-use Rattle.lq_tree.specs.Items.{type_of, let_of, let_rec_of}
+use Rattle.lq_name.specs.declared.place.Place.{Place}
+use Rattle.lq_tree.specs.Items.{Named, type_of, let_of, let_rec_of}
 use Rattle.lq_tree.specs.Levels.{type_nesting}
 use Rattle.lq_tree.specs.Pattern.{pattern, bind, any}
 use Rattle.lq_tree.specs.TypeTree.{type_tree, variable, apply}
@@ -14,12 +15,13 @@ use Rattle.lq_grammar.specs.declared.symbol.TypingAction.TheVariants.{NoTypes, T
 use Rattle.lq_grammar.specs.declared.symbol.PatternAction.{PatternAction}
 use Rattle.lq_grammar.specs.declared.symbol.PatternAction.TheVariants.{Bind, Any, UnitPattern, NilPattern, ConsPattern, NoPatterns, TwoPatterns, AppendPattern, TuplePattern, TupleHere, BuildPattern, PatternInside}
 use Rattle.lq_grammar.specs.declared.symbol.Action.TheVariants.{Item, Typing, Pattern}
-use Rattle.lq_action.specs.Value.{Lexeme, Value, mark, named, expression, recursive, pattern_read, patterns, type_read, types, parameters, constructors, items}
+use Rattle.lq_action.specs.Value.{Lexeme, by_name, Value, mark, named, expression, recursive, pattern_read, patterns, type_read, types, parameters, constructors, items}
 use Rattle.lq_action.specs.Items.{add_let, add_rec, add_type, parameter_at, add_parameter, add_constructor, item_made}
-use Rattle.lq_action.specs.Types.{two_types, append_type, apply_type, apply_types, product_type, arrow_type, type_inside, typing_made}
-use Rattle.lq_action.specs.Patterns.{unit_pattern, nil_pattern, cons_pattern, two_patterns, append_pattern, tuple_pattern, tuple_here, build_pattern, pattern_inside, pattern_made}
+use Rattle.lq_action.specs.Types.{with_type, two_types, append_type, apply_type, apply_types, product_type, arrow_type, type_inside, typing_made}
+use Rattle.lq_action.specs.Patterns.{with_pattern, unit_pattern, nil_pattern, cons_pattern, two_patterns, append_pattern, tuple_pattern, tuple_here, build_pattern, pattern_inside, pattern_made}
 use Rattle.lq_action.proofs.Sorts.{a_mark, a_name, a_tree, a_function, a_pattern, some_patterns, a_type, some_types, some_parameters, some_constructors, some_items, sort_of}
 use Rattle.lq_action.proofs.Signatures.{action_signature, keeps, sinks}
+use Rattle.lq_action.proofs.Contents.{FitsAfter, on_name}
 use Rattle.lq_action.proofs.Nesting.{value_nesting, Gives, types-append, constructors-append, items-append, type-row}
 
 pub leaf_gives : (v : Value) → value_nesting v ≡ 0 → Gives [] (sort_of v) (λ vs. Some (v ∷ vs))
@@ -44,25 +46,25 @@ type_gives bound (constructors cs ∷ named x p ∷ parameters ps ∷ mark m ∷
     (_, refl, refl, items-append is (record { place = m; form = type_of (record { name = x; place = p; parameters = ps; constructors = cs }) }) bound h.2.2.2.2.1 h.1)
 type_gives bound vs h = absurd cc
 
-parameter_gives : (l : Lexeme) → Gives (keeps some_parameters ∷ []) some_parameters (add_parameter l)
-parameter_gives l bound (parameters ps ∷ vs) h = (_, refl, refl, h.1)
-parameter_gives l bound vs h = absurd cc
+parameter_gives : (p : Named) → Gives (keeps some_parameters ∷ []) some_parameters (add_parameter p)
+parameter_gives p bound (parameters ps ∷ vs) h = (_, refl, refl, h.1)
+parameter_gives p bound vs h = absurd cc
 
 constructor_gives : Gives (keeps some_types ∷ keeps a_name ∷ keeps some_constructors ∷ []) some_constructors add_constructor
 constructor_gives bound (types ts q ∷ named c p ∷ constructors cs ∷ vs) h =
     (_, refl, refl, constructors-append cs (record { name = c; place = p; fields = type_trees_of ts }) bound h.2.2.1 h.1)
 constructor_gives bound vs h = absurd cc
 
-pub item_gives : (a : ItemAction) (l : Lexeme) → Gives (action_signature (Item a)).needs (action_signature (Item a)).gives (item_made a l)
-item_gives NoItems l = leaf_gives (items []) refl
-item_gives AddLet l = let_gives
-item_gives AddRec l = rec_gives
-item_gives AddType l = type_gives
-item_gives NoParameters l = leaf_gives (parameters []) refl
-item_gives FirstParameter l = leaf_gives (parameters (parameter_at l ∷ [])) refl
-item_gives AddParameter l = parameter_gives l
-item_gives NoConstructors l = leaf_gives (constructors []) refl
-item_gives AddConstructor l = constructor_gives
+pub item_gives : (a : ItemAction) (l : Lexeme) → FitsAfter (action_signature (Item a)).after l → Gives (action_signature (Item a)).needs (action_signature (Item a)).gives (item_made a l)
+item_gives NoItems l f = leaf_gives (items []) refl
+item_gives AddLet l f = let_gives
+item_gives AddRec l f = rec_gives
+item_gives AddType l f = type_gives
+item_gives NoParameters l f = leaf_gives (parameters []) refl
+item_gives FirstParameter l f = on_name (λ c. Gives [] some_parameters (λ vs. by_name c (λ x. Some (parameters (parameter_at l.place x ∷ []) ∷ vs)))) l.content f (λ x. leaf_gives (parameters (parameter_at l.place x ∷ [])) refl)
+item_gives AddParameter l f = on_name (λ c. Gives (keeps some_parameters ∷ []) some_parameters (λ vs. by_name c (λ x. add_parameter (parameter_at l.place x) vs))) l.content f (λ x. parameter_gives (parameter_at l.place x))
+item_gives NoConstructors l f = leaf_gives (constructors []) refl
+item_gives AddConstructor l f = constructor_gives
 
 -- types
 two_types_give : Gives (keeps a_type ∷ keeps a_type ∷ []) some_types two_types
@@ -73,13 +75,13 @@ append_type_gives : Gives (keeps a_type ∷ keeps some_types ∷ []) some_types 
 append_type_gives bound (type_read b q ∷ types ts p ∷ vs) h = (_, refl, refl, types-append ts b bound h.2.1 h.1)
 append_type_gives bound vs h = absurd cc
 
-apply_type_gives : (l : Lexeme) → Gives (keeps a_type ∷ []) a_type (apply_type l)
-apply_type_gives l bound (type_read a p ∷ vs) h = (_, refl, refl, max_none (type_nesting a) bound h.1)
-apply_type_gives l bound vs h = absurd cc
+apply_type_gives : (x : ℕ) (place : Place) → Gives (keeps a_type ∷ []) a_type (apply_type x place)
+apply_type_gives x place bound (type_read a p ∷ vs) h = (_, refl, refl, max_none (type_nesting a) bound h.1)
+apply_type_gives x place bound vs h = absurd cc
 
-apply_types_gives : (l : Lexeme) → Gives (sinks some_types ∷ keeps a_mark ∷ []) a_type (apply_types l)
-apply_types_gives l bound (types ts q ∷ mark p ∷ vs) h = (_, refl, refl, le_trans (type-row (type_trees_of ts)) h.1)
-apply_types_gives l bound vs h = absurd cc
+apply_types_gives : (x : ℕ) (place : Place) → Gives (sinks some_types ∷ keeps a_mark ∷ []) a_type (apply_types x place)
+apply_types_gives x place bound (types ts q ∷ mark p ∷ vs) h = (_, refl, refl, le_trans (type-row (type_trees_of ts)) h.1)
+apply_types_gives x place bound vs h = absurd cc
 
 product_gives : Gives (keeps some_types ∷ []) a_type product_type
 product_gives bound (types ts p ∷ vs) h = (_, refl, refl, h.1)
@@ -93,17 +95,17 @@ type_inside_gives : Gives (keeps a_type ∷ keeps a_mark ∷ []) a_type type_ins
 type_inside_gives bound (type_read a q ∷ mark p ∷ vs) h = (_, refl, refl, h.1)
 type_inside_gives bound vs h = absurd cc
 
-pub typing_gives : (a : TypingAction) (l : Lexeme) → Gives (action_signature (Typing a)).needs (action_signature (Typing a)).gives (typing_made a l)
-typing_gives NoTypes l = leaf_gives (types [] l.place) refl
-typing_gives TwoTypes l = two_types_give
-typing_gives AppendType l = append_type_gives
-typing_gives VariableType l = leaf_gives (type_read (type_tree l.place (variable l.name)) l.place) refl
-typing_gives NamedType l = leaf_gives (type_read (type_tree l.place (apply (type_trees_of []) l.name l.place)) l.place) refl
-typing_gives ApplyType l = apply_type_gives l
-typing_gives ApplyTypes l = apply_types_gives l
-typing_gives ProductType l = product_gives
-typing_gives ArrowType l = arrow_gives
-typing_gives TypeInside l = type_inside_gives
+pub typing_gives : (a : TypingAction) (l : Lexeme) → FitsAfter (action_signature (Typing a)).after l → Gives (action_signature (Typing a)).needs (action_signature (Typing a)).gives (typing_made a l)
+typing_gives NoTypes l f = leaf_gives (types [] l.place) refl
+typing_gives TwoTypes l f = two_types_give
+typing_gives AppendType l f = append_type_gives
+typing_gives VariableType l f = on_name (λ c. Gives [] a_type (λ vs. by_name c (λ x. with_type l.place (variable x) vs))) l.content f (λ x. leaf_gives (type_read (type_tree l.place (variable x)) l.place) refl)
+typing_gives NamedType l f = on_name (λ c. Gives [] a_type (λ vs. by_name c (λ x. with_type l.place (apply (type_trees_of []) x l.place) vs))) l.content f (λ x. leaf_gives (type_read (type_tree l.place (apply (type_trees_of []) x l.place)) l.place) refl)
+typing_gives ApplyType l f = on_name (λ c. Gives (keeps a_type ∷ []) a_type (λ vs. by_name c (λ x. apply_type x l.place vs))) l.content f (λ x. apply_type_gives x l.place)
+typing_gives ApplyTypes l f = on_name (λ c. Gives (sinks some_types ∷ keeps a_mark ∷ []) a_type (λ vs. by_name c (λ x. apply_types x l.place vs))) l.content f (λ x. apply_types_gives x l.place)
+typing_gives ProductType l f = product_gives
+typing_gives ArrowType l f = arrow_gives
+typing_gives TypeInside l f = type_inside_gives
 
 -- patterns, which have no trees in them
 unit_gives : Gives (keeps a_mark ∷ []) a_pattern unit_pattern
@@ -142,16 +144,16 @@ pattern_inside_gives : Gives (keeps a_pattern ∷ keeps a_mark ∷ []) a_pattern
 pattern_inside_gives bound (pattern_read a ∷ mark p ∷ vs) h = (_, refl, refl, omega arith)
 pattern_inside_gives bound vs h = absurd cc
 
-pub pattern_gives : (a : PatternAction) (l : Lexeme) → Gives (action_signature (Pattern a)).needs (action_signature (Pattern a)).gives (pattern_made a l)
-pattern_gives Bind l = leaf_gives (pattern_read (pattern l.place (bind l.name))) refl
-pattern_gives Any l = leaf_gives (pattern_read (pattern l.place any)) refl
-pattern_gives UnitPattern l = unit_gives
-pattern_gives NilPattern l = nil_gives
-pattern_gives ConsPattern l = cons_gives
-pattern_gives NoPatterns l = leaf_gives (patterns [] l.place) refl
-pattern_gives TwoPatterns l = two_patterns_give
-pattern_gives AppendPattern l = append_pattern_gives
-pattern_gives TuplePattern l = tuple_gives
-pattern_gives TupleHere l = tuple_here_gives
-pattern_gives BuildPattern l = build_gives
-pattern_gives PatternInside l = pattern_inside_gives
+pub pattern_gives : (a : PatternAction) (l : Lexeme) → FitsAfter (action_signature (Pattern a)).after l → Gives (action_signature (Pattern a)).needs (action_signature (Pattern a)).gives (pattern_made a l)
+pattern_gives Bind l f = on_name (λ c. Gives [] a_pattern (λ vs. by_name c (λ x. with_pattern l.place (bind x) vs))) l.content f (λ x. leaf_gives (pattern_read (pattern l.place (bind x))) refl)
+pattern_gives Any l f = leaf_gives (pattern_read (pattern l.place any)) refl
+pattern_gives UnitPattern l f = unit_gives
+pattern_gives NilPattern l f = nil_gives
+pattern_gives ConsPattern l f = cons_gives
+pattern_gives NoPatterns l f = leaf_gives (patterns [] l.place) refl
+pattern_gives TwoPatterns l f = two_patterns_give
+pattern_gives AppendPattern l f = append_pattern_gives
+pattern_gives TuplePattern l f = tuple_gives
+pattern_gives TupleHere l f = tuple_here_gives
+pattern_gives BuildPattern l f = build_gives
+pattern_gives PatternInside l f = pattern_inside_gives

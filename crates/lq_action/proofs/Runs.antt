@@ -1,6 +1,6 @@
 -- The actions of a reading never lack a value, and what they make nests no deeper than its levels.
-use Rattle.std.specs.Prelude.{◌^◌, if◌then◌else◌, min}
-use Rattle.std.proofs.Common.{◌≡◌, ℕ, suc, zero, ◌+◌, ◌-◌, ◌<◌, ◌≤◌, refl, sym, ◌∙◌, Bool, true, false, ◌&&◌, Some, List, [], ◌∷◌, arith}
+use Rattle.std.specs.Prelude.{if◌then◌else◌, min}
+use Rattle.std.proofs.Common.{◌≡◌, ℕ, suc, zero, ◌+◌, ◌-◌, ◌≤◌, refl, sym, ◌∙◌, Bool, true, false, ◌&&◌, Some, List, [], ◌∷◌, arith}
 use Rattle.lq_grammar.specs.declared.kind.Kind.{Kind}
 use Rattle.lq_grammar.specs.declared.kind.Kind.TheVariants as kind
 use Rattle.lq_grammar.specs.declared.symbol.Action.{Action}
@@ -18,21 +18,23 @@ use Rattle.lq_action.specs.Patterns.{pattern_made}
 use Rattle.lq_action.specs.Predicates.{pred_made}
 use Rattle.lq_action.specs.Trees.{FitsKind}
 use Rattle.lq_action.specs.Types.{typing_made}
-use Rattle.lq_action.specs.Value.{Lexeme, Value, mark, named}
-use Rattle.lq_action.proofs.Sorts.{a_mark, a_name, sort_of, same_sort, same_sort-eq, Step, beside, below, Need, After, anything, a_token, a_number, a_limit_number}
+use Rattle.lq_action.specs.Value.{Lexeme, Content, some_name, some_number, neither, by_name, HasName, HasNumberBelow, HasNumberUpTo, Value, mark, named}
+use Rattle.lq_action.proofs.Sorts.{a_mark, a_name, sort_of, same_sort, same_sort-eq, Step, beside, below, Need, After, anything, a_token, a_named_token, a_number, a_limit_number}
 use Rattle.lq_action.proofs.Signatures.{action_signature}
-use Rattle.lq_action.proofs.Flows.{Slot, slot, Last, unknown, other, number, limit_number, last_of, follows, paid, Pulled, lacks, pulled, pull, put_pulled, use_of}
-use Rattle.lq_action.proofs.Nesting.{value_nesting, sunk, Held, behind, Makes, gives-makes}
+use Rattle.lq_action.proofs.Flows.{Slot, slot, Last, unknown, other, name, number, limit_number, last_of, follows, paid, Pulled, lacks, pulled, pull, put_pulled, use_of}
+use Rattle.lq_action.proofs.Nesting.{value_nesting, sunk, Held, behind, Gives, Makes, gives-makes}
+use Rattle.lq_action.proofs.Contents.{FitsAfter, on_name}
 use Rattle.lq_action.proofs.Rows.{leaf_gives, item_gives, typing_gives, pattern_gives}
-use Rattle.lq_action.proofs.Terms.{FitsAfter, pred_gives, entry_gives}
+use Rattle.lq_action.proofs.Terms.{pred_gives, entry_gives}
 use Rattle.lq_action.proofs.Nodes.{operand_makes, block_makes}
 
 action_makes : (a : Action) (l : Lexeme) → FitsAfter (action_signature a).after l → Makes (action_signature a).needs (action_signature a).gives (λ n vs. made a l (record { made = n; values = vs }))
 action_makes Mark l f = gives-makes [] a_mark (λ vs. Some (mark l.place ∷ vs)) (leaf_gives (mark l.place) refl)
-action_makes Named l f = gives-makes [] a_name (λ vs. Some (named l.name l.place ∷ vs)) (leaf_gives (named l.name l.place) refl)
-action_makes (Item a) l f = gives-makes (action_signature (Item a)).needs (action_signature (Item a)).gives (item_made a l) (item_gives a l)
-action_makes (Typing a) l f = gives-makes (action_signature (Typing a)).needs (action_signature (Typing a)).gives (typing_made a l) (typing_gives a l)
-action_makes (Pattern a) l f = gives-makes (action_signature (Pattern a)).needs (action_signature (Pattern a)).gives (pattern_made a l) (pattern_gives a l)
+action_makes Named l f = gives-makes [] a_name (λ vs. by_name l.content (λ x. Some (named x l.place ∷ vs)))
+    (on_name (λ c. Gives [] a_name (λ vs. by_name c (λ x. Some (named x l.place ∷ vs)))) l.content f (λ x. leaf_gives (named x l.place) refl))
+action_makes (Item a) l f = gives-makes (action_signature (Item a)).needs (action_signature (Item a)).gives (item_made a l) (item_gives a l f)
+action_makes (Typing a) l f = gives-makes (action_signature (Typing a)).needs (action_signature (Typing a)).gives (typing_made a l) (typing_gives a l f)
+action_makes (Pattern a) l f = gives-makes (action_signature (Pattern a)).needs (action_signature (Pattern a)).gives (pattern_made a l) (pattern_gives a l f)
 action_makes (Block a) l f = block_makes a l
 action_makes (Operand a) l f = operand_makes a l f
 action_makes (Pred a) l f = gives-makes (action_signature (Pred a)).needs (action_signature (Pred a)).gives (pred_made a l) (pred_gives a l f)
@@ -70,8 +72,9 @@ Fit limit (slot j e ∷ s) (v ∷ vs) = (sort_of v ≡ j) × (value_nesting v + 
 
 -- the token taken last
 abbrev pub FitsLast : Last → Lexeme → Type 0
-FitsLast number l = l.value < 2 ^ 127
-FitsLast limit_number l = l.value ≤ 2 ^ 127
+FitsLast name l = HasName l.content
+FitsLast number l = HasNumberBelow l.content
+FitsLast limit_number l = HasNumberUpTo l.content
 FitsLast _ l = Unit {0}
 
 abbrev pub Knows : ℕ → ℕ → Last → Type 0
@@ -81,18 +84,21 @@ Knows limit d l = d ≤ limit
 pub knows-any : (limit d : ℕ) (l : Last) → d ≤ limit → Knows limit d l
 knows-any limit d unknown h = tt
 knows-any limit d other h = h
+knows-any limit d name h = h
 knows-any limit d number h = h
 knows-any limit d limit_number h = h
 
 pub knows-less : (limit d e : ℕ) (l : Last) → d ≤ e → Knows limit e l → Knows limit d l
 knows-less limit d e unknown less h = tt
 knows-less limit d e other less h = omega arith
+knows-less limit d e name less h = omega arith
 knows-less limit d e number less h = omega arith
 knows-less limit d e limit_number less h = omega arith
 
 known : (limit d : ℕ) (t : Bool) (a : After) (l : Last) → (t && follows a unknown) ≡ false → t ≡ true → follows a l ≡ true → Knows limit d l → d ≤ limit
 known limit d t a unknown never none fine h = let both : (t && follows a unknown) ≡ true = rw (none, fine) refl in absurd cc
 known limit d t a other never none fine h = h
+known limit d t a name never none fine h = h
 known limit d t a number never none fine h = h
 known limit d t a limit_number never none fine h = h
 
@@ -102,22 +108,34 @@ suc-more d limit h = omega arith
 no_way : (A : Type 0) → false ≡ true → A
 no_way A e = absurd cc
 
-lt-le : (a b : ℕ) → a < b → a ≤ b
-lt-le a b h = omega arith
+up_to-below : (c : Content) → HasNumberBelow c → HasNumberUpTo c
+up_to-below (some_name x) h = h
+up_to-below (some_number v) h = omega arith
+up_to-below neither h = h
 
 fits-after : (a : After) (l : Last) (x : Lexeme) → follows a l ≡ true → FitsLast l x → FitsAfter a x
 fits-after anything l x e f = tt
 fits-after a_token l x e f = tt
+fits-after a_named_token name x e f = f
+fits-after a_named_token unknown x e f = no_way (HasName x.content) e
+fits-after a_named_token other x e f = no_way (HasName x.content) e
+fits-after a_named_token number x e f = no_way (HasName x.content) e
+fits-after a_named_token limit_number x e f = no_way (HasName x.content) e
 fits-after a_number number x e f = f
-fits-after a_number unknown x e f = no_way (x.value < 2 ^ 127) e
-fits-after a_number other x e f = no_way (x.value < 2 ^ 127) e
-fits-after a_number limit_number x e f = no_way (x.value < 2 ^ 127) e
-fits-after a_limit_number number x e f = lt-le x.value (2 ^ 127) f
+fits-after a_number unknown x e f = no_way (HasNumberBelow x.content) e
+fits-after a_number other x e f = no_way (HasNumberBelow x.content) e
+fits-after a_number name x e f = no_way (HasNumberBelow x.content) e
+fits-after a_number limit_number x e f = no_way (HasNumberBelow x.content) e
+fits-after a_limit_number number x e f = up_to-below x.content f
 fits-after a_limit_number limit_number x e f = f
-fits-after a_limit_number unknown x e f = no_way (x.value ≤ 2 ^ 127) e
-fits-after a_limit_number other x e f = no_way (x.value ≤ 2 ^ 127) e
+fits-after a_limit_number unknown x e f = no_way (HasNumberUpTo x.content) e
+fits-after a_limit_number other x e f = no_way (HasNumberUpTo x.content) e
+fits-after a_limit_number name x e f = no_way (HasNumberUpTo x.content) e
 
 pub fits-last : (k : Kind) (x : Lexeme) → FitsKind k x → FitsLast (last_of k) x
+fits-last kind.LowerName x f = f
+fits-last kind.UpperName x f = f
+fits-last kind.TypeVariable x f = f
 fits-last kind.Number x f = f
 fits-last kind.LimitNumber x f = f
 fits-last _ x f = tt

@@ -1,7 +1,8 @@
 -- What stands on top where an action makes something.
 use Rattle.std.specs.Prelude.{IsSome, nat_lt}
-use Rattle.std.proofs.Common.{◌≡◌, ◌<◌, ◌≤◌, ◌^◌, ℕ, List, ◌∷◌, Bool, true, false, cond, Option, Some, None, refl, arith}
+use Rattle.std.proofs.Common.{◌≡◌, ◌<◌, ◌≤◌, ℕ, List, ◌∷◌, Bool, true, false, cond, Option, Some, None, refl, arith}
 use Rattle.std.proofs.lemmas.Bool.Decides.{nat_tests}
+use Rattle.lq_name.specs.declared.limits.TheConstants.{LITERAL_LIMIT}
 use Rattle.lq_name.specs.declared.place.Place.{Place}
 use Rattle.lq_tree.specs.Items.{Named, Construct, ItemTree}
 use Rattle.lq_tree.specs.MeasureTrees.{EquationTree, MeasureTree}
@@ -11,7 +12,7 @@ use Rattle.lq_tree.specs.Qualifiers.{QualifierTree}
 use Rattle.lq_tree.specs.Tree.{Tree, Form}
 use Rattle.lq_tree.specs.TreeView.{Case, Recursive}
 use Rattle.lq_tree.specs.TypeTree.{TypeTree}
-use Rattle.lq_action.specs.Value.{Lexeme, Commas, Value, mark, named, expression, expressions, element, arms, recursive, pattern_read, patterns, type_read, types, parameters, constructors, items, predicate, qualifiers, equations, measures, with_values}
+use Rattle.lq_action.specs.Value.{Content, some_name, some_number, neither, by_name, by_number, Commas, Value, mark, named, expression, expressions, element, arms, recursive, pattern_read, patterns, type_read, types, parameters, constructors, items, predicate, qualifiers, equations, measures, with_values}
 use Rattle.lq_action.specs.Types.{two_types, append_type, apply_type, apply_types, product_type, arrow_type, type_inside}
 use Rattle.lq_action.specs.Patterns.{unit_pattern, nil_pattern, cons_pattern, two_patterns, append_pattern, tuple_pattern, tuple_here, build_pattern, pattern_inside}
 use Rattle.lq_action.specs.Predicates.{pred_of_name, pred_apply, pred_qualified, pred_of_one, pred_of_two, pred_inside, pred_literal, pred_negative}
@@ -26,13 +27,13 @@ pub append_type_shape : (vs : List Value) → IsSome (append_type vs) → (x1 : 
 append_type_shape (type_read x1 x2 ∷ types x3 x4 ∷ r) h = (x1, x2, x3, x4, r, refl)
 append_type_shape _ h = absurd cc
 
-pub apply_type_shape : (l : Lexeme) (vs : List Value) → IsSome (apply_type l vs) → (x1 : TypeTree) × (x2 : Place) × (r : List Value) × (vs ≡ type_read x1 x2 ∷ r)
-apply_type_shape l (type_read x1 x2 ∷ r) h = (x1, x2, r, refl)
-apply_type_shape l _ h = absurd cc
+pub apply_type_shape : (x : ℕ) (place : Place) (vs : List Value) → IsSome (apply_type x place vs) → (x1 : TypeTree) × (x2 : Place) × (r : List Value) × (vs ≡ type_read x1 x2 ∷ r)
+apply_type_shape x place (type_read x1 x2 ∷ r) h = (x1, x2, r, refl)
+apply_type_shape x place _ h = absurd cc
 
-pub apply_types_shape : (l : Lexeme) (vs : List Value) → IsSome (apply_types l vs) → (x1 : List TypeTree) × (x2 : Place) × (x3 : Place) × (r : List Value) × (vs ≡ types x1 x2 ∷ mark x3 ∷ r)
-apply_types_shape l (types x1 x2 ∷ mark x3 ∷ r) h = (x1, x2, x3, r, refl)
-apply_types_shape l _ h = absurd cc
+pub apply_types_shape : (x : ℕ) (place : Place) (vs : List Value) → IsSome (apply_types x place vs) → (x1 : List TypeTree) × (x2 : Place) × (x3 : Place) × (r : List Value) × (vs ≡ types x1 x2 ∷ mark x3 ∷ r)
+apply_types_shape x place (types x1 x2 ∷ mark x3 ∷ r) h = (x1, x2, x3, r, refl)
+apply_types_shape x place _ h = absurd cc
 
 pub product_type_shape : (vs : List Value) → IsSome (product_type vs) → (x1 : List TypeTree) × (x2 : Place) × (r : List Value) × (vs ≡ types x1 x2 ∷ r)
 product_type_shape (types x1 x2 ∷ r) h = (x1, x2, r, refl)
@@ -118,9 +119,9 @@ pub add_type_shape : (vs : List Value) → IsSome (add_type vs) → (x1 : List C
 add_type_shape (constructors x1 ∷ named x2 x3 ∷ parameters x4 ∷ mark x5 ∷ items x6 ∷ r) h = (x1, x2, x3, x4, x5, x6, r, refl)
 add_type_shape _ h = absurd cc
 
-pub add_parameter_shape : (l : Lexeme) (vs : List Value) → IsSome (add_parameter l vs) → (x1 : List Named) × (r : List Value) × (vs ≡ parameters x1 ∷ r)
-add_parameter_shape l (parameters x1 ∷ r) h = (x1, r, refl)
-add_parameter_shape l _ h = absurd cc
+pub add_parameter_shape : (p : Named) (vs : List Value) → IsSome (add_parameter p vs) → (x1 : List Named) × (r : List Value) × (vs ≡ parameters x1 ∷ r)
+add_parameter_shape p (parameters x1 ∷ r) h = (x1, r, refl)
+add_parameter_shape p _ h = absurd cc
 
 pub add_constructor_shape : (vs : List Value) → IsSome (add_constructor vs) → (x1 : List TypeTree) × (x2 : Place) × (x3 : ℕ) × (x4 : Place) × (x5 : List Construct) × (r : List Value) × (vs ≡ types x1 x2 ∷ named x3 x4 ∷ constructors x5 ∷ r)
 add_constructor_shape (types x1 x2 ∷ named x3 x4 ∷ constructors x5 ∷ r) h = (x1, x2, x3, x4, x5, r, refl)
@@ -227,28 +228,38 @@ append_tree_shape (expression x1 x2 x3 ∷ expressions x4 x5 ∷ r) h = (x1, x2,
 append_tree_shape _ h = absurd cc
 
 -- ---- literals
-below : (v : ℕ) {X : Type 0} (x : X) (b : Bool) → nat_lt v 170141183460469231731687303715884105728 ≡ b → IsSome (cond b (Some x) None) → v < 2 ^ 127
+below : (v : ℕ) {X : Type 0} (x : X) (b : Bool) → nat_lt v LITERAL_LIMIT ≡ b → IsSome (cond b (Some x) None) → v < LITERAL_LIMIT
 below v x true e h = grind (arith, nat_tests)
 below v x false e h = absurd cc
 
-up_to : (v : ℕ) {X : Type 0} (x : X) (b : Bool) → nat_lt 170141183460469231731687303715884105728 v ≡ b → IsSome (cond b None (Some x)) → v ≤ 2 ^ 127
+up_to : (v : ℕ) {X : Type 0} (x : X) (b : Bool) → nat_lt LITERAL_LIMIT v ≡ b → IsSome (cond b None (Some x)) → v ≤ LITERAL_LIMIT
 up_to v x true e h = absurd cc
 up_to v x false e h = grind (arith, nat_tests)
 
-pub literal_below : (n v : ℕ) (vs : List Value) (p : Place) → IsSome (literal n v vs p) → v < 2 ^ 127
+pub literal_below : (n v : ℕ) (vs : List Value) (p : Place) → IsSome (literal n v vs p) → v < LITERAL_LIMIT
 literal_below n v vs p h = below v _ _ refl h
 
-pub negative_literal_shape : (n v : ℕ) (vs : List Value) → IsSome (negative_literal n v vs) → (p : Place) × (r : List Value) × (vs ≡ mark p ∷ r) × (v ≤ 2 ^ 127)
+pub negative_literal_shape : (n v : ℕ) (vs : List Value) → IsSome (negative_literal n v vs) → (p : Place) × (r : List Value) × (vs ≡ mark p ∷ r) × (v ≤ LITERAL_LIMIT)
 negative_literal_shape n v (mark p ∷ r) h = (p, r, refl, up_to v _ _ refl h)
 negative_literal_shape n v _ h = absurd cc
 
-pub pred_literal_below : (l : Lexeme) (vs : List Value) → IsSome (pred_literal l vs) → l.value < 2 ^ 127
-pred_literal_below l vs h = below l.value _ _ refl h
+pub pred_literal_below : (v : ℕ) (place : Place) (vs : List Value) → IsSome (pred_literal v place vs) → v < LITERAL_LIMIT
+pred_literal_below v place vs h = below v _ _ refl h
 
-pub pred_negative_shape : (l : Lexeme) (vs : List Value) → IsSome (pred_negative l vs) → (p : Place) × (r : List Value) × (vs ≡ mark p ∷ r) × (l.value ≤ 2 ^ 127)
-pred_negative_shape l (mark p ∷ r) h = (p, r, refl, up_to l.value _ _ refl h)
-pred_negative_shape l _ h = absurd cc
+pub pred_negative_shape : (v : ℕ) (vs : List Value) → IsSome (pred_negative v vs) → (p : Place) × (r : List Value) × (vs ≡ mark p ∷ r) × (v ≤ LITERAL_LIMIT)
+pred_negative_shape v (mark p ∷ r) h = (p, r, refl, up_to v _ _ refl h)
+pred_negative_shape v _ h = absurd cc
 
 pub with_values_some : (n : ℕ) (o : Option (List Value)) → IsSome (with_values n o) → IsSome o
 with_values_some n (Some vs) h = refl
 with_values_some n None h = absurd cc
+
+pub by_name_some : {X : Type 0} (c : Content) (f : ℕ → Option X) → IsSome (by_name c f) → (x : ℕ) × (c ≡ some_name x) × IsSome (f x)
+by_name_some (some_name x) f h = (x, refl, h)
+by_name_some (some_number v) f h = absurd cc
+by_name_some neither f h = absurd cc
+
+pub by_number_some : {X : Type 0} (c : Content) (f : ℕ → Option X) → IsSome (by_number c f) → (v : ℕ) × (c ≡ some_number v) × IsSome (f v)
+by_number_some (some_name x) f h = absurd cc
+by_number_some (some_number v) f h = (v, refl, h)
+by_number_some neither f h = absurd cc

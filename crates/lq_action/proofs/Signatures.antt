@@ -18,7 +18,7 @@ use Rattle.lq_grammar.specs.declared.symbol.PredAction.TheVariants.{PredLiteral,
 use Rattle.lq_grammar.specs.declared.symbol.EntryAction.TheVariants.{NoQualifiers, AddQualifier, NoMeasures, AddMeasure, NoEquations, AppendEquation}
 use Rattle.lq_grammar.specs.declared.symbol.Action.TheVariants.{Mark, Named, Item, Typing, Pattern, Block, Operand, Pred, Entry}
 use Rattle.lq_grammar.specs.declared.symbol.Action.{Action}
-use Rattle.lq_action.proofs.Sorts.{Sort, a_mark, a_name, a_tree, some_trees, an_element, some_arms, a_function, a_pattern, some_patterns, a_type, some_types, some_parameters, some_constructors, some_items, a_predicate, some_qualifiers, some_equations, some_measures, beside, below, Need, After, anything, a_token, a_number, a_limit_number, Signature, ActionSignature}
+use Rattle.lq_action.proofs.Sorts.{Sort, a_mark, a_name, a_tree, some_trees, an_element, some_arms, a_function, a_pattern, some_patterns, a_type, some_types, some_parameters, some_constructors, some_items, a_predicate, some_qualifiers, some_equations, some_measures, beside, below, Need, After, anything, a_token, a_named_token, a_number, a_limit_number, Signature, ActionSignature}
 
 -- a part that gives values of the least level of what it takes
 abbrev even : List Sort → List Sort → Option Signature
@@ -157,6 +157,9 @@ sinks s = record { sort = s; step = below }
 abbrev leaf : Sort → ActionSignature
 leaf s = record { after = a_token; needs = []; gives = s }
 
+abbrev names : List Need → Sort → ActionSignature
+names ns s = record { after = a_named_token; needs = ns; gives = s }
+
 abbrev joins : List Need → Sort → ActionSignature
 joins ns s = record { after = anything; needs = ns; gives = s }
 
@@ -165,27 +168,27 @@ literal a ns s = record { after = a; needs = ns; gives = s }
 
 abbrev pub action_signature : Action → ActionSignature
 action_signature Mark = leaf a_mark
-action_signature Named = leaf a_name
+action_signature Named = names [] a_name
 action_signature (Item NoItems) = leaf some_items
 action_signature (Item AddLet) = joins (keeps a_tree ∷ keeps a_pattern ∷ keeps a_mark ∷ keeps some_items ∷ []) some_items
 action_signature (Item AddRec) = joins (keeps a_function ∷ keeps a_mark ∷ keeps some_items ∷ []) some_items
 action_signature (Item AddType) = joins (keeps some_constructors ∷ keeps a_name ∷ keeps some_parameters ∷ keeps a_mark ∷ keeps some_items ∷ []) some_items
 action_signature (Item NoParameters) = leaf some_parameters
-action_signature (Item FirstParameter) = leaf some_parameters
-action_signature (Item AddParameter) = joins (keeps some_parameters ∷ []) some_parameters
+action_signature (Item FirstParameter) = names [] some_parameters
+action_signature (Item AddParameter) = names (keeps some_parameters ∷ []) some_parameters
 action_signature (Item NoConstructors) = leaf some_constructors
 action_signature (Item AddConstructor) = joins (keeps some_types ∷ keeps a_name ∷ keeps some_constructors ∷ []) some_constructors
 action_signature (Typing NoTypes) = leaf some_types
 action_signature (Typing TwoTypes) = joins (keeps a_type ∷ keeps a_type ∷ []) some_types
 action_signature (Typing AppendType) = joins (keeps a_type ∷ keeps some_types ∷ []) some_types
-action_signature (Typing VariableType) = leaf a_type
-action_signature (Typing NamedType) = leaf a_type
-action_signature (Typing ApplyType) = joins (keeps a_type ∷ []) a_type
-action_signature (Typing ApplyTypes) = joins (sinks some_types ∷ keeps a_mark ∷ []) a_type
+action_signature (Typing VariableType) = names [] a_type
+action_signature (Typing NamedType) = names [] a_type
+action_signature (Typing ApplyType) = names (keeps a_type ∷ []) a_type
+action_signature (Typing ApplyTypes) = names (sinks some_types ∷ keeps a_mark ∷ []) a_type
 action_signature (Typing ProductType) = joins (keeps some_types ∷ []) a_type
 action_signature (Typing ArrowType) = joins (sinks a_type ∷ keeps a_type ∷ []) a_type
 action_signature (Typing TypeInside) = joins (keeps a_type ∷ keeps a_mark ∷ []) a_type
-action_signature (Pattern Bind) = leaf a_pattern
+action_signature (Pattern Bind) = names [] a_pattern
 action_signature (Pattern Any) = leaf a_pattern
 action_signature (Pattern UnitPattern) = joins (keeps a_mark ∷ []) a_pattern
 action_signature (Pattern NilPattern) = joins (keeps a_mark ∷ []) a_pattern
@@ -220,8 +223,8 @@ action_signature (Operand Literal) = literal a_number [] a_tree
 action_signature (Operand NegativeLiteral) = literal a_limit_number (keeps a_mark ∷ []) a_tree
 action_signature (Operand Truth) = leaf a_tree
 action_signature (Operand Untruth) = leaf a_tree
-action_signature (Operand UseOf) = leaf a_tree
-action_signature (Operand QualifiedOf) = joins (keeps a_name ∷ []) a_tree
+action_signature (Operand UseOf) = names [] a_tree
+action_signature (Operand QualifiedOf) = names (keeps a_name ∷ []) a_tree
 action_signature (Operand ConstantOf) = joins (keeps a_name ∷ []) a_tree
 action_signature (Operand BuildOf) = joins (keeps a_tree ∷ keeps a_name ∷ []) a_tree
 action_signature (Operand UnitHere) = joins (keeps a_mark ∷ []) a_tree

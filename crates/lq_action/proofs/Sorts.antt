@@ -110,6 +110,7 @@ pub record Need : Type 0 where
 pub data After : Type 0 where
   anything : After
   a_token : After
+  a_named_token : After
   a_number : After
   a_limit_number : After
 

@@ -1,8 +1,10 @@
 -- The actions on predicates, qualifiers and measures find what they need.
-use Rattle.std.specs.Prelude.{max, ◌^◌, nat_lt, pos, neg_ℤ}
-use Rattle.std.proofs.Common.{◌≡◌, ℕ, ◌+◌, ◌<◌, ◌≤◌, refl, true, false, [], ◌∷◌, arith}
+use Rattle.std.specs.Prelude.{max, nat_lt, pos, neg_ℤ}
+use Rattle.std.proofs.Common.{◌≡◌, ℕ, ◌+◌, refl, true, false, [], ◌∷◌, arith}
 use Rattle.std.proofs.Math.Nat.{max-le}
 use Rattle.std.proofs.lemmas.Bool.{lt-ltb, le-ltb}
+use Rattle.lq_name.specs.declared.limits.TheConstants.{LITERAL_LIMIT}
+use Rattle.lq_name.specs.declared.place.Place.{Place}
 use Rattle.lq_tree.specs.Levels.{pred_nesting, pred_nesting_in}
 use Rattle.lq_tree.specs.PredTree as pred
 use Rattle.lq_tree.specs.PredTree.{PredTree, pred_tree, PredForm}
@@ -11,27 +13,22 @@ use Rattle.lq_grammar.specs.declared.symbol.PredAction.TheVariants.{PredLiteral,
 use Rattle.lq_grammar.specs.declared.symbol.EntryAction.{EntryAction}
 use Rattle.lq_grammar.specs.declared.symbol.EntryAction.TheVariants.{NoQualifiers, AddQualifier, NoMeasures, AddMeasure, NoEquations, AppendEquation}
 use Rattle.lq_grammar.specs.declared.symbol.Action.TheVariants.{Pred, Entry}
-use Rattle.lq_action.specs.Value.{Lexeme, mark, named, pattern_read, predicate, qualifiers, equations, measures}
+use Rattle.lq_action.specs.Value.{Lexeme, by_number, mark, named, pattern_read, predicate, qualifiers, equations, measures}
 use Rattle.lq_action.specs.Items.{add_qualifier, append_equation, add_measure, entry_made}
 use Rattle.lq_action.specs.Predicates.{pred_literal, pred_negative, pred_of_name, pred_apply, pred_qualified, pred_of_one, pred_of_two, pred_inside, pred_made}
-use Rattle.lq_action.proofs.Sorts.{a_mark, a_name, a_pattern, a_predicate, some_qualifiers, some_equations, some_measures, After, a_number, a_limit_number}
+use Rattle.lq_action.proofs.Sorts.{a_mark, a_name, a_pattern, a_predicate, some_qualifiers, some_equations, some_measures}
 use Rattle.lq_action.proofs.Signatures.{action_signature, keeps, sinks}
 use Rattle.lq_action.proofs.Nesting.{Gives, qualifiers-append, equations-append, measures-append}
+use Rattle.lq_action.proofs.Contents.{FitsAfter, on_below, on_up_to}
 use Rattle.lq_action.proofs.Rows.{leaf_gives}
 
--- the token fits the action
-abbrev pub FitsAfter : After → Lexeme → Type 0
-FitsAfter a_number l = l.value < 2 ^ 127
-FitsAfter a_limit_number l = l.value ≤ 2 ^ 127
-FitsAfter _ l = Unit {0}
-
 -- predicates and terms
-literal_gives : (l : Lexeme) → nat_lt l.value (2 ^ 127) ≡ true → Gives [] a_predicate (pred_literal l)
-literal_gives l small bound vs h = (predicate (pred_tree l.place (pred.whole (pos l.value))) l.place, rw small refl, refl, omega arith)
+literal_gives : (v : ℕ) (place : Place) → nat_lt v LITERAL_LIMIT ≡ true → Gives [] a_predicate (pred_literal v place)
+literal_gives v place small bound vs h = (predicate (pred_tree place (pred.whole (pos v))) place, rw small refl, refl, omega arith)
 
-negative_gives : (l : Lexeme) → nat_lt (2 ^ 127) l.value ≡ false → Gives (keeps a_mark ∷ []) a_predicate (pred_negative l)
-negative_gives l small bound (mark p ∷ vs) h = (predicate (pred_tree p (pred.whole (neg_ℤ (pos l.value)))) p, rw small refl, refl, omega arith)
-negative_gives l small bound vs h = absurd cc
+negative_gives : (v : ℕ) → nat_lt LITERAL_LIMIT v ≡ false → Gives (keeps a_mark ∷ []) a_predicate (pred_negative v)
+negative_gives v small bound (mark p ∷ vs) h = (predicate (pred_tree p (pred.whole (neg_ℤ (pos v)))) p, rw small refl, refl, omega arith)
+negative_gives v small bound vs h = absurd cc
 
 of_name_gives : (form : ℕ → PredForm) → ((x : ℕ) → pred_nesting_in (form x) ≡ 0) → Gives (keeps a_name ∷ []) a_predicate (pred_of_name form)
 of_name_gives form flat bound (named x p ∷ vs) h = (_, refl, refl, omega (arith, flat x))
@@ -58,8 +55,8 @@ inside_gives bound (predicate e q ∷ mark p ∷ vs) h = (_, refl, refl, h.1)
 inside_gives bound vs h = absurd cc
 
 pub pred_gives : (a : PredAction) (l : Lexeme) → FitsAfter (action_signature (Pred a)).after l → Gives (action_signature (Pred a)).needs (action_signature (Pred a)).gives (pred_made a l)
-pred_gives PredLiteral l f = literal_gives l (lt-ltb l.value (2 ^ 127) f)
-pred_gives PredNegative l f = negative_gives l (le-ltb (2 ^ 127) l.value f)
+pred_gives PredLiteral l f = on_below (λ c. Gives [] a_predicate (λ vs. by_number c (λ v. pred_literal v l.place vs))) l.content f (λ v small. literal_gives v l.place (lt-ltb v LITERAL_LIMIT small))
+pred_gives PredNegative l f = on_up_to (λ c. Gives (keeps a_mark ∷ []) a_predicate (λ vs. by_number c (λ v. pred_negative v vs))) l.content f (λ v small. negative_gives v (le-ltb LITERAL_LIMIT v small))
 pred_gives PredTruth l f = leaf_gives (predicate (pred_tree l.place (pred.flag true)) l.place) refl
 pred_gives PredUntruth l f = leaf_gives (predicate (pred_tree l.place (pred.flag false)) l.place) refl
 pred_gives PredUse l f = of_name_gives pred.use_of (λ x. refl)

@@ -1,5 +1,6 @@
 -- What actions make of expressions.
-use Rattle.std.specs.Prelude.{ℕ, suc, ◌^◌, pos, neg_ℤ, nat_lt, true, false, List, [], ◌∷◌, ◌++◌, Option, Some, None, if◌then◌else◌}
+use Rattle.std.specs.Prelude.{ℕ, suc, pos, neg_ℤ, nat_lt, true, false, List, [], ◌∷◌, ◌++◌, Option, Some, None, if◌then◌else◌}
+use Rattle.lq_name.specs.declared.limits.TheConstants.{LITERAL_LIMIT}
 use Rattle.lq_name.specs.declared.place.Place.{Place}
 use Rattle.lq_tree.specs.declared.expr.Arguments.{Arguments}
 use Rattle.lq_tree.specs.declared.expr.Arguments.TheVariants.{Apart, Listed}
@@ -10,15 +11,15 @@ use Rattle.lq_grammar.specs.declared.symbol.BlockAction.{BlockAction}
 use Rattle.lq_grammar.specs.declared.symbol.BlockAction.TheVariants.{Function, FunctionHere, Recursive as RecursiveFunction, RecursiveHere, LetIn, LetRecIn, NoArms, AppendArm, MatchOf, IfElse, IfOnly, AssertOf, NotOf, ChainOf, TupleOf, ListLiteral, NoTrees, TwoTrees, AppendTree}
 use Rattle.lq_grammar.specs.declared.symbol.OperandAction.{OperandAction}
 use Rattle.lq_grammar.specs.declared.symbol.OperandAction.TheVariants.{Literal, NegativeLiteral, Truth, Untruth, UseOf, QualifiedOf, ConstantOf, BuildOf, UnitHere, Enclosed, BlockOf, ElementOf, FetchOf, StoreOf, CallOf, NegateOf, ConsOf, AndOf, OrOf, ArithOf, CompareOf}
-use Rattle.lq_action.specs.Value.{Lexeme, Commas, bare, enclosed, absent, Value, mark, named, expression, expressions, element, arms, recursive, pattern_read, Making, with_values, with_node}
+use Rattle.lq_action.specs.Value.{Lexeme, by_name, by_number, Commas, bare, enclosed, absent, Value, mark, named, expression, expressions, element, arms, recursive, pattern_read, Making, with_values, with_node}
 use Rattle.lq_action.specs.Patterns.{place_of_pattern, cons_name}
 
--- A number as a literal: below 2^127, or at most so much behind a minus.
+-- A number as a literal: below the limit, or at most the limit behind a minus.
 abbrev pub literal : ℕ → ℕ → List Value → Place → Option Making
-literal n v vs place = if nat_lt v (2 ^ 127) then with_node n place (whole (pos v)) absent vs else None
+literal n v vs place = if nat_lt v LITERAL_LIMIT then with_node n place (whole (pos v)) absent vs else None
 
 abbrev pub negative_literal : ℕ → ℕ → List Value → Option Making
-negative_literal n v (mark p ∷ vs) = if nat_lt (2 ^ 127) v then None else with_node n p (whole (neg_ℤ (pos v))) absent vs
+negative_literal n v (mark p ∷ vs) = if nat_lt LITERAL_LIMIT v then None else with_node n p (whole (neg_ℤ (pos v))) absent vs
 negative_literal n v vs = None
 
 -- an expression that is a name, and what follows it
@@ -79,12 +80,12 @@ store_of n (expression e q c ∷ element a i p ∷ vs) = with_node n p (store a 
 store_of n vs = None
 
 abbrev pub operand_made : OperandAction → Lexeme → ℕ → List Value → Option Making
-operand_made Literal l n vs = literal n l.value vs l.place
-operand_made NegativeLiteral l n vs = negative_literal n l.value vs
+operand_made Literal l n vs = by_number l.content (λ v. literal n v vs l.place)
+operand_made NegativeLiteral l n vs = by_number l.content (λ v. negative_literal n v vs)
 operand_made Truth l n vs = with_node n l.place (flag true) absent vs
 operand_made Untruth l n vs = with_node n l.place (flag false) absent vs
-operand_made UseOf l n vs = with_node n l.place (use_of l.name) absent vs
-operand_made QualifiedOf l n vs = of_name (λ m. qualified m l.name) n vs
+operand_made UseOf l n vs = by_name l.content (λ x. with_node n l.place (use_of x) absent vs)
+operand_made QualifiedOf l n vs = by_name l.content (λ x. of_name (λ m. qualified m x) n vs)
 operand_made ConstantOf l n vs = of_name (λ c. build c Apart (trees_of [])) n vs
 operand_made BuildOf l n vs = build_one n vs
 operand_made UnitHere l n vs = at_mark unit n vs

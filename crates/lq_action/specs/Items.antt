@@ -1,12 +1,13 @@
 -- What actions make of the items of a program, and of the entries of the other two texts.
-use Rattle.std.specs.Prelude.{List, [], ◌∷◌, ◌++◌, Option, Some, None}
+use Rattle.std.specs.Prelude.{ℕ, List, [], ◌∷◌, ◌++◌, Option, Some, None}
+use Rattle.lq_name.specs.declared.place.Place.{Place}
 use Rattle.lq_tree.specs.Items.{Named, type_of, let_of, let_rec_of}
 use Rattle.lq_tree.specs.TypeView.{type_trees_of}
 use Rattle.lq_grammar.specs.declared.symbol.ItemAction.{ItemAction}
 use Rattle.lq_grammar.specs.declared.symbol.ItemAction.TheVariants.{NoItems, AddLet, AddRec, AddType, NoParameters, FirstParameter, AddParameter, NoConstructors, AddConstructor}
 use Rattle.lq_grammar.specs.declared.symbol.EntryAction.{EntryAction}
 use Rattle.lq_grammar.specs.declared.symbol.EntryAction.TheVariants.{NoQualifiers, AddQualifier, NoMeasures, AddMeasure, NoEquations, AppendEquation}
-use Rattle.lq_action.specs.Value.{Lexeme, Value, mark, named, expression, recursive, pattern_read, types, parameters, constructors, items, predicate, qualifiers, equations, measures}
+use Rattle.lq_action.specs.Value.{Lexeme, by_name, Value, mark, named, expression, recursive, pattern_read, types, parameters, constructors, items, predicate, qualifiers, equations, measures}
 
 abbrev pub add_let : List Value → Option (List Value)
 add_let (expression e q c ∷ pattern_read p ∷ mark m ∷ items is ∷ vs) = Some (items (is ++ (record { place = m; form = let_of p e }) ∷ []) ∷ vs)
@@ -21,12 +22,12 @@ add_type (constructors cs ∷ named x p ∷ parameters ps ∷ mark m ∷ items i
     Some (items (is ++ (record { place = m; form = type_of (record { name = x; place = p; parameters = ps; constructors = cs }) }) ∷ []) ∷ vs)
 add_type vs = None
 
-abbrev pub parameter_at : Lexeme → Named
-parameter_at l = record { name = l.name; place = l.place }
+abbrev pub parameter_at : Place → ℕ → Named
+parameter_at place x = record { name = x; place = place }
 
-abbrev pub add_parameter : Lexeme → List Value → Option (List Value)
-add_parameter l (parameters ps ∷ vs) = Some (parameters (ps ++ parameter_at l ∷ []) ∷ vs)
-add_parameter l vs = None
+abbrev pub add_parameter : Named → List Value → Option (List Value)
+add_parameter p (parameters ps ∷ vs) = Some (parameters (ps ++ p ∷ []) ∷ vs)
+add_parameter p vs = None
 
 abbrev pub add_constructor : List Value → Option (List Value)
 add_constructor (types ts q ∷ named c p ∷ constructors cs ∷ vs) =
@@ -39,8 +40,8 @@ item_made AddLet l vs = add_let vs
 item_made AddRec l vs = add_rec vs
 item_made AddType l vs = add_type vs
 item_made NoParameters l vs = Some (parameters [] ∷ vs)
-item_made FirstParameter l vs = Some (parameters (parameter_at l ∷ []) ∷ vs)
-item_made AddParameter l vs = add_parameter l vs
+item_made FirstParameter l vs = by_name l.content (λ x. Some (parameters (parameter_at l.place x ∷ []) ∷ vs))
+item_made AddParameter l vs = by_name l.content (λ x. add_parameter (parameter_at l.place x) vs)
 item_made NoConstructors l vs = Some (constructors [] ∷ vs)
 item_made AddConstructor l vs = add_constructor vs
 

@@ -2,7 +2,7 @@
 use Rattle.std.specs.Prelude.{◌∷◌, Option, Some}
 use Rattle.lq_grammar.specs.declared.symbol.Action.{Action}
 use Rattle.lq_grammar.specs.declared.symbol.Action.TheVariants.{Mark, Named, Item, Typing, Pattern, Block, Operand, Pred, Entry}
-use Rattle.lq_action.specs.Value.{Lexeme, mark, named, Making, with_values}
+use Rattle.lq_action.specs.Value.{Lexeme, by_name, mark, named, Making, with_values}
 use Rattle.lq_action.specs.Types.{typing_made}
 use Rattle.lq_action.specs.Patterns.{pattern_made}
 use Rattle.lq_action.specs.Expressions.{operand_made, block_made}
@@ -11,7 +11,7 @@ use Rattle.lq_action.specs.Predicates.{pred_made}
 
 abbrev pub made : Action → Lexeme → Making → Option Making
 made Mark l m = with_values m.made (Some (mark l.place ∷ m.values))
-made Named l m = with_values m.made (Some (named l.name l.place ∷ m.values))
+made Named l m = with_values m.made (by_name l.content (λ x. Some (named x l.place ∷ m.values)))
 made (Item a) l m = with_values m.made (item_made a l m.values)
 made (Typing a) l m = with_values m.made (typing_made a l m.values)
 made (Pattern a) l m = with_values m.made (pattern_made a l m.values)

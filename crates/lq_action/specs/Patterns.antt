@@ -1,12 +1,12 @@
 -- What actions make of patterns and parameters.
-use Rattle.std.specs.Prelude.{ℕ, List, [], ◌∷◌, ◌++◌, Option, Some, None}
+use Rattle.std.specs.Prelude.{List, [], ◌∷◌, ◌++◌, Option, Some, None}
 pub use Rattle.lq_name.specs.NameTable.{nil_name, cons_name}
 use Rattle.lq_name.specs.declared.place.Place.{Place}
 use Rattle.lq_tree.specs.Pattern.{Pattern, pattern, PatternForm, any, bind, nothing, tuple_of, build_of}
 use Rattle.lq_tree.specs.PatternView.{patterns_of}
 use Rattle.lq_grammar.specs.declared.symbol.PatternAction.{PatternAction}
 use Rattle.lq_grammar.specs.declared.symbol.PatternAction.TheVariants.{Bind, Any, UnitPattern, NilPattern, ConsPattern, NoPatterns, TwoPatterns, AppendPattern, TuplePattern, TupleHere, BuildPattern, PatternInside}
-use Rattle.lq_action.specs.Value.{Lexeme, Value, mark, named, pattern_read, patterns}
+use Rattle.lq_action.specs.Value.{Lexeme, by_name, Value, mark, named, pattern_read, patterns}
 
 abbrev pub place_of_pattern : Pattern → Place
 place_of_pattern (pattern p f) = p
@@ -56,7 +56,7 @@ pattern_inside (pattern_read a ∷ mark p ∷ vs) = Some (pattern_read a ∷ vs)
 pattern_inside vs = None
 
 abbrev pub pattern_made : PatternAction → Lexeme → List Value → Option (List Value)
-pattern_made Bind l vs = with_pattern l.place (bind l.name) vs
+pattern_made Bind l vs = by_name l.content (λ x. with_pattern l.place (bind x) vs)
 pattern_made Any l vs = with_pattern l.place any vs
 pattern_made UnitPattern l vs = unit_pattern vs
 pattern_made NilPattern l vs = nil_pattern vs

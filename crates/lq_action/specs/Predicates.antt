@@ -1,21 +1,22 @@
 -- What actions make of predicates and terms.
-use Rattle.std.specs.Prelude.{ℕ, ◌^◌, pos, neg_ℤ, nat_lt, true, false, List, ◌∷◌, Option, Some, None, if◌then◌else◌}
+use Rattle.std.specs.Prelude.{ℕ, pos, neg_ℤ, nat_lt, true, false, List, ◌∷◌, Option, Some, None, if◌then◌else◌}
+use Rattle.lq_name.specs.declared.limits.TheConstants.{LITERAL_LIMIT}
 use Rattle.lq_name.specs.declared.place.Place.{Place}
 use Rattle.lq_tree.specs.PredTree.{PredTree, pred_tree, PredForm, flag, whole, use_of, placeholder, applied, qualified, arithmetic, negated, compare, not_of, and_of, or_of, iff}
 use Rattle.lq_grammar.specs.declared.symbol.PredAction.{PredAction}
 use Rattle.lq_grammar.specs.declared.symbol.PredAction.TheVariants.{PredLiteral, PredNegative, PredTruth, PredUntruth, PredUse, PredPlaceholder, PredApply, PredQualified, PredNegate, PredNot, PredAnd, PredOr, IffOf, PredInside, PredArith, PredCompare}
-use Rattle.lq_action.specs.Value.{Lexeme, Value, mark, named, predicate}
+use Rattle.lq_action.specs.Value.{Lexeme, by_number, Value, mark, named, predicate}
 
 abbrev pub with_predicate : Place → PredForm → List Value → Option (List Value)
 with_predicate place form vs = Some (predicate (pred_tree place form) place ∷ vs)
 
--- A number as a literal: below 2^127, or at most so much behind a minus.
-abbrev pub pred_literal : Lexeme → List Value → Option (List Value)
-pred_literal l vs = if nat_lt l.value (2 ^ 127) then with_predicate l.place (whole (pos l.value)) vs else None
+-- A number as a literal: below the limit, or at most the limit behind a minus.
+abbrev pub pred_literal : ℕ → Place → List Value → Option (List Value)
+pred_literal v place vs = if nat_lt v LITERAL_LIMIT then with_predicate place (whole (pos v)) vs else None
 
-abbrev pub pred_negative : Lexeme → List Value → Option (List Value)
-pred_negative l (mark p ∷ vs) = if nat_lt (2 ^ 127) l.value then None else with_predicate p (whole (neg_ℤ (pos l.value))) vs
-pred_negative l vs = None
+abbrev pub pred_negative : ℕ → List Value → Option (List Value)
+pred_negative v (mark p ∷ vs) = if nat_lt LITERAL_LIMIT v then None else with_predicate p (whole (neg_ℤ (pos v))) vs
+pred_negative v vs = None
 
 abbrev pub pred_of_name : (ℕ → PredForm) → List Value → Option (List Value)
 pred_of_name form (named x p ∷ vs) = with_predicate p (form x) vs
@@ -44,8 +45,8 @@ pred_inside (predicate e q ∷ mark p ∷ vs) = Some (predicate e p ∷ vs)
 pred_inside vs = None
 
 abbrev pub pred_made : PredAction → Lexeme → List Value → Option (List Value)
-pred_made PredLiteral l vs = pred_literal l vs
-pred_made PredNegative l vs = pred_negative l vs
+pred_made PredLiteral l vs = by_number l.content (λ v. pred_literal v l.place vs)
+pred_made PredNegative l vs = by_number l.content (λ v. pred_negative v vs)
 pred_made PredTruth l vs = with_predicate l.place (flag true) vs
 pred_made PredUntruth l vs = with_predicate l.place (flag false) vs
 pred_made PredUse l vs = pred_of_name use_of vs

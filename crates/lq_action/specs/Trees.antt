@@ -1,5 +1,5 @@
 -- What the steps of a reading make, and the trees of the three texts.
-use Rattle.std.specs.Prelude.{◌≡◌, ℕ, ◌^◌, ◌<◌, ◌≤◌, List, [], ◌∷◌, Option, Some, None}
+use Rattle.std.specs.Prelude.{◌≡◌, ℕ, List, [], ◌∷◌, Option, Some, None}
 use Rattle.lq_grammar.specs.Grammar.{start_of}
 use Rattle.lq_grammar.specs.Reading.{IsText}
 use Rattle.lq_grammar.specs.declared.kind.Kind.{Kind}
@@ -8,7 +8,7 @@ use Rattle.lq_grammar.specs.declared.symbol.Event.{Event}
 use Rattle.lq_grammar.specs.declared.symbol.Event.TheVariants.{Take, Make}
 use Rattle.lq_name.specs.declared.place.TextKind.{TextKind}
 use Rattle.lq_name.specs.declared.place.TextKind.TheVariants as text
-use Rattle.lq_action.specs.Value.{Lexeme, Value, Making}
+use Rattle.lq_action.specs.Value.{Lexeme, neither, HasName, HasNumberBelow, HasNumberUpTo, Value, Making}
 use Rattle.lq_action.specs.Made.{made}
 
 abbrev pub and_then : Option Making → (Making → Option Making) → Option Making
@@ -24,7 +24,7 @@ run (Make a ∷ es) ls last m = and_then (made a last m) (λ n. run es ls last n
 
 -- before the first token
 abbrev pub nowhere : Lexeme
-nowhere = record { place = record { text = text.Program; line = 0; column = 0 }; name = 0; value = 0 }
+nowhere = record { place = record { text = text.Program; line = 0; column = 0 }; content = neither }
 
 abbrev pub nothing_made : Making
 nothing_made = record { made = 0; values = [] }
@@ -36,10 +36,13 @@ pub record Makes (kind : TextKind) (kinds : List Kind) (lexemes : List Lexeme) (
   pub nodes : ℕ
   pub makes : run events lexemes nowhere nothing_made ≡ Some (record { made = nodes; values = v ∷ [] })
 
--- the number that a token has fits its kind
+-- what a token has fits its kind
 abbrev pub FitsKind : Kind → Lexeme → Type 0
-FitsKind kind.Number l = l.value < 2 ^ 127
-FitsKind kind.LimitNumber l = l.value ≤ 2 ^ 127
+FitsKind kind.LowerName l = HasName l.content
+FitsKind kind.UpperName l = HasName l.content
+FitsKind kind.TypeVariable l = HasName l.content
+FitsKind kind.Number l = HasNumberBelow l.content
+FitsKind kind.LimitNumber l = HasNumberUpTo l.content
 FitsKind _ l = Unit {0}
 
 abbrev pub FitKinds : List Kind → List Lexeme → Type 0

@@ -1,11 +1,11 @@
 -- What actions make of types as they are written.
-use Rattle.std.specs.Prelude.{List, [], ◌∷◌, ◌++◌, Option, Some, None}
+use Rattle.std.specs.Prelude.{ℕ, List, [], ◌∷◌, ◌++◌, Option, Some, None}
 use Rattle.lq_name.specs.declared.place.Place.{Place}
 use Rattle.lq_tree.specs.TypeTree.{type_tree, TypeForm, variable, apply, product, arrow}
 use Rattle.lq_tree.specs.TypeView.{type_trees_of}
 use Rattle.lq_grammar.specs.declared.symbol.TypingAction.{TypingAction}
 use Rattle.lq_grammar.specs.declared.symbol.TypingAction.TheVariants.{NoTypes, TwoTypes, AppendType, VariableType, NamedType, ApplyType, ApplyTypes, ProductType, ArrowType, TypeInside}
-use Rattle.lq_action.specs.Value.{Lexeme, Value, mark, type_read, types}
+use Rattle.lq_action.specs.Value.{Lexeme, by_name, Value, mark, type_read, types}
 
 abbrev pub with_type : Place → TypeForm → List Value → Option (List Value)
 with_type place form vs = Some (type_read (type_tree place form) place ∷ vs)
@@ -20,14 +20,14 @@ append_type (type_read b q ∷ types ts p ∷ vs) = Some (types (ts ++ b ∷ [])
 append_type vs = None
 
 -- a type name behind one argument
-abbrev pub apply_type : Lexeme → List Value → Option (List Value)
-apply_type l (type_read a p ∷ vs) = with_type p (apply (type_trees_of (a ∷ [])) l.name l.place) vs
-apply_type l vs = None
+abbrev pub apply_type : ℕ → Place → List Value → Option (List Value)
+apply_type x place (type_read a p ∷ vs) = with_type p (apply (type_trees_of (a ∷ [])) x place) vs
+apply_type x place vs = None
 
 -- a type name behind a row of arguments in parentheses
-abbrev pub apply_types : Lexeme → List Value → Option (List Value)
-apply_types l (types ts q ∷ mark p ∷ vs) = with_type p (apply (type_trees_of ts) l.name l.place) vs
-apply_types l vs = None
+abbrev pub apply_types : ℕ → Place → List Value → Option (List Value)
+apply_types x place (types ts q ∷ mark p ∷ vs) = with_type p (apply (type_trees_of ts) x place) vs
+apply_types x place vs = None
 
 abbrev pub product_type : List Value → Option (List Value)
 product_type (types ts p ∷ vs) = with_type p (product (type_trees_of ts)) vs
@@ -46,10 +46,10 @@ abbrev pub typing_made : TypingAction → Lexeme → List Value → Option (List
 typing_made NoTypes l vs = Some (types [] l.place ∷ vs)
 typing_made TwoTypes l vs = two_types vs
 typing_made AppendType l vs = append_type vs
-typing_made VariableType l vs = with_type l.place (variable l.name) vs
-typing_made NamedType l vs = with_type l.place (apply (type_trees_of []) l.name l.place) vs
-typing_made ApplyType l vs = apply_type l vs
-typing_made ApplyTypes l vs = apply_types l vs
+typing_made VariableType l vs = by_name l.content (λ x. with_type l.place (variable x) vs)
+typing_made NamedType l vs = by_name l.content (λ x. with_type l.place (apply (type_trees_of []) x l.place) vs)
+typing_made ApplyType l vs = by_name l.content (λ x. apply_type x l.place vs)
+typing_made ApplyTypes l vs = by_name l.content (λ x. apply_types x l.place vs)
 typing_made ProductType l vs = product_type vs
 typing_made ArrowType l vs = arrow_type vs
 typing_made TypeInside l vs = type_inside vs

@@ -1,5 +1,6 @@
 -- What has been read and isn't yet part of a larger value: the values on which actions work.
-use Rattle.std.specs.Prelude.{ℕ, suc, List, ◌∷◌, Option, Some, None}
+use Rattle.std.specs.Prelude.{ℕ, suc, ◌<◌, ◌≤◌, List, ◌∷◌, Option, Some, None}
+use Rattle.lq_name.specs.declared.limits.TheConstants.{LITERAL_LIMIT}
 use Rattle.lq_name.specs.declared.place.Place.{Place}
 use Rattle.lq_tree.specs.Items.{Named, Construct, ItemTree}
 use Rattle.lq_tree.specs.MeasureTrees.{EquationTree, MeasureTree}
@@ -10,11 +11,46 @@ use Rattle.lq_tree.specs.Tree.{Tree, tree, Form}
 use Rattle.lq_tree.specs.TreeView.{Case, Recursive}
 use Rattle.lq_tree.specs.TypeTree.{TypeTree}
 
--- a token as actions see it: its place, the number of its text where it is a name, and its value where it is a number
+-- what a token has for actions beside its place: a name, which is the number of its text, or the value of a number, or neither
+pub data Content : Type 0 where
+  some_name : ℕ → Content
+  some_number : ℕ → Content
+  neither : Content
+
+-- a token as actions see it
 pub record Lexeme : Type 0 where
   pub place : Place
-  pub name : ℕ
-  pub value : ℕ
+  pub content : Content
+
+-- what is made of a token's name, where it has one
+abbrev pub by_name : {X : Type 0} → Content → (ℕ → Option X) → Option X
+by_name (some_name x) f = f x
+by_name (some_number v) f = None
+by_name neither f = None
+
+-- what is made of a token's number, where it has one
+abbrev pub by_number : {X : Type 0} → Content → (ℕ → Option X) → Option X
+by_number (some_name x) f = None
+by_number (some_number v) f = f v
+by_number neither f = None
+
+-- the token has a name
+abbrev pub HasName : Content → Type 0
+HasName (some_name x) = Unit {0}
+HasName (some_number v) = ⊥
+HasName neither = ⊥
+
+-- the token has a number below the limit of literals
+abbrev pub HasNumberBelow : Content → Type 0
+HasNumberBelow (some_name x) = ⊥
+HasNumberBelow (some_number v) = v < LITERAL_LIMIT
+HasNumberBelow neither = ⊥
+
+-- the token has a number that is at most the limit of literals
+abbrev pub HasNumberUpTo : Content → Type 0
+HasNumberUpTo (some_name x) = ⊥
+HasNumberUpTo (some_number v) = v ≤ LITERAL_LIMIT
+HasNumberUpTo neither = ⊥
 
 -- Where the commas of an expression stand: it is a tuple without parentheses around it, such a tuple directly in parentheses, or neither.
 pub data Commas : Type 0 where

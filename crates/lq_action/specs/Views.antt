@@ -19,12 +19,19 @@ use Rattle.lq_tree.specs.declared.type_expr.TypeExprs.{TypeExprs}
 use Rattle.lq_action.specs.Value as spec
 use Rattle.lq_action.specs.declared.values.Commas.{Commas}
 use Rattle.lq_action.specs.declared.values.Commas.TheVariants as commas
+use Rattle.lq_action.specs.declared.values.Content.{Content}
+use Rattle.lq_action.specs.declared.values.Content.TheVariants as content
 use Rattle.lq_action.specs.declared.values.Lexeme.{Lexeme}
 use Rattle.lq_action.specs.declared.values.Value.{Value}
 use Rattle.lq_action.specs.declared.values.Value.TheVariants as value
 
+abbrev pub content_view : Content → spec.Content
+content_view (content.Name x) = spec.some_name x.0
+content_view (content.Number v) = spec.some_number v
+content_view content.Neither = spec.neither
+
 abbrev pub lexeme_view : Lexeme → spec.Lexeme
-lexeme_view l = record { place = l.place; name = l.name.0; value = l.value }
+lexeme_view l = record { place = l.place; content = content_view l.content }
 
 abbrev pub commas_view : Commas → spec.Commas
 commas_view commas.Bare = spec.bare

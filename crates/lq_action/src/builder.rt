@@ -58,7 +58,7 @@ impl Builder {
     }
 
     /// Does an action on the token read last and the values on top.
-    #[tactic(auto, using(crate::proofs::Shapes::with_values_some))]
+    #[tactic(auto, using(crate::proofs::Shapes::with_values_some, crate::proofs::Shapes::by_name_some))]
     pub(crate) fn make(&mut self, action: Action, token: &Lexeme) -> Result<(), MakeError>
         requires { self.old.made + 2 < 2 ^ 32 }
         ensures ok { OnOk result (made action (lexeme_view token.now) (making_view self.old)
@@ -69,7 +69,7 @@ impl Builder {
     {
         match action {
             Action::Mark => push(&mut self.values, Value::Mark(token.place)),
-            Action::Named => push(&mut self.values, Value::Named(token.name, token.place)),
+            Action::Named => push(&mut self.values, Value::Named(token.name()?, token.place)),
             Action::Item(a) => item(self.alloc, a, token, &mut self.values),
             Action::Typing(a) => typing(self.alloc, a, token, &mut self.values),
             Action::Pattern(a) => pattern(self.alloc, a, token, &mut self.values),

@@ -1,8 +1,8 @@
 // Actions on the items of a program.
-ghost use Rattle.std.specs.Prelude.{◌≡◌, ◌∷◌, map, Some, OnOk, IfOk, Err, IsSome, IfErr};
+ghost use Rattle.std.specs.Prelude.{◌≡◌, ◌∷◌, ℕ, map, Some, OnOk, IfOk, Err, IsSome, IfErr};
 ghost use Rattle.lq_tree.specs.Items.{parsed_items, parameter_view, constructor_view};
-ghost use Rattle.lq_action.specs.Items.{item_made, add_let, add_rec, add_type, add_constructor};
-ghost use Rattle.lq_action.specs.Value.{items, parameters, constructors};
+ghost use Rattle.lq_action.specs.Items.{item_made, parameter_at, add_let, add_rec, add_type, add_parameter, add_constructor};
+ghost use Rattle.lq_action.specs.Value.{by_name, some_name, items, parameters, constructors};
 ghost use Rattle.lq_action.specs.Tops.{NoConstructors, NoItems, NoParameters};
 ghost use Rattle.lq_action.specs.Views.{views, lexeme_view};
 ghost use Rattle.lq_action.specs.declared.values.MakeError.TheVariants.{Misfit};
@@ -113,8 +113,33 @@ fn add_constructor(values: &mut Vec<Value>) -> Result<(), MakeError>
     push(values, Value::Constructors(row))
 }
 
-// Does an action on the values on top.
+// The parameter that the token is.
+fn parameter_at(token: &Lexeme) -> Result<TypeParameter, MakeError>
+    ensures ok { IfOk result (λ p. by_name (lexeme_view token.now).content
+        (λ x. Some (parameter_at token.now.place x)) ≡ Some (parameter_view p)) }
+    ensures misfit { IfErr result (λ _. (x : ℕ) → (lexeme_view token.now).content ≡ some_name x → ⊥) }
+{
+    let name = token.name()?;
+    Ok(TypeParameter {
+        name,
+        place: token.place,
+    })
+}
+
 #[tactic(auto, using(crate::proofs::Shapes::add_parameter_shape))]
+fn add_parameter(parameter: TypeParameter, values: &mut Vec<Value>) -> Result<(), MakeError>
+    ensures ok { OnOk result (add_parameter (parameter_view parameter) (views values.old.items)
+        ≡ Some (views values.new.items)) }
+    ensures fits { IsSome (add_parameter (parameter_view parameter) (views values.old.items))
+        → result ≡ Err Misfit → ⊥ }
+{
+    let mut row = pop_parameters(values)?;
+    row.push(parameter)?;
+    push(values, Value::Parameters(row))
+}
+
+// Does an action on the values on top.
+#[tactic(auto, using(crate::proofs::Shapes::by_name_some))]
 pub(crate) fn item(
     alloc: Global,
     action: ItemAction,
@@ -133,21 +158,12 @@ pub(crate) fn item(
         ItemAction::AddType => add_type(values),
         ItemAction::NoParameters => push(values, Value::Parameters(Vec::new(alloc))),
         ItemAction::FirstParameter => {
+            let parameter = parameter_at(token)?;
             let mut row = Vec::new(alloc);
-            row.push(TypeParameter {
-                name: token.name,
-                place: token.place,
-            })?;
+            row.push(parameter)?;
             push(values, Value::Parameters(row))
         }
-        ItemAction::AddParameter => {
-            let mut row = pop_parameters(values)?;
-            row.push(TypeParameter {
-                name: token.name,
-                place: token.place,
-            })?;
-            push(values, Value::Parameters(row))
-        }
+        ItemAction::AddParameter => add_parameter(parameter_at(token)?, values),
         ItemAction::NoConstructors => push(values, Value::Constructors(Vec::new(alloc))),
         ItemAction::AddConstructor => add_constructor(values),
     }

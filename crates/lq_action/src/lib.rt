@@ -19,4 +19,4 @@ pub use entries::{pop_measures, pop_qualifiers};
 pub use items::pop_items;
 pub use laws::{few_items, one_value, readings_make_texts};
 pub use steps::run;
-pub use values::{Commas, Lexeme, MakeError, Parsed, Value};
+pub use values::{Commas, Content, Lexeme, MakeError, Parsed, Value};

@@ -1,14 +1,15 @@
 // Literals.
-ghost use Rattle.std.specs.Prelude.{◌≡◌, ◌<◌, ◌≤◌, ◌^◌, IfOk, pos, neg_ℤ, Err};
+ghost use Rattle.std.specs.Prelude.{◌≡◌, ◌<◌, ◌≤◌, IfOk, pos, neg_ℤ, Err};
+ghost use Rattle.lq_name.specs.declared.limits.TheConstants.{LITERAL_LIMIT};
 ghost use Rattle.lq_action.specs.declared.values.MakeError.TheVariants.{Misfit};
 
 use crate::values::MakeError;
 use lq_name::LITERAL_LIMIT;
 
-// A number below 2^127.
+// A number below the limit of literals.
 pub(crate) fn below_limit(value: u128) -> Result<i128, MakeError>
-    ensures ok { IfOk result (λ n. (value < 2 ^ 127) × (n ≡ pos value)) }
-    ensures misfit { result ≡ Err Misfit → 2 ^ 127 ≤ value }
+    ensures ok { IfOk result (λ n. (value < LITERAL_LIMIT) × (n ≡ pos value)) }
+    ensures misfit { result ≡ Err Misfit → LITERAL_LIMIT ≤ value }
 {
     if value < LITERAL_LIMIT {
         Ok(value as i128)
@@ -17,10 +18,10 @@ pub(crate) fn below_limit(value: u128) -> Result<i128, MakeError>
     }
 }
 
-// What a minus before a number makes of it, which is at most 2^127.
+// What a minus before a number makes of it, which is at most the limit.
 pub(crate) fn up_to_limit(value: u128) -> Result<i128, MakeError>
-    ensures ok { IfOk result (λ n. (value ≤ 2 ^ 127) × (n ≡ neg_ℤ (pos value))) }
-    ensures misfit { result ≡ Err Misfit → 2 ^ 127 < value }
+    ensures ok { IfOk result (λ n. (value ≤ LITERAL_LIMIT) × (n ≡ neg_ℤ (pos value))) }
+    ensures misfit { result ≡ Err Misfit → LITERAL_LIMIT < value }
 {
     if value < LITERAL_LIMIT {
         Ok(-(value as i128))

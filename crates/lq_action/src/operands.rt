@@ -197,43 +197,43 @@ impl Builder {
     }
 
     #[tactic(auto, using(crate::proofs::Shapes::literal_below))]
-    fn literal(&mut self, token: &Lexeme) -> Result<(), MakeError>
+    fn literal(&mut self, value: u128, place: Place) -> Result<(), MakeError>
         requires { self.old.made + 2 < 2 ^ 32 }
-        ensures ok { OnOk result (literal self.old.made token.now.value
-            (views self.old.values.items) token.now.place ≡ Some (making_view self.new)) }
-        ensures fits { IsSome (literal self.old.made token.now.value
-            (views self.old.values.items) token.now.place) → result ≡ Err Misfit → ⊥ }
+        ensures ok { OnOk result (literal self.old.made value (views self.old.values.items) place
+            ≡ Some (making_view self.new)) }
+        ensures fits { IsSome (literal self.old.made value (views self.old.values.items) place)
+            → result ≡ Err Misfit → ⊥ }
         ensures bound { self.new.made ≤ self.old.made + 2 }
     {
-        let value = below_limit(token.value)?;
-        self.put(token.place, Node::Whole(value), Commas::Absent)
+        let value = below_limit(value)?;
+        self.put(place, Node::Whole(value), Commas::Absent)
     }
 
     #[tactic(auto, using(crate::proofs::Shapes::negative_literal_shape))]
-    fn negative(&mut self, token: &Lexeme) -> Result<(), MakeError>
+    fn negative(&mut self, value: u128) -> Result<(), MakeError>
         requires { self.old.made + 2 < 2 ^ 32 }
-        ensures ok { OnOk result (negative_literal self.old.made token.now.value
-            (views self.old.values.items) ≡ Some (making_view self.new)) }
-        ensures fits { IsSome (negative_literal self.old.made token.now.value (views self.old.values.items))
+        ensures ok { OnOk result (negative_literal self.old.made value (views self.old.values.items)
+            ≡ Some (making_view self.new)) }
+        ensures fits { IsSome (negative_literal self.old.made value (views self.old.values.items))
             → result ≡ Err Misfit → ⊥ }
         ensures bound { self.new.made ≤ self.old.made + 2 }
     {
         let place = pop_mark(&mut self.values)?;
-        let value = up_to_limit(token.value)?;
+        let value = up_to_limit(value)?;
         self.put(place, Node::Whole(value), Commas::Absent)
     }
 
     #[tactic(auto, using(crate::proofs::Shapes::of_name_shape))]
-    fn qualified(&mut self, token: &Lexeme) -> Result<(), MakeError>
+    fn qualified(&mut self, name: Name) -> Result<(), MakeError>
         requires { self.old.made + 2 < 2 ^ 32 }
-        ensures ok { OnOk result (of_name (λ m. qualified m token.now.name.0) self.old.made
+        ensures ok { OnOk result (of_name (λ m. qualified m name.0) self.old.made
             (views self.old.values.items) ≡ Some (making_view self.new)) }
-        ensures fits { IsSome (of_name (λ m. qualified m token.now.name.0) self.old.made
+        ensures fits { IsSome (of_name (λ m. qualified m name.0) self.old.made
             (views self.old.values.items)) → result ≡ Err Misfit → ⊥ }
         ensures bound { self.new.made ≤ self.old.made + 2 }
     {
         let (module, place) = pop_named(&mut self.values)?;
-        self.put(place, Node::Qualified(module, token.name), Commas::Absent)
+        self.put(place, Node::Qualified(module, name), Commas::Absent)
     }
 
     #[tactic(auto, using(crate::proofs::Shapes::at_mark_shape))]
@@ -279,6 +279,7 @@ impl Builder {
     }
 
     /// Does an action on the token read last and the values on top.
+    #[tactic(auto, using(crate::proofs::Shapes::by_name_some, crate::proofs::Shapes::by_number_some))]
     pub(crate) fn operand(&mut self, action: OperandAction, token: &Lexeme) -> Result<(), MakeError>
         requires { self.old.made + 2 < 2 ^ 32 }
         ensures ok { OnOk result (operand_made action (lexeme_view token.now) self.old.made
@@ -288,12 +289,14 @@ impl Builder {
         ensures bound { self.new.made ≤ self.old.made + 2 }
     {
         match action {
-            OperandAction::Literal => self.literal(token),
-            OperandAction::NegativeLiteral => self.negative(token),
+            OperandAction::Literal => self.literal(token.number()?, token.place),
+            OperandAction::NegativeLiteral => self.negative(token.number()?),
             OperandAction::Truth => self.put(token.place, Node::Flag(true), Commas::Absent),
             OperandAction::Untruth => self.put(token.place, Node::Flag(false), Commas::Absent),
-            OperandAction::UseOf => { self.put(token.place, Node::Use(token.name), Commas::Absent) }
-            OperandAction::QualifiedOf => self.qualified(token),
+            OperandAction::UseOf => {
+                self.put(token.place, Node::Use(token.name()?), Commas::Absent)
+            }
+            OperandAction::QualifiedOf => self.qualified(token.name()?),
             OperandAction::ConstantOf => self.constant(),
             OperandAction::BuildOf => self.build(),
             OperandAction::UnitHere => self.unit(),

@@ -120,6 +120,7 @@ fn pattern_inside(values: &mut Vec<Value>) -> Result<(), MakeError>
 }
 
 // Does an action on the values on top.
+#[tactic(auto, using(crate::proofs::Shapes::by_name_some))]
 pub(crate) fn pattern(
     alloc: Global,
     action: PatternAction,
@@ -132,7 +133,7 @@ pub(crate) fn pattern(
         → result ≡ Err Misfit → ⊥ }
 {
     match action {
-        PatternAction::Bind => put(values, token.place, PatNode::Bind(token.name)),
+        PatternAction::Bind => put(values, token.place, PatNode::Bind(token.name()?)),
         PatternAction::Any => put(values, token.place, PatNode::Any),
         PatternAction::UnitPattern => unit_pattern(values),
         PatternAction::NilPattern => nil_pattern(alloc, values),

@@ -63,28 +63,30 @@ fn pop_two(values: &mut Vec<Value>) -> Result<(Box<PredExpr>, Box<PredExpr>, Pla
     Ok((first, second, place))
 }
 
-// A number below 2^127.
+// A number below the limit of literals.
 #[tactic(auto, using(crate::proofs::Shapes::pred_literal_below))]
-fn literal(alloc: Global, token: &Lexeme, values: &mut Vec<Value>) -> Result<(), MakeError>
-    ensures ok { OnOk result (pred_literal (lexeme_view token.now) (views values.old.items)
+fn literal(
+    alloc: Global,
+    value: u128,
+    place: Place,
+    values: &mut Vec<Value>,
+) -> Result<(), MakeError>
+    ensures ok { OnOk result (pred_literal value place (views values.old.items)
         ≡ Some (views values.new.items)) }
-    ensures fits { IsSome (pred_literal (lexeme_view token.now) (views values.old.items))
-        → result ≡ Err Misfit → ⊥ }
+    ensures fits { IsSome (pred_literal value place (views values.old.items)) → result ≡ Err Misfit → ⊥ }
 {
-    let value = below_limit(token.value)?;
-    put(alloc, values, token.place, PredNode::Whole(value))
+    let value = below_limit(value)?;
+    put(alloc, values, place, PredNode::Whole(value))
 }
 
-// A number of at most 2^127 behind a minus.
+// A number that is at most the limit, behind a minus.
 #[tactic(auto, using(crate::proofs::Shapes::pred_negative_shape))]
-fn negative(alloc: Global, token: &Lexeme, values: &mut Vec<Value>) -> Result<(), MakeError>
-    ensures ok { OnOk result (pred_negative (lexeme_view token.now) (views values.old.items)
-        ≡ Some (views values.new.items)) }
-    ensures fits { IsSome (pred_negative (lexeme_view token.now) (views values.old.items))
-        → result ≡ Err Misfit → ⊥ }
+fn negative(alloc: Global, value: u128, values: &mut Vec<Value>) -> Result<(), MakeError>
+    ensures ok { OnOk result (pred_negative value (views values.old.items) ≡ Some (views values.new.items)) }
+    ensures fits { IsSome (pred_negative value (views values.old.items)) → result ≡ Err Misfit → ⊥ }
 {
     let place = pop_mark(values)?;
-    let value = up_to_limit(token.value)?;
+    let value = up_to_limit(value)?;
     put(alloc, values, place, PredNode::Whole(value))
 }
 
@@ -180,6 +182,7 @@ fn put_joined(alloc: Global, join: Join, values: &mut Vec<Value>) -> Result<(), 
 }
 
 // Does an action on the values on top.
+#[tactic(auto, using(crate::proofs::Shapes::by_number_some))]
 pub(crate) fn pred(
     alloc: Global,
     action: PredAction,
@@ -192,8 +195,8 @@ pub(crate) fn pred(
         → result ≡ Err Misfit → ⊥ }
 {
     match action {
-        PredAction::PredLiteral => literal(alloc, token, values),
-        PredAction::PredNegative => negative(alloc, token, values),
+        PredAction::PredLiteral => literal(alloc, token.number()?, token.place, values),
+        PredAction::PredNegative => negative(alloc, token.number()?, values),
         PredAction::PredTruth => put(alloc, values, token.place, PredNode::Flag(true)),
         PredAction::PredUntruth => put(alloc, values, token.place, PredNode::Flag(false)),
         PredAction::PredUse => variable(alloc, values),

@@ -6,9 +6,9 @@ ghost use Rattle.lq_action.specs.Views.{lexeme_view};
 ghost use Rattle.lq_action.specs.declared.values.MakeError.TheVariants.{Misfit};
 
 use crate::builder::Builder;
-use crate::values::{Lexeme, MakeError};
+use crate::values::{Content, Lexeme, MakeError};
 use lq_grammar::Event;
-use lq_name::{Name, Place, TextKind};
+use lq_name::{Place, TextKind};
 use std::alloc::Global;
 
 // Before the first token.
@@ -18,8 +18,7 @@ const NOWHERE: Lexeme = Lexeme {
         line: 0,
         column: 0,
     },
-    name: Name(0),
-    value: 0,
+    content: Content::Neither,
 };
 
 /// What the steps make of the tokens.

@@ -8,7 +8,7 @@ ghost use Rattle.lq_action.specs.declared.values.MakeError.TheVariants.{Misfit};
 
 use crate::values::{Lexeme, MakeError, Value, pop_mark, pop_type, pop_types, push};
 use lq_grammar::TypingAction;
-use lq_name::Place;
+use lq_name::{Name, Place};
 use lq_tree::{TypeExpr, TypeExprs, TypeNode};
 use std::alloc::Global;
 
@@ -46,28 +46,33 @@ fn append_type(values: &mut Vec<Value>) -> Result<(), MakeError>
 }
 
 #[tactic(auto, using(crate::proofs::Shapes::apply_type_shape))]
-fn apply_type(alloc: Global, token: &Lexeme, values: &mut Vec<Value>) -> Result<(), MakeError>
-    ensures ok { OnOk result (apply_type (lexeme_view token.now) (views values.old.items)
+fn apply_type(
+    alloc: Global,
+    name: Name,
+    name_place: Place,
+    values: &mut Vec<Value>,
+) -> Result<(), MakeError>
+    ensures ok { OnOk result (apply_type name.0 name_place (views values.old.items)
         ≡ Some (views values.new.items)) }
-    ensures fits { IsSome (apply_type (lexeme_view token.now) (views values.old.items))
+    ensures fits { IsSome (apply_type name.0 name_place (views values.old.items))
         → result ≡ Err Misfit → ⊥ }
 {
     let (argument, place) = pop_type(values)?;
     let mut row = TypeExprs::new(alloc)?;
     row.push(argument)?;
-    put(values, place, TypeNode::Apply(row, token.name, token.place))
+    put(values, place, TypeNode::Apply(row, name, name_place))
 }
 
 #[tactic(auto, using(crate::proofs::Shapes::apply_types_shape))]
-fn apply_types(token: &Lexeme, values: &mut Vec<Value>) -> Result<(), MakeError>
-    ensures ok { OnOk result (apply_types (lexeme_view token.now) (views values.old.items)
+fn apply_types(name: Name, name_place: Place, values: &mut Vec<Value>) -> Result<(), MakeError>
+    ensures ok { OnOk result (apply_types name.0 name_place (views values.old.items)
         ≡ Some (views values.new.items)) }
-    ensures fits { IsSome (apply_types (lexeme_view token.now) (views values.old.items))
+    ensures fits { IsSome (apply_types name.0 name_place (views values.old.items))
         → result ≡ Err Misfit → ⊥ }
 {
     let (row, _) = pop_types(values)?;
     let place = pop_mark(values)?;
-    put(values, place, TypeNode::Apply(row, token.name, token.place))
+    put(values, place, TypeNode::Apply(row, name, name_place))
 }
 
 #[tactic(auto, using(crate::proofs::Shapes::product_type_shape))]
@@ -102,6 +107,7 @@ fn type_inside(values: &mut Vec<Value>) -> Result<(), MakeError>
 }
 
 // Does an action on the values on top.
+#[tactic(auto, using(crate::proofs::Shapes::by_name_some))]
 pub(crate) fn typing(
     alloc: Global,
     action: TypingAction,
@@ -120,14 +126,15 @@ pub(crate) fn typing(
         }
         TypingAction::TwoTypes => two_types(alloc, values),
         TypingAction::AppendType => append_type(values),
-        TypingAction::VariableType => put(values, token.place, TypeNode::Var(token.name)),
+        TypingAction::VariableType => put(values, token.place, TypeNode::Var(token.name()?)),
         TypingAction::NamedType => {
+            let name = token.name()?;
             let none = TypeExprs::new(alloc)?;
-            let node = TypeNode::Apply(none, token.name, token.place);
+            let node = TypeNode::Apply(none, name, token.place);
             put(values, token.place, node)
         }
-        TypingAction::ApplyType => apply_type(alloc, token, values),
-        TypingAction::ApplyTypes => apply_types(token, values),
+        TypingAction::ApplyType => apply_type(alloc, token.name()?, token.place, values),
+        TypingAction::ApplyTypes => apply_types(token.name()?, token.place, values),
         TypingAction::ProductType => product_type(values),
         TypingAction::ArrowType => arrow_type(alloc, values),
         TypingAction::TypeInside => type_inside(values),

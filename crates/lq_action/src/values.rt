@@ -16,12 +16,47 @@ use lq_tree::{
 };
 use std::alloc::{AllocError, AllocFailed};
 
-/// A token as actions see it: its place, its name where it is one, and its value where it is a number.
+/// What a token has for actions beside its place.
+#[derive(Clone, Copy)]
+pub enum Content {
+    Name(Name),
+    Number(u128),
+    Neither,
+}
+
+/// A token as actions see it.
 #[derive(Clone, Copy)]
 pub struct Lexeme {
     pub place: Place,
-    pub name: Name,
-    pub value: u128,
+    pub content: Content,
+}
+
+impl Lexeme {
+    ghost use Rattle.std.specs.Prelude.{◌≡◌, IfOk, IfErr, ℕ};
+    ghost use Rattle.lq_action.specs.Value.{some_name, some_number};
+    ghost use Rattle.lq_action.specs.Views.{lexeme_view};
+
+    // Its name.
+    pub(crate) fn name(&self) -> Result<Name, MakeError>
+        ensures ok { IfOk result (λ x. (lexeme_view self.now).content ≡ some_name x.0) }
+        ensures misfit { IfErr result (λ _. (x : ℕ) → (lexeme_view self.now).content ≡ some_name x → ⊥) }
+    {
+        match self.content {
+            Content::Name(name) => Ok(name),
+            Content::Number(_) | Content::Neither => Err(MakeError::Misfit),
+        }
+    }
+
+    // Its number.
+    pub(crate) fn number(&self) -> Result<u128, MakeError>
+        ensures ok { IfOk result (λ v. (lexeme_view self.now).content ≡ some_number v) }
+        ensures misfit { IfErr result (λ _. (v : ℕ) → (lexeme_view self.now).content ≡ some_number v → ⊥) }
+    {
+        match self.content {
+            Content::Number(value) => Ok(value),
+            Content::Name(_) | Content::Neither => Err(MakeError::Misfit),
+        }
+    }
 }
 
 /// Where the commas of an expression stand.

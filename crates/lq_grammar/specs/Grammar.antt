@@ -453,7 +453,7 @@ expression_alternatives Negation =
     begins kind.Minus (Make Mark ∷ Part (InExpression AfterMinus) ∷ Leave ∷ [])
     ∷ otherwise (Part (InExpression Application) ∷ [])
     ∷ []
--- what may stand behind a unary minus: a number makes a negative literal with it, also 2^127
+-- what may stand behind a unary minus: a number makes a negative literal with it, also the limit of literals
 expression_alternatives AfterMinus =
     begins kind.Number (Make (Operand NegativeLiteral) ∷ Part (InExpression PostfixMore) ∷ Part (InExpression ArgumentsMore) ∷ [])
     ∷ begins kind.LimitNumber (Make (Operand NegativeLiteral) ∷ Part (InExpression PostfixMore) ∷ Part (InExpression ArgumentsMore) ∷ [])
@@ -687,7 +687,7 @@ pred_alternatives TermNegation =
     begins kind.Minus (Make Mark ∷ Part (InPred AfterTermMinus) ∷ Leave ∷ [])
     ∷ otherwise (Part (InPred TermAtom) ∷ [])
     ∷ []
--- what may stand behind a unary minus: a number makes a negative literal with it, also 2^127
+-- what may stand behind a unary minus: a number makes a negative literal with it, also the limit of literals
 pred_alternatives AfterTermMinus =
     begins kind.Number (Make (Pred PredNegative) ∷ [])
     ∷ begins kind.LimitNumber (Make (Pred PredNegative) ∷ [])

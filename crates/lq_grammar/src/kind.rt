@@ -29,7 +29,7 @@ pub enum Kind {
     UpperName,
     TypeVariable,
     Number,
-    /// A number of exactly 2^127, which stands only directly behind a unary minus.
+    /// A number of exactly `LITERAL_LIMIT`, which stands only directly behind a unary minus.
     LimitNumber,
     Underscore,
     /// `;;`
