@@ -1,35 +1,78 @@
--- The numbers of tokens fit their kinds.
+-- What tokens have fits their kinds.
 use Rattle.std.specs.Prelude.{map, nat_lt}
-use Rattle.std.proofs.Common.{◌≡◌, ◌≤◌, ◌^◌, ℕ, List, [], ◌∷◌, Bool, true, false, cond, arith, refl}
+use Rattle.std.specs.List.{list_all}
+use Rattle.std.specs.Str.{bytes_eq}
+use Rattle.std.proofs.Common.{◌≡◌, ◌≤◌, ℕ, List, [], ◌∷◌, Bool, true, false, ◌&&◌, cond, arith, refl}
 use Rattle.std.proofs.lemmas.Bool.Decides.{nat_tests}
 use Rattle.lq_grammar.specs.declared.kind.Kind.{Kind}
 use Rattle.lq_grammar.specs.declared.kind.Kind.TheVariants as kind
+use Rattle.lq_lex.specs.declared.keyword.Keyword.{Keyword}
+use Rattle.lq_lex.specs.declared.keyword.Keyword.TheVariants as keyword
 use Rattle.lq_lex.specs.declared.token.Token.{Token}
+use Rattle.lq_name.specs.declared.limits.TheConstants.{LITERAL_LIMIT}
+use Rattle.lq_name.specs.declared.place.Place.{Place}
 use Rattle.lq_lex.specs.declared.token.TokenKind.{TokenKind}
 use Rattle.lq_lex.specs.declared.token.TokenKind.TheVariants as of
 use Rattle.lq_action.specs.Trees.{FitsKind, FitKinds}
-use Rattle.lq_action.specs.Value.{Lexeme}
-use Rattle.lq_parse.specs.Terminals.{bytes_of, terminal, kinds_of}
-use Rattle.lq_parse.specs.Trees.{value_of, lexeme_of}
-use Rattle.lq_parse.proofs.Lexed.{AreTokens}
+use Rattle.lq_action.specs.Value.{Lexeme, some_number}
+use Rattle.lq_parse.specs.Terminals.{bytes_of, keyword_kind, symbols, kind_among, terminal, kinds_of}
+use Rattle.lq_parse.specs.Trees.{content_of, lexeme_of}
+use Rattle.lq_parse.proofs.Lexed.{HasSmallValue, AreTokens}
 
-nothing_fits : (k : Kind) (l : Lexeme) → l.value ≡ 0 → FitsKind k l
-nothing_fits kind.Number l e = omega arith
-nothing_fits kind.LimitNumber l e = omega arith
-nothing_fits _ l e = tt
+-- a terminal of tokens that are neither names nor numbers
+plain : Kind → Bool
+plain kind.LowerName = false
+plain kind.UpperName = false
+plain kind.TypeVariable = false
+plain kind.Number = false
+plain kind.LimitNumber = false
+plain _ = true
 
-number_fits : (v : ℕ) (l : Lexeme) (b : Bool) → nat_lt v 170141183460469231731687303715884105728 ≡ b → l.value ≡ v → v ≤ 2 ^ 127 → FitsKind (cond b kind.Number kind.LimitNumber) l
-number_fits v l true is e h = grind (arith, nat_tests)
-number_fits v l false is e h = omega arith
+plain_fits : (k : Kind) (l : Lexeme) → plain k ≡ true → FitsKind k l
+unfolding plain
+plain_fits kind.LowerName l e = absurd cc
+plain_fits kind.UpperName l e = absurd cc
+plain_fits kind.TypeVariable l e = absurd cc
+plain_fits kind.Number l e = absurd cc
+plain_fits kind.LimitNumber l e = absurd cc
+plain_fits _ l e = tt
 
-token_fits : (k : TokenKind) (word : List ℕ) (l : Lexeme) → l.value ≡ value_of k → value_of k ≤ 2 ^ 127 → FitsKind (terminal k word) l
-token_fits (of.Number v) word l e h = number_fits v l _ refl e h
-token_fits of.Lower word l e h = tt
-token_fits of.Upper word l e h = tt
-token_fits of.TypeVar word l e h = tt
-token_fits of.Keyword word l e h = nothing_fits (terminal of.Keyword word) l e
-token_fits of.Symbol word l e h = nothing_fits (terminal of.Symbol word) l e
+plain_keyword : (k : Keyword) → plain (keyword_kind k) ≡ true
+unfolding plain
+plain_keyword keyword.Assert = refl
+plain_keyword _ = refl
+
+both : (a b : Bool) → (a && b) ≡ true → (a ≡ true) × (b ≡ true)
+both true true e = (refl, refl)
+both true false e = absurd cc
+both false b e = absurd cc
+
+if_plain : (t : Bool) (a b : Kind) → plain a ≡ true → plain b ≡ true → plain (cond t a b) ≡ true
+if_plain true a b e f = e
+if_plain false a b e f = f
+
+among_plain : (ps : List (List ℕ × Kind)) (other : Kind) (word : List ℕ) → list_all (λ p. plain p.1) ps ≡ true → plain other ≡ true → plain (kind_among ps other word) ≡ true
+among_plain [] other word all e = e
+among_plain (p ∷ ps) other word all e =
+    let parts = both (plain p.1) (list_all (λ q. plain q.1) ps) all in
+    if_plain (bytes_eq word p.0) p.1 (kind_among ps other word) parts.0 (among_plain ps other word parts.1 e)
+
+plain_symbol : (word : List ℕ) → plain (kind_among symbols kind.Reserved word) ≡ true
+unfolding plain
+plain_symbol word = among_plain symbols kind.Reserved word refl refl
+
+number_fits : (v : ℕ) (p : Place) (b : Bool) → nat_lt v LITERAL_LIMIT ≡ b → v ≤ LITERAL_LIMIT → FitsKind (cond b kind.Number kind.LimitNumber) (record { place = p; content = some_number v })
+number_fits v p true is h = grind (arith, nat_tests)
+number_fits v p false is h = h
+
+token_fits : (names : List (List ℕ)) (k : TokenKind) (word : List ℕ) (p : Place) → HasSmallValue k → FitsKind (terminal k word) (record { place = p; content = content_of names k word })
+token_fits names (of.Number v) word p h = number_fits v p _ refl h
+token_fits names of.Lower word p h = tt
+token_fits names of.Upper word p h = tt
+token_fits names of.TypeVar word p h = tt
+token_fits names (of.Keyword k) word p h = plain_fits (keyword_kind k) _ (plain_keyword k)
+token_fits names of.Symbol word p h = plain_fits (kind_among symbols kind.Reserved word) _ (plain_symbol word)
 
 pub tokens_fit : (names : List (List ℕ)) (text : List ℕ) (ts : List Token) → AreTokens text ts → FitKinds (kinds_of text ts) (map (lexeme_of names text) ts)
 tokens_fit names text [] all = tt
-tokens_fit names text (t ∷ ts) all = (token_fits t.kind (bytes_of text t) (lexeme_of names text t) refl all.0.value, tokens_fit names text ts all.1)
+tokens_fit names text (t ∷ ts) all = (token_fits names t.kind (bytes_of text t) t.place all.0.value, tokens_fit names text ts all.1)

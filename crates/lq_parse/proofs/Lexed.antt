@@ -2,24 +2,26 @@
 use Rattle.std.specs.Prelude.{take_while, nat_lt, slice_get}
 use Rattle.std.specs.List.{prefix_len}
 use Rattle.std.specs.Str.{IsAscii, bytes_eq}
-use Rattle.std.proofs.Common.{◌≡◌, ◌≤◌, ◌<◌, ◌+◌, ◌-◌, ◌^◌, ℕ, zero, suc, List, [], ◌∷◌, Bool, true, false, cond, eqb, eqb-true, Some, length, length-drop, take, drop, get_or, arith, refl, sym, ap, ◌∙◌, subst, codes}
+use Rattle.std.proofs.Common.{◌≡◌, ◌≤◌, ◌<◌, ◌+◌, ◌-◌, ℕ, zero, suc, List, [], ◌∷◌, Bool, true, false, cond, eqb, eqb-true, Option, Some, None, length, length-drop, take, drop, get_or, arith, refl, sym, ap, ◌∙◌, subst, codes}
 use Rattle.std.proofs.lemmas.Bool.Decides.{nat_tests}
 use Rattle.std.proofs.lemmas.List.{drop-drop}
 use Rattle.std.proofs.lemmas.List.Folds.{length-prefix_len}
 use Rattle.std.proofs.lemmas.Str.Ascii.{IsAscii-from_reads}
+use Rattle.lq_name.specs.declared.limits.TheConstants.{LITERAL_LIMIT}
 use Rattle.lq_name.specs.declared.place.TextKind.{TextKind}
 use Rattle.lq_lex.specs.declared.token.Token.{Token}
 use Rattle.lq_lex.specs.declared.token.TokenKind.{TokenKind}
 use Rattle.lq_lex.specs.declared.token.TokenKind.TheVariants as kinds
 use Rattle.lq_lex.specs.Bytes.{is_blank, is_digit, begins_lower, begins_upper, is_name_byte, is_number_byte}
 use Rattle.lq_lex.specs.Comments.{EndsComment, ends, nests, passes}
-use Rattle.lq_lex.specs.Front.{run, front_of, token_front, word_front, quote_front, is_type_variable, number_front, number_from, begins_letter, symbol_front, is_opening, FitsIn}
+use Rattle.lq_lex.specs.Front.{run, front_of, token_front, word_kind, word_front, quote_front, is_type_variable, number_front, number_from, begins_letter, symbol_front, is_opening, FitsIn}
 use Rattle.lq_lex.specs.Reading.{offset_of, token_at, Reads, stays, blank, comment, token, IsTokens}
-use Rattle.lq_lex.specs.Words.{is_keyword, symbol_len}
+use Rattle.lq_lex.specs.Keywords.{keyword_of}
+use Rattle.lq_lex.specs.Symbols.{symbol_len}
+use Rattle.lq_lex.specs.declared.keyword.Keyword.{Keyword}
 use Rattle.lq_lex.proofs.Fronts.{front_fits}
 use Rattle.lq_parse.specs.Lexemes.{HasNameBytes}
 use Rattle.lq_parse.specs.Terminals.{bytes_of}
-use Rattle.lq_parse.specs.Trees.{value_of}
 
 -- ---- fronts
 -- by the two ways that a test goes
@@ -57,18 +59,27 @@ read_ascii (b ∷ bytes) (suc k) all h = read_ascii bytes k all.1 (omega arith)
 is_ascii : (bytes : List ℕ) → AreAscii bytes → IsAscii bytes
 is_ascii bytes all = IsAscii-from_reads bytes (length bytes) (omega arith) (λ k h. read_ascii bytes k all h)
 
+-- where a token is a number, it is at most the limit
+abbrev pub HasSmallValue : TokenKind → Type 0
+HasSmallValue (kinds.Number v) = v ≤ LITERAL_LIMIT
+HasSmallValue _ = Unit {0}
+
 -- what is known of a token of this kind with these bytes
 abbrev Says : TokenKind → List ℕ → Type 0
-Says k word = HasNameBytes k word × (value_of k ≤ 2 ^ 127)
+Says k word = HasNameBytes k word × HasSmallValue k
+
+word_says : (o : Option Keyword) (word : List ℕ) → IsAscii word → Says (word_kind o) word
+word_says None word ascii = (ascii, tt)
+word_says (Some k) word ascii = (tt, tt)
 
 same_says : (j k : TokenKind) (m n : ℕ) (bytes : List ℕ) → j ≡ k → m ≡ n → Says j (take m bytes) → Says k (take n bytes)
 same_says j k m n bytes e f says = subst (λ (i : TokenKind). Says i (take n bytes)) e (subst (λ (l : ℕ). Says j (take l bytes)) f says)
 
 -- ---- tokens
--- the token's bytes are those of a name where it is one, and its value is at most 2^127
+-- the token's bytes are those of a name where it is one, and a number is at most the limit
 pub record IsToken (text : List ℕ) (t : Token) : Type 0 where
   pub name : HasNameBytes t.kind (bytes_of text t)
-  pub value : value_of t.kind ≤ 2 ^ 127
+  pub value : HasSmallValue t.kind
 
 abbrev pub AreTokens : List ℕ → List Token → Type 0
 AreTokens text [] = Unit {0}
@@ -79,7 +90,7 @@ one_token text [] i t all e = absurd cc
 one_token text (u ∷ ts) zero t all e = let same : u ≡ t = cc in subst (λ x. IsToken text x) same all.0
 one_token text (u ∷ ts) (suc i) t all e = one_token text ts i t all.1 e
 
-not_above : (v : ℕ) → nat_lt 170141183460469231731687303715884105728 v ≡ false → v ≤ 2 ^ 127
+not_above : (v : ℕ) → nat_lt LITERAL_LIMIT v ≡ false → v ≤ LITERAL_LIMIT
 not_above v e = grind (arith, nat_tests)
 
 behind_comment : {bytes rest : List ℕ} → EndsComment bytes rest → (n : ℕ) × (rest ≡ drop n bytes)
@@ -112,26 +123,24 @@ are_tokens {kind = kind} {text = text} {bytes = b ∷ bytes} at is (token k n f 
     (λ t e. by_two (is_opening (b ∷ bytes)) e (λ t e. absurd cc)
     (λ t e. by_two (begins_lower b) e
     (λ t e. by_two (bytes_eq (take_while is_name_byte (b ∷ bytes)) (codes "_")) e
-    (λ t e. same_says kinds.Symbol k 1 n (b ∷ bytes) (cc) (cc) (tt, omega arith))
-    (λ t e. by_two (is_keyword kind (take_while is_name_byte (b ∷ bytes))) e
-    (λ t e. same_says kinds.Keyword k (run is_name_byte (b ∷ bytes)) n (b ∷ bytes) (cc) (cc) (tt, omega arith))
-    (λ t e. same_says kinds.Lower k (run is_name_byte (b ∷ bytes)) n (b ∷ bytes) (cc) (cc) (is_ascii _ (all_ascii (b ∷ bytes)), omega arith))))
+    (λ t e. same_says kinds.Symbol k 1 n (b ∷ bytes) (cc) (cc) (tt, tt))
+    (λ t e. same_says (word_kind (keyword_of kind (take_while is_name_byte (b ∷ bytes)))) k (run is_name_byte (b ∷ bytes)) n (b ∷ bytes) (cc) (cc) (word_says _ _ (is_ascii _ (all_ascii (b ∷ bytes))))))
     (λ t e. by_two (begins_upper b) e
-    (λ t e. same_says kinds.Upper k (run is_name_byte (b ∷ bytes)) n (b ∷ bytes) (cc) (cc) (is_ascii _ (all_ascii (b ∷ bytes)), omega arith))
+    (λ t e. same_says kinds.Upper k (run is_name_byte (b ∷ bytes)) n (b ∷ bytes) (cc) (cc) (is_ascii _ (all_ascii (b ∷ bytes)), tt))
     (λ t e. by_two (eqb b 39) e
     (λ q e. by_two (is_type_variable bytes) e
     (λ t e. let quote : b ≡ 39 = eqb-true b 39 q in let first : b < 128 = omega arith in
-    same_says kinds.TypeVar k (1 + run is_name_byte bytes) n (b ∷ bytes) (cc) (cc) (is_ascii _ (first_more b bytes (run is_name_byte bytes) first (all_ascii bytes)), omega arith))
+    same_says kinds.TypeVar k (1 + run is_name_byte bytes) n (b ∷ bytes) (cc) (cc) (is_ascii _ (first_more b bytes (run is_name_byte bytes) first (all_ascii bytes)), tt))
     (λ t e. absurd cc))
     (λ t e. by_two (is_digit b) e
-    (λ t e. by_two (nat_lt 170141183460469231731687303715884105728 (number_from 0 (take_while is_number_byte (b ∷ bytes)))) e
+    (λ t e. by_two (nat_lt LITERAL_LIMIT (number_from 0 (take_while is_number_byte (b ∷ bytes)))) e
     (λ t e. absurd cc)
     (λ low e. by_two (begins_letter (drop (run is_number_byte (b ∷ bytes)) (b ∷ bytes))) e
     (λ t e. absurd cc)
     (λ t e. same_says (kinds.Number (number_from 0 (take_while is_number_byte (b ∷ bytes)))) k (run is_number_byte (b ∷ bytes)) n (b ∷ bytes) (cc) (cc) (tt, not_above _ low))))
     (λ t e. by_two (eqb (symbol_len (b ∷ bytes)) 0) e
     (λ t e. absurd cc)
-    (λ t e. same_says kinds.Symbol k (symbol_len (b ∷ bytes)) n (b ∷ bytes) (cc) (cc) (tt, omega arith)))))))) in
+    (λ t e. same_says kinds.Symbol k (symbol_len (b ∷ bytes)) n (b ∷ bytes) (cc) (cc) (tt, tt)))))))) in
     let within : n ≤ length (b ∷ bytes) = fits.within in
     let some : 0 < n = fits.some in
     let here : IsToken text (token_at kind text (drop at text) k n) = is_token kind text at k n (subst (λ (l : List ℕ). n ≤ length l) is within) some (subst (λ (l : List ℕ). Says k (take n l)) is says) in

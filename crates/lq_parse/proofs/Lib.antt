@@ -4,3 +4,4 @@ pub mod Lexed
 pub mod Numbered
 pub mod Fits
 pub mod Readings
+pub mod Outcomes

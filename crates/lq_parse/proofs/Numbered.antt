@@ -10,17 +10,16 @@ use Rattle.lq_name.specs.NameTable.{HasOneNumberEach}
 use Rattle.lq_lex.specs.declared.token.Token.{Token}
 use Rattle.lq_lex.specs.declared.token.TokenKind.{TokenKind}
 use Rattle.lq_lex.specs.declared.token.TokenKind.TheVariants as of
-use Rattle.lq_action.specs.Value.{Lexeme}
-use Rattle.lq_parse.specs.Lexemes.{NameFits}
+use Rattle.lq_action.specs.Value.{Content, some_name, Lexeme}
+use Rattle.lq_parse.specs.Lexemes.{IsNumbered, ContentFits}
 use Rattle.lq_parse.specs.Terminals.{bytes_of}
 use Rattle.lq_parse.proofs.Takes.{one_more}
-use Rattle.lq_parse.specs.Trees.{number_in, name_of, value_of, lexeme_of, with_name, with_names}
+use Rattle.lq_parse.specs.Trees.{number_in, content_of, lexeme_of, with_name, with_names}
 
 -- a token as actions see it, where the table may have further names
 pub record IsLexeme (names : List (List ℕ)) (text : List ℕ) (t : Token) (l : Lexeme) : Type 0 where
   pub place : l.place ≡ t.place
-  pub value : l.value ≡ value_of t.kind
-  pub name : NameFits names t.kind (bytes_of text t) l.name
+  pub content : ContentFits names t.kind (bytes_of text t) l.content
 
 abbrev pub AreLexemes : List (List ℕ) → List ℕ → List Token → List Lexeme → Type 0
 AreLexemes names text [] [] = Unit {0}
@@ -34,20 +33,23 @@ still_there [] more n word e = absurd cc
 still_there (x ∷ names) more zero word e = e
 still_there (x ∷ names) more (suc n) word e = still_there names more n word e
 
-still_fits : (names more : List (List ℕ)) (k : TokenKind) (word : List ℕ) (n : ℕ) → NameFits names k word n → NameFits (names ++ more) k word n
-still_fits names more of.Lower word n e = still_there names more n word e
-still_fits names more of.Upper word n e = still_there names more n word e
-still_fits names more of.TypeVar word n e = still_there names more n word e
-still_fits names more (of.Number v) word n e = e
-still_fits names more of.Keyword word n e = e
-still_fits names more of.Symbol word n e = e
+still_numbered : (names more : List (List ℕ)) (word : List ℕ) (c : Content) → IsNumbered names word c → IsNumbered (names ++ more) word c
+still_numbered names more word c (n, is, e) = (n, is, still_there names more n word e)
+
+still_fits : (names more : List (List ℕ)) (k : TokenKind) (word : List ℕ) (c : Content) → ContentFits names k word c → ContentFits (names ++ more) k word c
+still_fits names more of.Lower word c e = still_numbered names more word c e
+still_fits names more of.Upper word c e = still_numbered names more word c e
+still_fits names more of.TypeVar word c e = still_numbered names more word c e
+still_fits names more (of.Number v) word c e = e
+still_fits names more (of.Keyword k) word c e = e
+still_fits names more of.Symbol word c e = e
 
 pub still_lexemes : (names more : List (List ℕ)) (text : List ℕ) (ts : List Token) (ls : List Lexeme) → AreLexemes names text ts ls → AreLexemes (names ++ more) text ts ls
 still_lexemes names more text [] [] all = tt
 still_lexemes names more text [] (l ∷ ls) all = all
 still_lexemes names more text (t ∷ ts) [] all = all
 still_lexemes names more text (t ∷ ts) (l ∷ ls) all =
-    (record { place = all.0.place; value = all.0.value; name = still_fits names more t.kind (bytes_of text t) l.name all.0.name }, still_lexemes names more text ts ls all.1)
+    (record { place = all.0.place; content = still_fits names more t.kind (bytes_of text t) l.content all.0.content }, still_lexemes names more text ts ls all.1)
 
 -- ---- one more
 pub one_lexeme : (names : List (List ℕ)) (text : List ℕ) (ts : List Token) (ls : List Lexeme) (t : Token) (l : Lexeme) → AreLexemes names text ts ls → IsLexeme names text t l → AreLexemes names text (ts ++ t ∷ []) (ls ++ l ∷ [])
@@ -82,7 +84,7 @@ name_grows of.Lower word names = text_grows names word _
 name_grows of.Upper word names = text_grows names word _
 name_grows of.TypeVar word names = text_grows names word _
 name_grows (of.Number v) word names = same_grows names
-name_grows of.Keyword word names = same_grows names
+name_grows (of.Keyword k) word names = same_grows names
 name_grows of.Symbol word names = same_grows names
 
 -- ---- one token further
@@ -132,25 +134,26 @@ number_is names word n one e =
     let f = found names word n e in
     one n (number_in names word) (slice_get_within names n word e) (slice_get_within names (number_in names word) word f) (e ∙ sym f)
 
-name_is : (names : List (List ℕ)) (k : TokenKind) (word : List ℕ) (n : ℕ) → HasOneNumberEach names → NameFits names k word n → n ≡ name_of names k word
-name_is names of.Lower word n one e = number_is names word n one e
-name_is names of.Upper word n one e = number_is names word n one e
-name_is names of.TypeVar word n one e = number_is names word n one e
-name_is names (of.Number v) word n one e = e
-name_is names of.Keyword word n one e = e
-name_is names of.Symbol word n one e = e
+numbered_is : (names : List (List ℕ)) (word : List ℕ) (c : Content) → HasOneNumberEach names → IsNumbered names word c → c ≡ some_name (number_in names word)
+numbered_is names word c one (n, is, e) = is ∙ ap (λ m. some_name m) (number_is names word n one e)
 
-abbrev lexeme : Place → ℕ → ℕ → Lexeme
-lexeme p n v = record { place = p; name = n; value = v }
+content_is : (names : List (List ℕ)) (k : TokenKind) (word : List ℕ) (c : Content) → HasOneNumberEach names → ContentFits names k word c → c ≡ content_of names k word
+content_is names of.Lower word c one e = numbered_is names word c one e
+content_is names of.Upper word c one e = numbered_is names word c one e
+content_is names of.TypeVar word c one e = numbered_is names word c one e
+content_is names (of.Number v) word c one e = e
+content_is names (of.Keyword k) word c one e = e
+content_is names of.Symbol word c one e = e
+
+abbrev lexeme : Place → Content → Lexeme
+lexeme p c = record { place = p; content = c }
 
 pub lexemes_are : (names : List (List ℕ)) (text : List ℕ) (ts : List Token) (ls : List Lexeme) → HasOneNumberEach names → AreLexemes names text ts ls → ls ≡ map (lexeme_of names text) ts
 lexemes_are names text [] [] one all = refl
 lexemes_are names text [] (l ∷ ls) one all = absurd all
 lexemes_are names text (t ∷ ts) [] one all = absurd all
 lexemes_are names text (t ∷ ts) (l ∷ ls) one all =
-    let named : l.name ≡ name_of names t.kind (bytes_of text t) = name_is names t.kind (bytes_of text t) l.name one all.0.name in
-    let place = all.0.place in
-    let value = all.0.value in
+    let content : l.content ≡ content_of names t.kind (bytes_of text t) = content_is names t.kind (bytes_of text t) l.content one all.0.content in
     let rest = lexemes_are names text ts ls one all.1 in
-    let same : l ≡ lexeme_of names text t = ap (λ (p : Place). lexeme p l.name l.value) place ∙ ap (λ (n : ℕ). lexeme t.place n l.value) named ∙ ap (λ (v : ℕ). lexeme t.place (name_of names t.kind (bytes_of text t)) v) value in
+    let same : l ≡ lexeme_of names text t = ap (λ (p : Place). lexeme p l.content) all.0.place ∙ ap (λ (c : Content). lexeme t.place c) content in
     ap (λ x. x ∷ ls) same ∙ ap (λ r. lexeme_of names text t ∷ r) rest

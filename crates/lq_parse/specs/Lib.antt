@@ -2,5 +2,6 @@
 pub mod Terminals
 pub mod Texts
 pub mod Trees
+pub mod Outcome
 pub mod Lexemes
 pub mod Making

@@ -1,52 +1,42 @@
 -- Tokens as the grammars see them.
-use Rattle.std.specs.Prelude.{ℕ, ◌-◌, ◌^◌, nat_lt, List, [], ◌∷◌, map, take, drop, codes, if◌then◌else◌}
+use Rattle.std.specs.Prelude.{ℕ, ◌-◌, nat_lt, List, [], ◌∷◌, map, take, drop, codes, if◌then◌else◌}
 use Rattle.std.specs.Str.{bytes_eq}
 use Rattle.lq_grammar.specs.declared.kind.Kind.{Kind}
 use Rattle.lq_grammar.specs.declared.kind.Kind.TheVariants as kind
+use Rattle.lq_lex.specs.declared.keyword.Keyword.{Keyword}
+use Rattle.lq_lex.specs.declared.keyword.Keyword.TheVariants as keyword
 use Rattle.lq_lex.specs.declared.token.Token.{Token}
 use Rattle.lq_lex.specs.declared.token.TokenKind.{TokenKind}
 use Rattle.lq_lex.specs.declared.token.TokenKind.TheVariants as of
+use Rattle.lq_name.specs.declared.limits.TheConstants.{LITERAL_LIMIT}
 
 -- the bytes of a token
 abbrev pub bytes_of : List ℕ → Token → List ℕ
 bytes_of text t = take (t.«end» - t.start) (drop t.start text)
 
--- the reserved words that rules use: of operators and literals, of definitions, of branches and blocks, of entries
-abbrev pub operator_words : List (List ℕ × Kind)
-operator_words =
-    (codes "assert", kind.Assert)
-    ∷ (codes "false", kind.False)
-    ∷ (codes "mod", kind.Mod)
-    ∷ (codes "not", kind.Not)
-    ∷ (codes "true", kind.True)
-    ∷ []
-
-abbrev pub binding_words : List (List ℕ × Kind)
-binding_words =
-    (codes "fun", kind.Fun)
-    ∷ (codes "in", kind.In)
-    ∷ (codes "let", kind.Let)
-    ∷ (codes "of", kind.Of)
-    ∷ (codes "rec", kind.Rec)
-    ∷ (codes "type", kind.Type)
-    ∷ []
-
-abbrev pub branch_words : List (List ℕ × Kind)
-branch_words =
-    (codes "begin", kind.Begin)
-    ∷ (codes "else", kind.Else)
-    ∷ (codes "end", kind.End)
-    ∷ (codes "if", kind.If)
-    ∷ (codes "match", kind.Match)
-    ∷ (codes "then", kind.Then)
-    ∷ (codes "with", kind.With)
-    ∷ []
-
-abbrev pub heading_words : List (List ℕ × Kind)
-heading_words =
-    (codes "measure", kind.Measure)
-    ∷ (codes "qualif", kind.Qualif)
-    ∷ []
+-- the terminal that a reserved word is; those that no rule uses are one
+abbrev pub keyword_kind : Keyword → Kind
+keyword_kind keyword.Assert = kind.Assert
+keyword_kind keyword.Begin = kind.Begin
+keyword_kind keyword.Else = kind.Else
+keyword_kind keyword.End = kind.End
+keyword_kind keyword.False = kind.False
+keyword_kind keyword.Fun = kind.Fun
+keyword_kind keyword.If = kind.If
+keyword_kind keyword.In = kind.In
+keyword_kind keyword.Let = kind.Let
+keyword_kind keyword.Match = kind.Match
+keyword_kind keyword.Measure = kind.Measure
+keyword_kind keyword.Mod = kind.Mod
+keyword_kind keyword.Not = kind.Not
+keyword_kind keyword.Of = kind.Of
+keyword_kind keyword.Qualif = kind.Qualif
+keyword_kind keyword.Rec = kind.Rec
+keyword_kind keyword.Then = kind.Then
+keyword_kind keyword.True = kind.True
+keyword_kind keyword.Type = kind.Type
+keyword_kind keyword.With = kind.With
+keyword_kind keyword.Unused = kind.Reserved
 
 abbrev pub symbols : List (List ℕ × Kind)
 symbols =
@@ -85,17 +75,12 @@ abbrev pub kind_among : List (List ℕ × Kind) → Kind → List ℕ → Kind
 kind_among [] other word = other
 kind_among (p ∷ ps) other word = if bytes_eq word p.0 then p.1 else kind_among ps other word
 
--- a reserved word; those in none of the lists are used by no rule
-abbrev pub keyword_kind : List ℕ → Kind
-keyword_kind word =
-    kind_among operator_words (kind_among binding_words (kind_among branch_words (kind_among heading_words kind.Reserved word) word) word) word
-
 abbrev pub terminal : TokenKind → List ℕ → Kind
 terminal of.Lower word = kind.LowerName
 terminal of.Upper word = kind.UpperName
 terminal of.TypeVar word = kind.TypeVariable
-terminal (of.Number n) word = if nat_lt n (2 ^ 127) then kind.Number else kind.LimitNumber
-terminal of.Keyword word = keyword_kind word
+terminal (of.Number n) word = if nat_lt n LITERAL_LIMIT then kind.Number else kind.LimitNumber
+terminal (of.Keyword k) word = keyword_kind k
 terminal of.Symbol word = kind_among symbols kind.Reserved word
 
 abbrev pub kind_of : List ℕ → Token → Kind

@@ -6,6 +6,7 @@ use Rattle.lq_grammar.specs.Levels.{IsShallow}
 use Rattle.lq_grammar.specs.Reading as reading
 use Rattle.lq_grammar.specs.declared.symbol.Event.{Event}
 use Rattle.lq_lex.specs.declared.token.Token.{Token}
+use Rattle.lq_name.specs.declared.limits.TheConstants.{LEVEL_LIMIT}
 use Rattle.lq_name.specs.declared.place.Place.{Place}
 use Rattle.lq_name.specs.declared.place.TextKind.{TextKind}
 use Rattle.lq_parse.specs.Terminals.{kinds_of}
@@ -22,14 +23,14 @@ place_of tokens end_ at = place_in (slice_get tokens at) end_
 abbrev pub IsText : TextKind → List ℕ → List Token → List Event → Type 0
 IsText kind text tokens events =
     reading.IsText (start_of kind) (kinds_of text tokens) events
-    × IsShallow (start_of kind) 250 (kinds_of text tokens) (length (kinds_of text tokens))
+    × IsShallow (start_of kind) LEVEL_LIMIT (kinds_of text tokens) (length (kinds_of text tokens))
 
--- At this place is the first stop, and no token up to it has a level above 250.
+-- At this place is the first stop, and no token up to it has a level above the limit.
 abbrev pub IsSyntax : TextKind → List ℕ → List Token → Place → Place → Type 0
 IsSyntax kind text tokens end_ place =
-    (at : ℕ) × levels.IsSyntax (start_of kind) 250 (kinds_of text tokens) at × (place ≡ place_of tokens end_ at)
+    (at : ℕ) × levels.IsSyntax (start_of kind) LEVEL_LIMIT (kinds_of text tokens) at × (place ≡ place_of tokens end_ at)
 
--- At this place is the first token with a level above 250, and what is before it begins a text.
+-- At this place is the first token with a level above the limit, and what is before it begins a text.
 abbrev pub IsTooDeep : TextKind → List ℕ → List Token → Place → Place → Type 0
 IsTooDeep kind text tokens end_ place =
-    (at : ℕ) × levels.IsTooDeep (start_of kind) 250 (kinds_of text tokens) at × (place ≡ place_of tokens end_ at)
+    (at : ℕ) × levels.IsTooDeep (start_of kind) LEVEL_LIMIT (kinds_of text tokens) at × (place ≡ place_of tokens end_ at)

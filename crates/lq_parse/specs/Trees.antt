@@ -6,9 +6,10 @@ use Rattle.lq_grammar.specs.Levels.{IsShallow}
 use Rattle.lq_lex.specs.declared.token.Token.{Token}
 use Rattle.lq_lex.specs.declared.token.TokenKind.{TokenKind}
 use Rattle.lq_lex.specs.declared.token.TokenKind.TheVariants as of
+use Rattle.lq_name.specs.declared.limits.TheConstants.{LEVEL_LIMIT}
 use Rattle.lq_name.specs.NameTable.{with_text}
 use Rattle.lq_name.specs.declared.place.TextKind.{TextKind}
-use Rattle.lq_action.specs.Value.{Lexeme, Value}
+use Rattle.lq_action.specs.Value.{Content, some_name, some_number, neither, Lexeme, Value}
 use Rattle.lq_action.specs.Trees.{Makes}
 use Rattle.lq_parse.specs.Terminals.{bytes_of, kinds_of}
 
@@ -17,25 +18,18 @@ abbrev pub number_in : List (List ℕ) → List ℕ → ℕ
 number_in [] word = 0
 number_in (t ∷ ts) word = if bytes_eq t word then 0 else suc (number_in ts word)
 
-abbrev pub name_of : List (List ℕ) → TokenKind → List ℕ → ℕ
-name_of names of.Lower word = number_in names word
-name_of names of.Upper word = number_in names word
-name_of names of.TypeVar word = number_in names word
-name_of names (of.Number n) word = 0
-name_of names of.Keyword word = 0
-name_of names of.Symbol word = 0
-
-abbrev pub value_of : TokenKind → ℕ
-value_of (of.Number n) = n
-value_of of.Lower = 0
-value_of of.Upper = 0
-value_of of.TypeVar = 0
-value_of of.Keyword = 0
-value_of of.Symbol = 0
+-- a name has the number of its bytes, a number its value
+abbrev pub content_of : List (List ℕ) → TokenKind → List ℕ → Content
+content_of names of.Lower word = some_name (number_in names word)
+content_of names of.Upper word = some_name (number_in names word)
+content_of names of.TypeVar word = some_name (number_in names word)
+content_of names (of.Number n) word = some_number n
+content_of names (of.Keyword k) word = neither
+content_of names of.Symbol word = neither
 
 -- a token as actions see it
 abbrev pub lexeme_of : List (List ℕ) → List ℕ → Token → Lexeme
-lexeme_of names text t = record { place = t.place; name = name_of names t.kind (bytes_of text t); value = value_of t.kind }
+lexeme_of names text t = record { place = t.place; content = content_of names t.kind (bytes_of text t) }
 
 -- a table with the word of a token of this kind, where that is a name
 abbrev pub with_name : TokenKind → List ℕ → List (List ℕ) → List (List ℕ)
@@ -43,7 +37,7 @@ with_name of.Lower word names = with_text names word
 with_name of.Upper word names = with_text names word
 with_name of.TypeVar word names = with_text names word
 with_name (of.Number n) word names = names
-with_name of.Keyword word names = names
+with_name (of.Keyword k) word names = names
 with_name of.Symbol word names = names
 
 -- a table with the names among these tokens, in their order
@@ -51,7 +45,7 @@ abbrev pub with_names : List ℕ → List Token → List (List ℕ) → List (Li
 with_names text [] names = names
 with_names text (t ∷ ts) names = with_names text ts (with_name t.kind (bytes_of text t) names)
 
--- These tokens are a text of this kind in which no token has a level above 250, and what is read of them is this value.
+-- These tokens are a text of this kind in which no token has a level above the limit, and what is read of them is this value.
 pub record IsRead (kind : TextKind) (text : List ℕ) (names : List (List ℕ)) (tokens : List Token) (v : Value) : Type 0 where
   pub makes : Makes kind (kinds_of text tokens) (map (lexeme_of names text) tokens) v
-  pub shallow : IsShallow (start_of kind) 250 (kinds_of text tokens) (length tokens)
+  pub shallow : IsShallow (start_of kind) LEVEL_LIMIT (kinds_of text tokens) (length tokens)

@@ -12,7 +12,8 @@ use lq_lex::Tokens;
 use lq_name::TextKind;
 use std::alloc::Global;
 
-/// Whether the tokens of this text are a program, qualifiers or measures in which no token has a level above 250.
+/// Whether the tokens of this text are a program, qualifiers or measures in which no token has a level above
+/// `LEVEL_LIMIT`.
 pub fn check_text(
     alloc: Global,
     kind: TextKind,

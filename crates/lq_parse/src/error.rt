@@ -12,7 +12,7 @@ pub enum ParseError {
     /// The first token with which the tokens before it begin no text; at the end of the text where they are no whole text.
     #[error("no text goes on like this")]
     Syntax(Place),
-    /// The first token that nests deeper than 250 levels.
+    /// The first token that nests deeper than `LEVEL_LIMIT`.
     #[error("nested too deeply")]
     TooDeep(Place),
     #[error("out of memory")]

@@ -3,12 +3,13 @@ ghost use Rattle.std.specs.Prelude.{◌≡◌, ◌≤◌, ◌<◌, ◌+◌, ◌-
 ghost use Rattle.std.specs.Str.{IsAscii};
 ghost use Rattle.lq_lex.specs.Reading.{IsTokens, tokens_of};
 ghost use Rattle.lq_name.specs.NameTable.{IsNameTable, with_text};
-ghost use Rattle.lq_parse.specs.Lexemes.{HasNameBytes, NameFits};
-ghost use Rattle.lq_parse.specs.Trees.{lexeme_of, name_of, value_of, with_name, with_names};
-ghost use Rattle.lq_action.specs.Views.{lexeme_view};
+ghost use Rattle.lq_parse.specs.Lexemes.{HasNameBytes, ContentFits};
+ghost use Rattle.lq_parse.specs.Trees.{lexeme_of, with_name, with_names};
+ghost use Rattle.lq_action.specs.Views.{content_view, lexeme_view};
+ghost use Rattle.lq_lex.specs.declared.limits.TheConstants.{TEXT_LIMIT};
 
 use crate::terminals::bytes_of;
-use lq_action::Lexeme;
+use lq_action::{Content, Lexeme};
 use lq_lex::{TokenKind, Tokens};
 use lq_name::{Name, NameTable, TextKind};
 use std::alloc::{AllocError, Global};
@@ -29,36 +30,23 @@ fn number_of(word: &[u8], names: &mut NameTable) -> Result<Name, AllocError>
     names.intern(word)
 }
 
-// The number of a token that is a name, which is added to the table; 0 where the token is none.
-fn name_of(kind: TokenKind, word: &[u8], names: &mut NameTable) -> Result<Name, AllocError>
+// What a token has for actions. A name is added to the table.
+fn content_of(kind: TokenKind, word: &[u8], names: &mut NameTable) -> Result<Content, AllocError>
     requires room { length names.old < 2 ^ 32 - 1 }
     requires ascii { HasNameBytes kind word.now }
     ensures names { OnOk result (names.new ≡ with_name kind word.now names.old) }
-    ensures number { IfOk result (λ n. NameFits names.new kind word.now n.0) }
+    ensures content { IfOk result (λ c. ContentFits names.new kind word.now (content_view c)) }
     ensures err { OnErr result (names.new ≡ names.old) }
     ensures table { IsNameTable names.new }
 {
     let _len = names.len(); // what it promises: the table is one
     match kind {
-        TokenKind::Lower => number_of(word, names),
-        TokenKind::Upper => number_of(word, names),
-        TokenKind::TypeVar => number_of(word, names),
-        TokenKind::Number(_) => Ok(Name(0)),
-        TokenKind::Keyword => Ok(Name(0)),
-        TokenKind::Symbol => Ok(Name(0)),
-    }
-}
-
-fn value_of(kind: TokenKind) -> u128
-    ensures { result ≡ value_of kind }
-{
-    match kind {
-        TokenKind::Number(value) => value,
-        TokenKind::Lower => 0,
-        TokenKind::Upper => 0,
-        TokenKind::TypeVar => 0,
-        TokenKind::Keyword => 0,
-        TokenKind::Symbol => 0,
+        TokenKind::Lower => Ok(Content::Name(number_of(word, names)?)),
+        TokenKind::Upper => Ok(Content::Name(number_of(word, names)?)),
+        TokenKind::TypeVar => Ok(Content::Name(number_of(word, names)?)),
+        TokenKind::Number(value) => Ok(Content::Number(value)),
+        TokenKind::Keyword(_) => Ok(Content::Neither),
+        TokenKind::Symbol => Ok(Content::Neither),
     }
 }
 
@@ -70,7 +58,7 @@ pub(crate) fn lexemes_of(
     tokens: &Tokens,
     names: &mut NameTable,
 ) -> Result<Vec<Lexeme>, AllocError>
-    requires small { length text.now ≤ 2 ^ 24 }
+    requires small { length text.now ≤ TEXT_LIMIT }
     requires tokens { IsTokens kind text.now (tokens_of tokens.now) }
     requires room { length names.old ≤ 2 ^ 31 }
     ensures ok { IfOk result (λ ls. map lexeme_view ls.items ≡ map (lexeme_of names.new text.now)
@@ -84,11 +72,10 @@ pub(crate) fn lexemes_of(
     let mut at = 0;
     let _len = names.len(); // what it promises: the table is one
     while let Some(token) = tokens.get(at) {
-        let name = name_of(token.kind, bytes_of(text, token), names)?;
+        let content = content_of(token.kind, bytes_of(text, token), names)?;
         lexemes.push(Lexeme {
             place: token.place,
-            name,
-            value: value_of(token.kind),
+            content,
         })?;
         at += 1;
     }

@@ -1,16 +1,14 @@
 // The trees of the three texts.
-ghost use Rattle.std.specs.Prelude.{◌≡◌, ◌<◌, ◌≤◌, ◌+◌, ◌^◌, length, take, IfOk, OnOk, Err};
-ghost use Rattle.lq_lex.specs.Reading.{IsTokens, tokens_of, end_place_of};
-ghost use Rattle.lq_name.specs.NameTable.{IsNameTable};
-ghost use Rattle.lq_name.specs.declared.place.Place.{Place};
+ghost use Rattle.std.specs.Prelude.{◌<◌, ◌≤◌, ◌^◌, length, IfOk};
+ghost use Rattle.lq_lex.specs.Reading.{IsTokens, tokens_of};
+ghost use Rattle.lq_lex.specs.declared.limits.TheConstants.{TEXT_LIMIT};
 ghost use Rattle.lq_name.specs.declared.place.TextKind.TheVariants as kind;
 ghost use Rattle.lq_tree.specs.Texts.{program_view, quals_view, measures_view};
 ghost use Rattle.lq_action.specs.Value.{items, qualifiers, measures};
 ghost use Rattle.lq_action.specs.Making.{making_view};
 ghost use Rattle.lq_parse.specs.Making.{Makes};
-ghost use Rattle.lq_parse.specs.Texts.{IsSyntax, IsTooDeep};
-ghost use Rattle.lq_parse.specs.Trees.{IsRead, with_names};
-ghost use Rattle.lq_parse.specs.declared.error.ParseError.TheVariants.{Syntax, TooDeep};
+ghost use Rattle.lq_parse.specs.Outcome.{IsParseOutcome};
+ghost use Rattle.lq_parse.specs.Trees.{IsRead};
 
 use crate::error::ParseError;
 use crate::lexemes::lexemes_of;
@@ -32,20 +30,11 @@ fn built(
     text: &[u8],
     names: &mut NameTable,
 ) -> Result<Builder, ParseError>
-    requires small { length text.now ≤ 2 ^ 24 }
+    requires small { length text.now ≤ TEXT_LIMIT }
     requires tokens { IsTokens kind text.now (tokens_of tokens.now) }
     requires room { length names.old ≤ 2 ^ 31 }
-    ensures ok { IfOk result (λ b. Makes kind text.now names.new (tokens_of tokens.now) (making_view b)) }
-    ensures names { OnOk result (names.new ≡ with_names text.now (tokens_of tokens.now) names.old) }
-    ensures kept { take (length names.old) names.new ≡ names.old }
-    ensures added { length names.new ≤ length names.old + length (tokens_of tokens.now) }
-    ensures table { IsNameTable names.new }
-    ensures syntax { (place : Place) → result ≡ Err (Syntax place)
-        → IsSyntax kind text.now (tokens_of tokens.now) (end_place_of tokens.now) place }
-    ensures too_deep { (place : Place) → result ≡ Err (TooDeep place)
-        → IsTooDeep kind text.now (tokens_of tokens.now) (end_place_of tokens.now) place }
-    ensures unchanged_by_syntax { (place : Place) → result ≡ Err (Syntax place) → names.new ≡ names.old }
-    ensures unchanged_by_depth { (place : Place) → result ≡ Err (TooDeep place) → names.new ≡ names.old }
+    ensures parsed { IsParseOutcome kind text.now tokens.now names.old names.new
+        (λ b. Makes kind text.now names.new (tokens_of tokens.now) (making_view b)) result }
 {
     readings_make_texts();
     let _len = names.len(); // what it promises: the table is one
@@ -66,22 +55,12 @@ pub fn parse_program(
     text: &[u8],
     names: &mut NameTable,
 ) -> Result<Program, ParseError>
-    requires small { length text.now ≤ 2 ^ 24 }
+    requires small { length text.now ≤ TEXT_LIMIT }
     requires tokens { IsTokens kind.Program text.now (tokens_of tokens.now) }
     requires room { length names.old ≤ 2 ^ 31 }
-    ensures ok { IfOk result (λ p. IsRead kind.Program text.now names.new (tokens_of tokens.now)
-        (items (program_view p))) }
+    ensures parsed { IsParseOutcome kind.Program text.now tokens.now names.old names.new
+        (λ p. IsRead kind.Program text.now names.new (tokens_of tokens.now) (items (program_view p))) result }
     ensures count { IfOk result (λ p. length (program_view p) < 2 ^ 32) }
-    ensures names { OnOk result (names.new ≡ with_names text.now (tokens_of tokens.now) names.old) }
-    ensures kept { take (length names.old) names.new ≡ names.old }
-    ensures added { length names.new ≤ length names.old + length (tokens_of tokens.now) }
-    ensures table { IsNameTable names.new }
-    ensures syntax { (place : Place) → result ≡ Err (Syntax place)
-        → IsSyntax kind.Program text.now (tokens_of tokens.now) (end_place_of tokens.now) place }
-    ensures too_deep { (place : Place) → result ≡ Err (TooDeep place)
-        → IsTooDeep kind.Program text.now (tokens_of tokens.now) (end_place_of tokens.now) place }
-    ensures unchanged_by_syntax { (place : Place) → result ≡ Err (Syntax place) → names.new ≡ names.old }
-    ensures unchanged_by_depth { (place : Place) → result ≡ Err (TooDeep place) → names.new ≡ names.old }
 {
     readings_make_texts();
     few_items();
@@ -100,21 +79,12 @@ pub fn parse_quals(
     text: &[u8],
     names: &mut NameTable,
 ) -> Result<Quals, ParseError>
-    requires small { length text.now ≤ 2 ^ 24 }
+    requires small { length text.now ≤ TEXT_LIMIT }
     requires tokens { IsTokens kind.Quals text.now (tokens_of tokens.now) }
     requires room { length names.old ≤ 2 ^ 31 }
-    ensures ok { IfOk result (λ q. IsRead kind.Quals text.now names.new (tokens_of tokens.now)
-        (qualifiers (quals_view q))) }
-    ensures names { OnOk result (names.new ≡ with_names text.now (tokens_of tokens.now) names.old) }
-    ensures kept { take (length names.old) names.new ≡ names.old }
-    ensures added { length names.new ≤ length names.old + length (tokens_of tokens.now) }
-    ensures table { IsNameTable names.new }
-    ensures syntax { (place : Place) → result ≡ Err (Syntax place)
-        → IsSyntax kind.Quals text.now (tokens_of tokens.now) (end_place_of tokens.now) place }
-    ensures too_deep { (place : Place) → result ≡ Err (TooDeep place)
-        → IsTooDeep kind.Quals text.now (tokens_of tokens.now) (end_place_of tokens.now) place }
-    ensures unchanged_by_syntax { (place : Place) → result ≡ Err (Syntax place) → names.new ≡ names.old }
-    ensures unchanged_by_depth { (place : Place) → result ≡ Err (TooDeep place) → names.new ≡ names.old }
+    ensures parsed { IsParseOutcome kind.Quals text.now tokens.now names.old names.new
+        (λ q. IsRead kind.Quals text.now names.new (tokens_of tokens.now)
+        (qualifiers (quals_view q))) result }
 {
     readings_make_texts();
     let mut builder = built(alloc, TextKind::Quals, tokens, text, names)?;
@@ -132,21 +102,12 @@ pub fn parse_measures(
     text: &[u8],
     names: &mut NameTable,
 ) -> Result<Measures, ParseError>
-    requires small { length text.now ≤ 2 ^ 24 }
+    requires small { length text.now ≤ TEXT_LIMIT }
     requires tokens { IsTokens kind.Measures text.now (tokens_of tokens.now) }
     requires room { length names.old ≤ 2 ^ 31 }
-    ensures ok { IfOk result (λ m. IsRead kind.Measures text.now names.new (tokens_of tokens.now)
-        (measures (measures_view m))) }
-    ensures names { OnOk result (names.new ≡ with_names text.now (tokens_of tokens.now) names.old) }
-    ensures kept { take (length names.old) names.new ≡ names.old }
-    ensures added { length names.new ≤ length names.old + length (tokens_of tokens.now) }
-    ensures table { IsNameTable names.new }
-    ensures syntax { (place : Place) → result ≡ Err (Syntax place)
-        → IsSyntax kind.Measures text.now (tokens_of tokens.now) (end_place_of tokens.now) place }
-    ensures too_deep { (place : Place) → result ≡ Err (TooDeep place)
-        → IsTooDeep kind.Measures text.now (tokens_of tokens.now) (end_place_of tokens.now) place }
-    ensures unchanged_by_syntax { (place : Place) → result ≡ Err (Syntax place) → names.new ≡ names.old }
-    ensures unchanged_by_depth { (place : Place) → result ≡ Err (TooDeep place) → names.new ≡ names.old }
+    ensures parsed { IsParseOutcome kind.Measures text.now tokens.now names.old names.new
+        (λ m. IsRead kind.Measures text.now names.new (tokens_of tokens.now)
+        (measures (measures_view m))) result }
 {
     readings_make_texts();
     let mut builder = built(alloc, TextKind::Measures, tokens, text, names)?;

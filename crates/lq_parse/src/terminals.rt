@@ -2,10 +2,10 @@
 ghost use Rattle.std.specs.Prelude.{◌≡◌, IfOk};
 ghost use Rattle.lq_grammar.specs.declared.kind.Kind.TheVariants as kind;
 ghost use Rattle.lq_lex.specs.Reading.{tokens_of};
-ghost use Rattle.lq_parse.specs.Terminals.{bytes_of, kind_among, operator_words, binding_words, branch_words, heading_words, keyword_kind, symbols, terminal, kind_of, kinds_of};
+ghost use Rattle.lq_parse.specs.Terminals.{bytes_of, kind_among, keyword_kind, symbols, terminal, kinds_of};
 
 use lq_grammar::Kind;
-use lq_lex::{Token, TokenKind, Tokens};
+use lq_lex::{Keyword, Token, TokenKind, Tokens};
 use lq_name::LITERAL_LIMIT;
 use std::alloc::{AllocError, Global};
 
@@ -19,70 +19,32 @@ pub(crate) fn bytes_of<'a>(text: &'a [u8], token: &Token) -> &'a [u8]
     &rest[..len]
 }
 
-fn operator_kind(word: &[u8], other: Kind) -> Kind
-    ensures { result ≡ kind_among operator_words other word.now }
+fn keyword_kind(keyword: Keyword) -> Kind
+    ensures { result ≡ keyword_kind keyword }
 {
-    if word == b"assert".as_slice() {
-        Kind::Assert
-    } else if word == b"false".as_slice() {
-        Kind::False
-    } else if word == b"mod".as_slice() {
-        Kind::Mod
-    } else if word == b"not".as_slice() {
-        Kind::Not
-    } else if word == b"true".as_slice() {
-        Kind::True
-    } else {
-        other
+    match keyword {
+        Keyword::Assert => Kind::Assert,
+        Keyword::Begin => Kind::Begin,
+        Keyword::Else => Kind::Else,
+        Keyword::End => Kind::End,
+        Keyword::False => Kind::False,
+        Keyword::Fun => Kind::Fun,
+        Keyword::If => Kind::If,
+        Keyword::In => Kind::In,
+        Keyword::Let => Kind::Let,
+        Keyword::Match => Kind::Match,
+        Keyword::Measure => Kind::Measure,
+        Keyword::Mod => Kind::Mod,
+        Keyword::Not => Kind::Not,
+        Keyword::Of => Kind::Of,
+        Keyword::Qualif => Kind::Qualif,
+        Keyword::Rec => Kind::Rec,
+        Keyword::Then => Kind::Then,
+        Keyword::True => Kind::True,
+        Keyword::Type => Kind::Type,
+        Keyword::With => Kind::With,
+        Keyword::Unused => Kind::Reserved,
     }
-}
-
-fn binding_kind(word: &[u8], other: Kind) -> Kind
-    ensures { result ≡ kind_among binding_words other word.now }
-{
-    match word {
-        b"fun" => Kind::Fun,
-        b"in" => Kind::In,
-        b"let" => Kind::Let,
-        b"of" => Kind::Of,
-        b"rec" => Kind::Rec,
-        b"type" => Kind::Type,
-        _ => other,
-    }
-}
-
-fn branch_kind(word: &[u8], other: Kind) -> Kind
-    ensures { result ≡ kind_among branch_words other word.now }
-{
-    match word {
-        b"begin" => Kind::Begin,
-        b"else" => Kind::Else,
-        b"end" => Kind::End,
-        b"if" => Kind::If,
-        b"match" => Kind::Match,
-        b"then" => Kind::Then,
-        b"with" => Kind::With,
-        _ => other,
-    }
-}
-
-fn heading_kind(word: &[u8], other: Kind) -> Kind
-    ensures { result ≡ kind_among heading_words other word.now }
-{
-    if word == b"measure".as_slice() {
-        Kind::Measure
-    } else if word == b"qualif".as_slice() {
-        Kind::Qualif
-    } else {
-        other
-    }
-}
-
-fn keyword_kind(word: &[u8]) -> Kind
-    ensures { result ≡ keyword_kind word.now }
-{
-    let heading = heading_kind(word, Kind::Reserved);
-    operator_kind(word, binding_kind(word, branch_kind(word, heading)))
 }
 
 fn symbol_kind(word: &[u8]) -> Kind
@@ -135,7 +97,7 @@ fn terminal(kind: TokenKind, word: &[u8]) -> Kind
                 Kind::LimitNumber
             }
         }
-        TokenKind::Keyword => keyword_kind(word),
+        TokenKind::Keyword(keyword) => keyword_kind(keyword),
         TokenKind::Symbol => symbol_kind(word),
     }
 }

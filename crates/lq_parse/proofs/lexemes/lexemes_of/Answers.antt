@@ -4,17 +4,17 @@ use Rattle.std.proofs.lemmas.Option.{slice_get_within}
 use Rattle.lq_action.specs.Value.{Lexeme}
 use Rattle.lq_lex.specs.Reading.{tokens_of}
 use Rattle.lq_lex.specs.declared.token.Token.{Token}
-use Rattle.lq_parse.specs.Lexemes.{HasNameBytes, NameFits}
+use Rattle.lq_parse.specs.Lexemes.{HasNameBytes, ContentFits}
 use Rattle.lq_parse.specs.Terminals.{bytes_of}
 use Rattle.lq_parse.specs.Trees.{with_name, with_names}
-use Rattle.lq_action.specs.Views.{lexeme_view}
+use Rattle.lq_action.specs.Views.{content_view, lexeme_view}
 use Rattle.lq_parse.proofs.Lexed.{tokens_are, one_token, tokens_within}
 use Rattle.lq_parse.proofs.Numbered.{IsLexeme, AreLexemes, more_lexemes, more_names, kept_names, few_names, lexemes_are}
 use Rattle.lq_parse.proofs.Takes.{past_all, map-one}
 use Rattle.lq_parse.proofs.lexemes.lexemes_of.Goals as goal
 
-pub name_of-requires-clause-room : goal.name_of-requires-clause-room
-name_of-requires-clause-room c =
+pub content_of-requires-clause-room : goal.content_of-requires-clause-room
+content_of-requires-clause-room c =
     let few = tokens_within c.args.kind c.args.text.now (tokens_of c.args.tokens.now) c.requires.tokens in
     let small = c.requires.small in
     let room = c.requires.room in
@@ -22,8 +22,8 @@ name_of-requires-clause-room c =
     let added = c.loop-token.invariant.added in
     omega arith
 
-pub name_of-requires-clause-ascii : goal.name_of-requires-clause-ascii
-name_of-requires-clause-ascii c =
+pub content_of-requires-clause-ascii : goal.content_of-requires-clause-ascii
+content_of-requires-clause-ascii c =
     let got : slice_get (tokens_of c.args.tokens.now) c.loop-token.at ≡ Some c.in-Some.token.now = sym c.in-Some.ensures in
     let one = one_token c.args.text.now (tokens_of c.args.tokens.now) c.loop-token.at c.in-Some.token.now (tokens_are c.args.kind c.args.text.now (tokens_of c.args.tokens.now) c.requires.tokens) got in
     subst (λ (w : List ℕ). HasNameBytes c.in-Some.token.now.kind w) (sym c.bytes_of.ensures) one.name
@@ -32,7 +32,7 @@ pub returns-in_err-push-clause-added : goal.returns-in_err-push-clause-added
 returns-in_err-push-clause-added c =
     let got : slice_get (tokens_of c.args.tokens.now) c.loop-token.at ≡ Some c.in-Some.token.now = sym c.in-Some.ensures in
     let within = slice_get_within (tokens_of c.args.tokens.now) c.loop-token.at c.in-Some.token.now got in
-    let few = few_names c.in-Some.token.now.kind c.bytes_of.result.now c.loop-token.names c.name_of.new.names c.in_ok-name.ensures.names in
+    let few = few_names c.in-Some.token.now.kind c.bytes_of.result.now c.loop-token.names c.content_of.new.names c.in_ok-content.ensures.names in
     let added = c.loop-token.invariant.added in
     omega arith
 
@@ -49,21 +49,21 @@ loop-token-preserved c =
     let got : slice_get (tokens_of c.args.tokens.now) c.loop-token.at ≡ Some c.in-Some.token.now = sym c.in-Some.ensures in
     let within = slice_get_within (tokens_of c.args.tokens.now) c.loop-token.at c.in-Some.token.now got in
     let word : c.bytes_of.result.now ≡ bytes_of c.args.text.now c.in-Some.token.now = c.bytes_of.ensures in
-    let names : c.name_of.new.names ≡ with_name c.in-Some.token.now.kind (bytes_of c.args.text.now c.in-Some.token.now) c.loop-token.names = c.in_ok-name.ensures.names ∙ ap (λ (w : List ℕ). with_name c.in-Some.token.now.kind w c.loop-token.names) word in
-    let number : NameFits c.name_of.new.names c.in-Some.token.now.kind (bytes_of c.args.text.now c.in-Some.token.now) c.in_ok-name.name.0 = subst (λ (w : List ℕ). NameFits c.name_of.new.names c.in-Some.token.now.kind w c.in_ok-name.name.0) word c.in_ok-name.ensures.number in
-    let lexeme : Lexeme = record { place = c.in-Some.token.now.place; name = c.in_ok-name.name.0; value = c.value_of.result } in
-    let one : IsLexeme c.name_of.new.names c.args.text.now c.in-Some.token.now lexeme = record { place = refl; value = c.value_of.ensures; name = number } in
-    let more = more_lexemes c.args.text.now (tokens_of c.args.tokens.now) c.loop-token.at c.in-Some.token.now c.loop-token.names c.name_of.new.names (map lexeme_view c.loop-token.lexemes.items) lexeme got names c.loop-token.invariant.lexemes one in
-    let pushed : map lexeme_view c.push.new.self.items ≡ map lexeme_view c.loop-token.lexemes.items ++ lexeme ∷ [] = ap (map lexeme_view) c.in_ok-push.ensures.items ∙ map-one lexeme_view c.loop-token.lexemes.items (record { place = c.in-Some.token.now.place; name = c.in_ok-name.name; value = c.value_of.result }) in
-    let few = few_names c.in-Some.token.now.kind (bytes_of c.args.text.now c.in-Some.token.now) c.loop-token.names c.name_of.new.names names in
+    let names : c.content_of.new.names ≡ with_name c.in-Some.token.now.kind (bytes_of c.args.text.now c.in-Some.token.now) c.loop-token.names = c.in_ok-content.ensures.names ∙ ap (λ (w : List ℕ). with_name c.in-Some.token.now.kind w c.loop-token.names) word in
+    let content : ContentFits c.content_of.new.names c.in-Some.token.now.kind (bytes_of c.args.text.now c.in-Some.token.now) (content_view c.in_ok-content.content) = subst (λ (w : List ℕ). ContentFits c.content_of.new.names c.in-Some.token.now.kind w (content_view c.in_ok-content.content)) word c.in_ok-content.ensures.content in
+    let lexeme : Lexeme = record { place = c.in-Some.token.now.place; content = content_view c.in_ok-content.content } in
+    let one : IsLexeme c.content_of.new.names c.args.text.now c.in-Some.token.now lexeme = record { place = refl; content = content } in
+    let more = more_lexemes c.args.text.now (tokens_of c.args.tokens.now) c.loop-token.at c.in-Some.token.now c.loop-token.names c.content_of.new.names (map lexeme_view c.loop-token.lexemes.items) lexeme got names c.loop-token.invariant.lexemes one in
+    let pushed : map lexeme_view c.push.new.self.items ≡ map lexeme_view c.loop-token.lexemes.items ++ lexeme ∷ [] = ap (map lexeme_view) c.in_ok-push.ensures.items ∙ map-one lexeme_view c.loop-token.lexemes.items (record { place = c.in-Some.token.now.place; content = c.in_ok-content.content }) in
+    let few = few_names c.in-Some.token.now.kind (bytes_of c.args.text.now c.in-Some.token.now) c.loop-token.names c.content_of.new.names names in
     let added = c.loop-token.invariant.added in
     record {
       within = omega arith;
-      lexemes = subst (λ (ls : List Lexeme). AreLexemes c.name_of.new.names c.args.text.now (take (c.loop-token.at + 1) (tokens_of c.args.tokens.now)) ls) (sym pushed) more;
-      names = more_names c.args.text.now (tokens_of c.args.tokens.now) c.loop-token.at c.in-Some.token.now c.loop-token.names c.name_of.new.names c.args.names.now got c.loop-token.invariant.names names;
-      kept = kept_names c.in-Some.token.now.kind (bytes_of c.args.text.now c.in-Some.token.now) c.args.names.now c.loop-token.names c.name_of.new.names names c.loop-token.invariant.kept;
+      lexemes = subst (λ (ls : List Lexeme). AreLexemes c.content_of.new.names c.args.text.now (take (c.loop-token.at + 1) (tokens_of c.args.tokens.now)) ls) (sym pushed) more;
+      names = more_names c.args.text.now (tokens_of c.args.tokens.now) c.loop-token.at c.in-Some.token.now c.loop-token.names c.content_of.new.names c.args.names.now got c.loop-token.invariant.names names;
+      kept = kept_names c.in-Some.token.now.kind (bytes_of c.args.text.now c.in-Some.token.now) c.args.names.now c.loop-token.names c.content_of.new.names names c.loop-token.invariant.kept;
       added = omega arith;
-      table = c.in_ok-name.ensures.table;
+      table = c.in_ok-content.ensures.table;
     }
 
 pub returns-clause-ok : goal.returns-clause-ok

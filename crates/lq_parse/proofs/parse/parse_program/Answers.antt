@@ -6,25 +6,27 @@ use Rattle.lq_lex.specs.Reading.{tokens_of}
 use Rattle.lq_action.specs.Making.{making_view}
 use Rattle.lq_parse.specs.Trees.{IsRead}
 use Rattle.lq_parse.proofs.Lexed.{tokens_within}
+use Rattle.lq_parse.proofs.Outcomes.{still_read}
 use Rattle.lq_parse.proofs.Readings.{made_program_row, made_program_few, made_program_stands}
 use Rattle.lq_parse.proofs.parse.parse_program.Goals as goal
 
 pub new-requires : goal.new-requires
 new-requires c =
-    let row = made_program_row c.readings_make_texts.ensures.program c.args.text.now c.built.new.names (tokens_of c.args.tokens.now) (making_view c.in_ok-builder.builder) (parsed_items c.in-Ok.row.items) _ c.requires.tokens c.in_ok-builder.ensures.ok c.in-Ok.ensures.ok in
+    let row = made_program_row c.readings_make_texts.ensures.program c.args.text.now c.built.new.names (tokens_of c.args.tokens.now) (making_view c.in_ok-builder.builder) (parsed_items c.in-Ok.row.items) _ c.requires.tokens c.in_ok-builder.ensures.parsed.ok c.in-Ok.ensures.ok in
     row.0
 
 pub unreachable-requires : goal.unreachable-requires
-unreachable-requires c = made_program_stands c.readings_make_texts.ensures.program c.args.text.now c.built.new.names (tokens_of c.args.tokens.now) (making_view c.in_ok-builder.builder) c.requires.tokens c.in_ok-builder.ensures.ok c.in-Err.ensures.misfit
+unreachable-requires c = made_program_stands c.readings_make_texts.ensures.program c.args.text.now c.built.new.names (tokens_of c.args.tokens.now) (making_view c.in_ok-builder.builder) c.requires.tokens c.in_ok-builder.ensures.parsed.ok c.in-Err.ensures.misfit
 
-pub returns-clause-ok : goal.returns-clause-ok
-returns-clause-ok c =
-    let row = made_program_row c.readings_make_texts.ensures.program c.args.text.now c.built.new.names (tokens_of c.args.tokens.now) (making_view c.in_ok-builder.builder) (parsed_items c.in-Ok.row.items) _ c.requires.tokens c.in_ok-builder.ensures.ok c.in-Ok.ensures.ok in
-    subst (λ (r : List ItemTree). IsRead kind.Program c.args.text.now c.built.new.names (tokens_of c.args.tokens.now) (items r)) (sym c.new.ensures) row.1
+pub returns-clause-parsed : goal.returns-clause-parsed
+returns-clause-parsed c =
+    let row = made_program_row c.readings_make_texts.ensures.program c.args.text.now c.built.new.names (tokens_of c.args.tokens.now) (making_view c.in_ok-builder.builder) (parsed_items c.in-Ok.row.items) _ c.requires.tokens c.in_ok-builder.ensures.parsed.ok c.in-Ok.ensures.ok in
+    let read = subst (λ (r : List ItemTree). IsRead kind.Program c.args.text.now c.built.new.names (tokens_of c.args.tokens.now) (items r)) (sym c.new.ensures) row.1 in
+    still_read kind.Program c.args.text.now c.args.tokens.now c.args.names.now c.built.new.names _ _ c.in_ok-builder.builder c.new.result c.in_ok-builder.ensures.parsed read
 
 pub returns-clause-count : goal.returns-clause-count
 returns-clause-count c =
-    let few = made_program_few c.readings_make_texts.ensures.program c.few_items.ensures c.args.text.now c.built.new.names (tokens_of c.args.tokens.now) (making_view c.in_ok-builder.builder) (parsed_items c.in-Ok.row.items) _ c.requires.tokens c.in_ok-builder.ensures.ok c.in-Ok.ensures.ok in
+    let few = made_program_few c.readings_make_texts.ensures.program c.few_items.ensures c.args.text.now c.built.new.names (tokens_of c.args.tokens.now) (making_view c.in_ok-builder.builder) (parsed_items c.in-Ok.row.items) _ c.requires.tokens c.in_ok-builder.ensures.parsed.ok c.in-Ok.ensures.ok in
     let tokens = tokens_within kind.Program c.args.text.now (tokens_of c.args.tokens.now) c.requires.tokens in
     let small = c.requires.small in
     let same = ap length c.new.ensures in
