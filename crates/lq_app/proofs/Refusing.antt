@@ -1,5 +1,5 @@
 -- Texts that are not judged, and the lines on refusals.
-use Rattle.std.proofs.Common.{◌≡◌, ◌⊎◌, inl, inr, ℕ, suc, ◌<◌, List, [], ◌∷◌, length, Some, None, Result, Err, refl, sym, ap, subst, ◌∙◌, arith}
+use Rattle.std.proofs.Common.{◌≡◌, ◌⊎◌, inl, inr, ℕ, suc, List, [], ◌∷◌, length, Some, None, Result, Err, refl, sym, ap, subst, ◌∙◌}
 use Rattle.lq_lex.specs.Places.{place_at}
 use Rattle.lq_lex.specs.Reading.{IsTokens, HasFault}
 use Rattle.lq_lex.specs.declared.error.LexError.{LexError}
@@ -13,7 +13,6 @@ use Rattle.lq_parse.specs.declared.error.ParseError.TheVariants as parsing
 use Rattle.lq_report.specs.Refusals.{code_of, refusal_line}
 use Rattle.lq_report.specs.Stages.{Then}
 use Rattle.lq_report.specs.declared.refused.Refused.{Refused}
-use Rattle.lq_report.specs.declared.refused.Refused.TheVariants.{At}
 use Rattle.lq_straight.specs.Forms as form
 use Rattle.lq_straight.specs.Forms.{Found, then_found, item_in, items_in}
 use Rattle.lq_straight.specs.declared.item.Item.{Item}
@@ -24,7 +23,7 @@ use Rattle.lq_app.specs.declared.stages.NotJudged.TheVariants as not_judged
 use Rattle.lq_app.specs.declared.verdict.Refusal.{Refusal}
 use Rattle.lq_app.specs.declared.verdict.Refusal.TheVariants as refusal
 use Rattle.lq_app.specs.NotJudged.{IsOf, IsBy}
-use Rattle.lq_app.specs.Stages.{fault_refusal, stop_refusal, ParsesTo, RecognisesTo, ResolvesTo}
+use Rattle.lq_app.specs.Stages.{fault_refusal, stop_refusal, ParsesTo, ResolvesTo}
 use Rattle.lq_app.specs.Judgement.{IsJudgement}
 use Rattle.lq_app.specs.Report.{IsVerdict}
 use Rattle.lq_app.specs.declared.status.Status.TheVariants.{Refused as RefusedStatus}

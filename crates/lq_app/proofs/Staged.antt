@@ -12,6 +12,7 @@ use Rattle.lq_grammar.specs.declared.symbol.Event.{Event}
 use Rattle.lq_lex.specs.Places.{place_at}
 use Rattle.lq_lex.specs.Reading.{HasOneReading}
 use Rattle.lq_lex.specs.declared.token.Token.{Token}
+use Rattle.lq_name.specs.declared.limits.TheConstants.{LEVEL_LIMIT}
 use Rattle.lq_name.specs.declared.name.Binder.{Binder}
 use Rattle.lq_name.specs.declared.place.Place.{Place}
 use Rattle.lq_name.specs.declared.place.TextKind.TheVariants as kind
@@ -36,11 +37,11 @@ use Rattle.lq_app.specs.Stages.{Parsed, Recognised, Scoped, fault_refusal, IsLex
 pub record Laws : Type 0 where
   pub lexing : (text : List ℕ) → HasOneReading kind.Program text
   pub tree : (text : List ℕ) (names : List (List ℕ)) (tokens : List Token) (v w : Value) → IsRead kind.Program text names tokens v → IsRead kind.Program text names tokens w → v ≡ w
-  pub stop : (ks : List Kind) (es : List Event) (at : ℕ) → IsText (start_of kind.Program) ks es → levels.IsSyntax (start_of kind.Program) 250 ks at → ⊥
-  pub deep : (ks : List Kind) (at : ℕ) → IsShallow (start_of kind.Program) 250 ks (length ks) → levels.IsTooDeep (start_of kind.Program) 250 ks at → ⊥
-  pub one : (ks : List Kind) (at to : ℕ) → levels.IsSyntax (start_of kind.Program) 250 ks at → levels.IsTooDeep (start_of kind.Program) 250 ks to → ⊥
-  pub stops : (ks : List Kind) (at to : ℕ) → levels.IsSyntax (start_of kind.Program) 250 ks at → levels.IsSyntax (start_of kind.Program) 250 ks to → at ≡ to
-  pub depths : (ks : List Kind) (at to : ℕ) → levels.IsTooDeep (start_of kind.Program) 250 ks at → levels.IsTooDeep (start_of kind.Program) 250 ks to → at ≡ to
+  pub stop : (ks : List Kind) (es : List Event) (at : ℕ) → IsText (start_of kind.Program) ks es → levels.IsSyntax (start_of kind.Program) LEVEL_LIMIT ks at → ⊥
+  pub deep : (ks : List Kind) (at : ℕ) → IsShallow (start_of kind.Program) LEVEL_LIMIT ks (length ks) → levels.IsTooDeep (start_of kind.Program) LEVEL_LIMIT ks at → ⊥
+  pub one : (ks : List Kind) (at to : ℕ) → levels.IsSyntax (start_of kind.Program) LEVEL_LIMIT ks at → levels.IsTooDeep (start_of kind.Program) LEVEL_LIMIT ks to → ⊥
+  pub stops : (ks : List Kind) (at to : ℕ) → levels.IsSyntax (start_of kind.Program) LEVEL_LIMIT ks at → levels.IsSyntax (start_of kind.Program) LEVEL_LIMIT ks to → at ≡ to
+  pub depths : (ks : List Kind) (at to : ℕ) → levels.IsTooDeep (start_of kind.Program) LEVEL_LIMIT ks at → levels.IsTooDeep (start_of kind.Program) LEVEL_LIMIT ks to → at ≡ to
   pub scope : IsOneScope
   pub unknown : IsOneUnknown
   pub either : IsUnknownOrResolved

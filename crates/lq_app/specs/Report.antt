@@ -2,6 +2,7 @@
 use Rattle.std.specs.Prelude.{◌≡◌, ◌⊎◌, ◌<◌, ◌≤◌, ◌-◌, ◌^◌, ℕ, List, [], ◌++◌, length, Option, Some, None, Ok, Err, codes}
 use Rattle.lq_io.specs.Causes.{Rose}
 use Rattle.lq_io.specs.Folder.{Files}
+use Rattle.lq_app.specs.declared.answer.TheConstants.{FILE_LIMIT}
 use Rattle.lq_app.specs.declared.verdict.Judgement.TheVariants as judgement
 use Rattle.lq_app.specs.declared.verdict.Refusal.TheVariants.{Code}
 use Rattle.lq_app.specs.Judgement.{IsJudgement, IsPastNumber, RejectAlike}
@@ -31,19 +32,15 @@ pub record IsAbsent (v : Visit) (name : List ℕ) : Type 0 where
   pub calm : v.failures_now ≡ v.failures
   pub lacks : (held : Files) → v.files ≡ Some held → held name ≡ None
 
--- the greatest number of bytes of a file, a mebibyte
-abbrev pub most_bytes : ℕ
-most_bytes = 1048576
-
 -- the folder didn't fail, and has a longer file where it tells
 pub record IsTooLong (v : Visit) (name : List ℕ) : Type 0 where
   pub calm : v.failures_now ≡ v.failures
-  pub longer : (held : Files) → v.files ≡ Some held → (bytes : List ℕ) × (held name ≡ Some bytes) × (most_bytes < length bytes)
+  pub longer : (held : Files) → v.files ≡ Some held → (bytes : List ℕ) × (held name ≡ Some bytes) × (FILE_LIMIT < length bytes)
 
 -- the folder didn't fail, and the text is what it has under the name where it tells
 pub record IsHanded (v : Visit) (name text : List ℕ) : Type 0 where
   pub calm : v.failures_now ≡ v.failures
-  pub bound : length text ≤ most_bytes
+  pub bound : length text ≤ FILE_LIMIT
   pub holds : (held : Files) → v.files ≡ Some held → held name ≡ Some text
 
 abbrev pub file_line : List ℕ → List ℕ → List ℕ

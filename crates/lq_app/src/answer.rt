@@ -1,7 +1,8 @@
 // What is due, status and report.
 ghost use Rattle.std.specs.Prelude.{◌≡◌, ◌⊎◌, ◌≤◌, ℕ, List, length, Err, IfOk, codes};
+ghost use Rattle.lq_app.specs.declared.answer.TheConstants.{FILE_LIMIT};
 ghost use Rattle.lq_app.specs.Judgement.{IsJudgement};
-ghost use Rattle.lq_app.specs.Report.{visit, most_bytes, IsVerdict, IsDue};
+ghost use Rattle.lq_app.specs.Report.{visit, IsVerdict, IsDue};
 
 use crate::report::{file_report, usage_report};
 use crate::{Judgement, Refusal, Status, Words, judge};
@@ -9,8 +10,8 @@ use lq_io::{FetchError, Folder};
 use lq_name::TextBuf;
 use std::alloc::{AllocError, Global};
 
-// The greatest number of bytes of a file.
-const LIMIT: usize = 1 << 20;
+/// The greatest number of bytes of a file, a mebibyte.
+pub const FILE_LIMIT: usize = 1 << 20;
 
 // The pivots that a check of the tableau may take where the words don't say.
 const PIVOTS: u64 = 67_108_864;
@@ -53,7 +54,7 @@ fn refused(refusal: Refusal) -> Result<Answer, AllocError>
 
 // The verdict on a text.
 fn verdict_on(alloc: Global, text: &[u8]) -> Result<Answer, AllocError>
-    requires { length text.now ≤ most_bytes }
+    requires { length text.now ≤ FILE_LIMIT }
     ensures { IfOk result (λ r. IsVerdict text.now r.status r.report) }
 {
     match judge(alloc, text, &[], &[], PIVOTS) {
@@ -80,7 +81,7 @@ pub(crate) fn answer_to<F: Folder>(
         });
     };
     let mut text = Vec::new(alloc);
-    let what = match folder.fetch(name, LIMIT, &mut text) {
+    let what = match folder.fetch(name, FILE_LIMIT, &mut text) {
         Ok(()) => return verdict_on(alloc, &text),
         Err(FetchError::Memory) => return Err(AllocError),
         Err(FetchError::Absent) => b"absent ".as_slice(),

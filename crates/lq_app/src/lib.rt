@@ -14,6 +14,7 @@ mod texts;
 mod verdict;
 mod words;
 
+pub use answer::FILE_LIMIT;
 pub use laws::{one_judgement, one_report};
 pub use run::run_words;
 pub use status::Status;

@@ -1,6 +1,7 @@
 // The stages in which a text is judged: its tokens, its trees, its straight-line items, and these with their names bound.
 ghost use Rattle.std.specs.Prelude.{◌≡◌, ◌≤◌, ◌<◌, ◌^◌, ℕ, List, length, Ok, IfOk, IfErr};
 ghost use Rattle.lq_app.specs.declared.stages.NotJudged.TheVariants.{Memory};
+ghost use Rattle.lq_lex.specs.declared.limits.TheConstants.{TEXT_LIMIT};
 ghost use Rattle.lq_straight.specs.Uses.{AreSmall};
 ghost use Rattle.lq_tree.specs.Texts.{program_view};
 ghost use Rattle.lq_app.specs.Stages.{fault_refusal, stop_refusal, parsed_with, ParsesTo, RecognisesTo, ResolvesTo, IsReadAs, IsBoundAs};
@@ -67,7 +68,7 @@ fn no_program(error: ParseError) -> NotJudged
 
 // The tree of the text.
 fn program_of(alloc: Global, text: &[u8]) -> Result<Parsed, NotJudged>
-    requires { length text.now ≤ 2 ^ 24 }
+    requires { length text.now ≤ TEXT_LIMIT }
     ensures ok { IfOk result (λ p. ParsesTo text.now (Ok (parsed_with (program_view p.program) p.names))) }
     ensures count { IfOk result (λ p. length (program_view p.program) < 2 ^ 32) }
     ensures refused { IfErr result (λ e. IsBy (ParsesTo text.now) e) }
@@ -85,7 +86,7 @@ fn program_of(alloc: Global, text: &[u8]) -> Result<Parsed, NotJudged>
 
 // The items of the text, where all of its forms are judged.
 pub(crate) fn source_of(alloc: Global, text: &[u8]) -> Result<Source, NotJudged>
-    requires { length text.now ≤ 2 ^ 24 }
+    requires { length text.now ≤ TEXT_LIMIT }
     ensures ok { IfOk result (λ s. IsReadAs text.now s.names s.items.items) }
     ensures small { IfOk result (λ s. AreSmall s.items.items) }
     ensures count { IfOk result (λ s. length s.items.items < 2 ^ 32) }

@@ -3,6 +3,7 @@ ghost use Rattle.std.specs.Prelude.{◌≡◌, ◌⊎◌, ◌≤◌, ◌<◌, �
 ghost use Rattle.lq_app.specs.declared.verdict.Judgement.{Judgement};
 ghost use Rattle.lq_app.specs.declared.verdict.Refusal.{Refusal};
 ghost use Rattle.lq_app.specs.declared.verdict.Refusal.TheVariants.{Memory};
+ghost use Rattle.lq_lex.specs.declared.limits.TheConstants.{TEXT_LIMIT};
 ghost use Rattle.lq_num.specs.Past.{IsPast};
 ghost use Rattle.lq_pred.specs.PredView.{formula_of};
 ghost use Rattle.lq_demand.specs.Answer.{IsFirstUngathered, IsFirstLarge};
@@ -79,7 +80,7 @@ pub fn judge(
     quals: &[u8],
     limit: u64,
 ) -> Result<Judgement, Refusal>
-    requires program { length program.now ≤ 2 ^ 24 }
+    requires program { length program.now ≤ TEXT_LIMIT }
     requires measures { measures.now ≡ [] }
     requires quals { quals.now ≡ [] }
     // An accepted program is safe.
@@ -117,7 +118,7 @@ fn refusal_of(alloc: Global, refused: &Refused) -> Refusal
 
 // Judges the text, and reports what it is refused for.
 fn reported(alloc: Global, text: &[u8]) -> Result<Judgement, Refusal>
-    requires { length text.now ≤ 2 ^ 24 }
+    requires { length text.now ≤ TEXT_LIMIT }
     ensures { (result ≡ Err Refusal.Memory) ⊎ IsJudgement text.now result }
 {
     match judge_program(alloc, text) {
@@ -128,7 +129,7 @@ fn reported(alloc: Global, text: &[u8]) -> Result<Judgement, Refusal>
 }
 
 fn judge_program(alloc: Global, text: &[u8]) -> Result<Judgement, NotJudged>
-    requires { length text.now ≤ 2 ^ 24 }
+    requires { length text.now ≤ TEXT_LIMIT }
     ensures ok { IfOk result (λ j. IsJudgement text.now (Ok j)) }
     ensures refused { IfErr result (λ e. IsBy (ResolvesTo text.now) e) }
 {

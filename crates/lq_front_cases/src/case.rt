@@ -4,6 +4,7 @@ use crate::notation::written;
 use crate::readings::reading;
 use crate::tokens::{end_of, tokens_of};
 use crate::trees::{check, copies_of, free_names_of, tree_of};
+use lq_lex::TEXT_LIMIT;
 use lq_name::TextKind;
 use std::alloc::{AllocError, Global};
 
@@ -39,7 +40,7 @@ pub(crate) fn answer(alloc: Global, line: &str) -> Result<String, AllocError> {
         return reading(alloc, kind, limit, words);
     }
     let text = written(alloc, rest)?;
-    if text.len() > 1 << 24 {
+    if text.len() > TEXT_LIMIT {
         return String::from_str(alloc, "too long");
     }
     match question {

@@ -1,5 +1,6 @@
 // Tokens as words: a letter for the kind, the place, and behind `=` the bytes, or behind `#` the value of a number.
-ghost use Rattle.std.specs.Prelude.{◌≤◌, ◌^◌, length};
+ghost use Rattle.std.specs.Prelude.{◌≤◌, length};
+ghost use Rattle.lq_lex.specs.declared.limits.TheConstants.{TEXT_LIMIT};
 
 use lq_lex::{LexError, Token, TokenKind, Tokens, lex};
 use lq_name::{Place, TextKind};
@@ -11,7 +12,7 @@ fn letter(kind: TokenKind) -> &'static str {
         TokenKind::Upper => "u",
         TokenKind::TypeVar => "t",
         TokenKind::Number(_) => "n",
-        TokenKind::Keyword => "k",
+        TokenKind::Keyword(_) => "k",
         TokenKind::Symbol => "s",
     }
 }
@@ -64,7 +65,7 @@ fn all_tokens(alloc: Global, text: &[u8], tokens: &Tokens) -> Result<String, All
 
 // The tokens of a text, or its first fault.
 pub(crate) fn tokens_of(alloc: Global, text: &[u8], kind: TextKind) -> Result<String, AllocError>
-    requires { length text.now ≤ 2 ^ 24 }
+    requires { length text.now ≤ TEXT_LIMIT }
 {
     match lex(alloc, text, kind) {
         Ok(tokens) => all_tokens(alloc, text, &tokens),
@@ -82,7 +83,7 @@ const fn kind_word(kind: TextKind) -> &'static str {
 
 // The place behind a text, and whether it has tokens.
 pub(crate) fn end_of(alloc: Global, text: &[u8], kind: TextKind) -> Result<String, AllocError>
-    requires { length text.now ≤ 2 ^ 24 }
+    requires { length text.now ≤ TEXT_LIMIT }
 {
     let tokens = match lex(alloc, text, kind) {
         Ok(tokens) => tokens,

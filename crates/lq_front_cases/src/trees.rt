@@ -1,6 +1,7 @@
 // Stops, trees and names of texts.
-ghost use Rattle.std.specs.Prelude.{◌≤◌, ◌^◌, length};
+ghost use Rattle.std.specs.Prelude.{◌≤◌, length};
 ghost use Rattle.lq_lex.specs.Reading.{IsTokens, tokens_of};
+ghost use Rattle.lq_lex.specs.declared.limits.TheConstants.{TEXT_LIMIT};
 ghost use Rattle.lq_name.specs.declared.place.TextKind.TheVariants as kind;
 
 use crate::printer::{Work, print};
@@ -22,7 +23,7 @@ fn refusal(alloc: Global, error: ParseError) -> Result<String, AllocError> {
 
 // Whether the text is one of its kind, or where it stops.
 pub(crate) fn check(alloc: Global, text: &[u8], kind: TextKind) -> Result<String, AllocError>
-    requires { length text.now ≤ 2 ^ 24 }
+    requires { length text.now ≤ TEXT_LIMIT }
 {
     let tokens = match lex(alloc, text, kind) {
         Ok(tokens) => tokens,
@@ -36,7 +37,7 @@ pub(crate) fn check(alloc: Global, text: &[u8], kind: TextKind) -> Result<String
 
 // The tree of the tokens of a program.
 fn program_tree(alloc: Global, tokens: &Tokens, text: &[u8]) -> Result<String, AllocError>
-    requires small { length text.now ≤ 2 ^ 24 }
+    requires small { length text.now ≤ TEXT_LIMIT }
     requires tokens { IsTokens kind.Program text.now (tokens_of tokens.now) }
 {
     let mut names = NameTable::new(alloc)?;
@@ -53,7 +54,7 @@ fn program_tree(alloc: Global, tokens: &Tokens, text: &[u8]) -> Result<String, A
 
 // The tree of the tokens of qualifiers.
 fn qualifiers_tree(alloc: Global, tokens: &Tokens, text: &[u8]) -> Result<String, AllocError>
-    requires small { length text.now ≤ 2 ^ 24 }
+    requires small { length text.now ≤ TEXT_LIMIT }
     requires tokens { IsTokens kind.Quals text.now (tokens_of tokens.now) }
 {
     let mut names = NameTable::new(alloc)?;
@@ -70,7 +71,7 @@ fn qualifiers_tree(alloc: Global, tokens: &Tokens, text: &[u8]) -> Result<String
 
 // The tree of the tokens of measures.
 fn measures_tree(alloc: Global, tokens: &Tokens, text: &[u8]) -> Result<String, AllocError>
-    requires small { length text.now ≤ 2 ^ 24 }
+    requires small { length text.now ≤ TEXT_LIMIT }
     requires tokens { IsTokens kind.Measures text.now (tokens_of tokens.now) }
 {
     let mut names = NameTable::new(alloc)?;
@@ -87,7 +88,7 @@ fn measures_tree(alloc: Global, tokens: &Tokens, text: &[u8]) -> Result<String, 
 
 // The tree of the text.
 pub(crate) fn tree_of(alloc: Global, text: &[u8], kind: TextKind) -> Result<String, AllocError>
-    requires { length text.now ≤ 2 ^ 24 }
+    requires { length text.now ≤ TEXT_LIMIT }
 {
     let tokens = match lex(alloc, text, kind) {
         Ok(tokens) => tokens,
@@ -129,7 +130,7 @@ fn put_copy(
 
 // Copies of what the items of a program define.
 pub(crate) fn copies_of(alloc: Global, text: &[u8]) -> Result<String, AllocError>
-    requires { length text.now ≤ 2 ^ 24 }
+    requires { length text.now ≤ TEXT_LIMIT }
 {
     let tokens = match lex(alloc, text, TextKind::Program) {
         Ok(tokens) => tokens,
@@ -170,7 +171,7 @@ fn put_free_names(
 
 // The names that are free in the expressions of the program's definitions.
 pub(crate) fn free_names_of(alloc: Global, text: &[u8]) -> Result<String, AllocError>
-    requires { length text.now ≤ 2 ^ 24 }
+    requires { length text.now ≤ TEXT_LIMIT }
 {
     let tokens = match lex(alloc, text, TextKind::Program) {
         Ok(tokens) => tokens,

@@ -1,4 +1,5 @@
 // The straight-line items of a text, with their names bound.
+use lq_app::FILE_LIMIT;
 use lq_lex::lex;
 use lq_name::{Binder, TextKind};
 use lq_parse::parse_program;
@@ -91,7 +92,7 @@ fn bound_text(alloc: Global, items: &[Item<NameAt>]) -> Result<String, AllocErro
 
 /// The items of the text, or what keeps it from having some.
 pub(crate) fn items_text(alloc: Global, text: &[u8]) -> Result<String, AllocError> {
-    if text.len() > 1 << 20 {
+    if text.len() > FILE_LIMIT {
         return String::from_str(alloc, "too long");
     }
     let Ok(tokens) = lex(alloc, text, TextKind::Program) else {

@@ -11,15 +11,15 @@ returns-in-Err-clause-refused c = no_tokens_due c.args.text.now c.in-Err.error c
 pub returns-in-Ok-parse_program-clause-ok : goal.returns-in-Ok-parse_program-clause-ok
 returns-in-Ok-parse_program-clause-ok c =
     let tokens = tokens_of c.in-Ok.tokens in
-    let names = c.in-Ok-parse_program.ensures.names ∙ ap (with_names c.args.text.now tokens) c.in_ok-names.ensures in
-    (tokens, c.in-Ok.ensures.found, (names, c.in-Ok-parse_program.ensures.ok))
+    let names = c.in-Ok-parse_program.ensures.parsed.names ∙ ap (with_names c.args.text.now tokens) c.in_ok-names.ensures in
+    (tokens, c.in-Ok.ensures.found, (names, c.in-Ok-parse_program.ensures.parsed.ok))
 
 pub returns-clause-refused : goal.returns-clause-refused
 returns-clause-refused c = no_program_due c.args.text.now (tokens_of c.in-Ok.tokens) (end_place_of c.in-Ok.tokens) c.in-Err-parse_program.error c.no_program.result
     (record {
       are_tokens = c.in-Ok.ensures.found;
       last = c.in-Ok.ensures.end;
-      syntax = λ p is. c.in-Err-parse_program.ensures.syntax p (ap (λ (e : ParseError). Err e) is);
-      deep = λ p is. c.in-Err-parse_program.ensures.too_deep p (ap (λ (e : ParseError). Err e) is);
+      syntax = λ p is. c.in-Err-parse_program.ensures.parsed.syntax p (ap (λ (e : ParseError). Err e) is);
+      deep = λ p is. c.in-Err-parse_program.ensures.parsed.too_deep p (ap (λ (e : ParseError). Err e) is);
     })
     c.no_program.ensures
