@@ -4,5 +4,5 @@
 mod shape;
 mod walk;
 
-pub use shape::{Leaf, One, Row, Shape, Three, Two};
+pub use shape::{Leaf, One, Row, Shape, Three, Two, shape_of};
 pub use walk::{Visit, Walk};

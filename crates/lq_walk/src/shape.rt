@@ -62,6 +62,7 @@ pub enum Row {
 
 /// A node as a head with its parts, each in the order of the text. What is said or done for each form of a node is said or
 /// done for nine shapes.
+#[derive(Clone, Copy)]
 pub enum Shape<'a, B> {
     Leaf(Leaf<B>),
     One(One, &'a Expr<B>),

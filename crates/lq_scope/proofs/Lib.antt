@@ -1,0 +1,10 @@
+mod Building
+mod Constructing
+mod Defining
+mod Naming
+mod PatternRows
+mod Rows
+mod Scopes
+mod Steps
+mod TypeRows
+mod Walking

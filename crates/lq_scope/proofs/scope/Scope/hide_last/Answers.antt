@@ -1,0 +1,9 @@
+use Rattle.std.proofs.Common.{arith, subst, sym, ap, ◌∙◌, drop, ◌++◌, [], ◌∷◌}
+use Rattle.lq_scope.specs.Views.{IsScope, entries_view}
+use Rattle.lq_scope.proofs.Scopes.{within, popped, dropped_one}
+use Rattle.lq_scope.proofs.scope.Scope.hide_last.Goals as goal
+
+pub index_mut-requires : goal.index_mut-requires
+index_mut-requires c =
+    let more = within c.self.inside.last.items c.pop.new.self.items c.in-Some.entry (subst (IsScope c.self.inside.last.items) c.in-Some.ensures.items c.self.invariant) in
+    omega (arith, more, c.self.inside.last.ok.0)

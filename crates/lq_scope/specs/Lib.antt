@@ -1,0 +1,10 @@
+-- The definitions of scopes.
+pub mod Complaints
+pub mod Datatypes
+pub mod Known
+pub mod Passing
+pub mod Patterns
+pub mod Spots
+pub mod States
+pub mod Uses
+pub mod Views

@@ -1,0 +1,13 @@
+//! Names and what they are bound to: the first that has no definition, or one too many, or the wrong number of arguments.
+#![tactic(auto)]
+
+mod binders;
+mod checker;
+mod complaint;
+mod datatypes;
+mod patterns;
+mod primitives;
+mod scope;
+
+pub use checker::first_complaint;
+pub use complaint::{Cause, Complaint};
