@@ -1,5 +1,5 @@
 -- Each stage of judging has one answer, and so have all of them.
-use Rattle.std.proofs.Common.{◌≡◌, ℕ, List, [], length, Some, Ok, Err, sym, ap, subst, ◌∙◌}
+use Rattle.std.proofs.Common.{◌≡◌, ℕ, List, [], length, Some, None, Ok, Err, sym, ap, subst, ◌∙◌}
 use Rattle.std.proofs.lemmas.List.{length-map}
 use Rattle.lq_action.specs.Value as value
 use Rattle.lq_action.specs.Value.{Value}
@@ -31,7 +31,7 @@ use Rattle.lq_straight.specs.Scope.{IsOneScope, IsOneUnknown, IsUnknownOrResolve
 use Rattle.lq_straight.specs.declared.item.NameAt.{NameAt}
 use Rattle.lq_straight.specs.declared.item.Item.{Item}
 use Rattle.lq_tree.specs.Items.{ItemTree}
-use Rattle.lq_app.specs.Stages.{Parsed, Recognised, Scoped, fault_refusal, IsLexed, stop_refusal, IsStop, IsParsed, IsRecognised, IsResolved, ParsesTo, RecognisesTo, ResolvesTo, parsed_with}
+use Rattle.lq_app.specs.Stages.{Parsed, Recognised, Scoped, fault_refusal, IsLexed, stop_refusal, IsStop, IsParsed, IsNamed, complaint_refusal, IsRecognised, IsResolved, ParsesTo, NamesTo, RecognisesTo, ResolvesTo, parsed_with}
 
 -- the laws of reading and binding
 pub record Laws : Type 0 where
@@ -88,6 +88,15 @@ one_parsed laws text tokens (Err e) (Err f) a b =
     let same : Some e ≡ Some f = sym a.2 ∙ ap stop_refusal (stops_once laws text tokens a.0 b.0 a.1 b.1) ∙ b.2 in
     cc
 
+one_named : HasOneAnswer IsNamed
+one_named p (Ok q) (Ok r) a b = ap (λ (x : Parsed). Ok x) (a.0 ∙ sym b.0)
+one_named p (Ok q) (Err e) a b = absurd (let wrong : None ≡ Some b.0 = sym a.1 ∙ b.1 in cc)
+one_named p (Err e) (Ok q) a b = absurd (let wrong : None ≡ Some a.0 = sym b.1 ∙ a.1 in cc)
+one_named p (Err e) (Err f) a b =
+    let least : Some a.0 ≡ Some b.0 = sym a.1 ∙ b.1 in
+    let complaint : a.0 ≡ b.0 = cc in
+    ap (λ (x : Refused). Err x) (a.2 ∙ ap (complaint_refusal p.names) complaint ∙ sym b.2)
+
 abbrev items_found : Found (List (Item NameAt)) → List (Item NameAt)
 items_found (form.is l) = l
 items_found (form.unbuilt p) = []
@@ -130,4 +139,5 @@ one_tree_of : Laws → HasOneAnswer ParsesTo
 one_tree_of laws text = one_then IsLexed (IsParsed text) (one_lexed laws) (one_parsed laws text) text
 
 pub one_program : Laws → HasOneAnswer ResolvesTo
-one_program laws = one_then RecognisesTo IsResolved (one_then ParsesTo IsRecognised (one_tree_of laws) one_recognised) (one_resolved laws)
+one_program laws =
+    one_then RecognisesTo IsResolved (one_then NamesTo IsRecognised (one_then ParsesTo IsNamed (one_tree_of laws) one_named) one_recognised) (one_resolved laws)

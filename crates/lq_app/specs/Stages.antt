@@ -1,5 +1,6 @@
--- The stages in which a text is judged: its tokens, its trees, its straight-line items, and these with their names bound.
-use Rattle.std.specs.Prelude.{◌≡◌, ℕ, List, length, Option, Some, None, Result, Ok, Err}
+-- The stages in which a text is judged: its tokens, its trees, whose names are looked at, its straight-line items, and these with their
+-- names bound.
+use Rattle.std.specs.Prelude.{◌≡◌, ◌++◌, codes, ℕ, List, length, Option, Some, None, Result, Ok, Err}
 use Rattle.lq_action.specs.Value as value
 use Rattle.lq_lex.specs.Places.{place_at}
 use Rattle.lq_lex.specs.Reading.{IsTokens, HasFault}
@@ -15,7 +16,9 @@ use Rattle.lq_parse.specs.declared.error.ParseError.{ParseError}
 use Rattle.lq_parse.specs.declared.error.ParseError.TheVariants as parsing
 use Rattle.lq_report.specs.Stages.{Then}
 use Rattle.lq_report.specs.declared.refused.Refused.{Refused}
-use Rattle.lq_report.specs.declared.refused.Refused.TheVariants.{At, Named}
+use Rattle.lq_report.specs.declared.refused.Refused.TheVariants.{At, Named, Wanted}
+use Rattle.lq_scope.specs.Complaints.{Cause, unknown, unknown_in, twice, arity, not_positive, Complaint, least}
+use Rattle.lq_scope.specs.Uses.{of_program}
 use Rattle.lq_straight.specs.declared.item.NameAt.{NameAt}
 use Rattle.lq_straight.specs.declared.item.Item.{Item}
 use Rattle.lq_straight.specs.Forms.{is, unbuilt, items_in}
@@ -67,6 +70,22 @@ abbrev pub IsParsed : List ℕ → List Token → Result Parsed Refused → Type
 IsParsed text tokens (Ok p) = (p.names ≡ with_names text tokens first_names) × IsRead kind.Program text p.names tokens (value.items p.trees)
 IsParsed text tokens (Err r) = (e : ParseError) × IsStop text tokens e × (stop_refusal e ≡ Some r)
 
+-- how a complaint about a name is refused
+abbrev pub cause_refusal : List (List ℕ) → Place → Cause → Refused
+cause_refusal names p (unknown x) = Named 6 p (text_in names x)
+cause_refusal names p (unknown_in m x) = Named 6 p (text_in names m ++ codes "." ++ text_in names x)
+cause_refusal names p (twice x) = Named 7 p (text_in names x)
+cause_refusal names p (arity wanted found) = Wanted 8 p wanted found
+cause_refusal names p not_positive = At 9 p
+
+abbrev pub complaint_refusal : List (List ℕ) → Complaint → Refused
+complaint_refusal names c = cause_refusal names c.place c.cause
+
+-- the trees, where nothing is wrong with their names, or the least complaint
+abbrev pub IsNamed : Parsed → Result Parsed Refused → Type 0
+IsNamed p (Ok q) = (q ≡ p) × (least (of_program p.names p.trees) ≡ None)
+IsNamed p (Err r) = (c : Complaint) × (least (of_program p.names p.trees) ≡ Some c) × (r ≡ complaint_refusal p.names c)
+
 -- the items that the trees are, or the first form that isn't judged yet
 abbrev pub IsRecognised : Parsed → Result Recognised Refused → Type 0
 IsRecognised p (Ok r) = (r.parsed ≡ p) × (items_in p.trees ≡ is r.items)
@@ -77,12 +96,15 @@ abbrev pub IsResolved : Recognised → Result Scoped Refused → Type 0
 IsResolved r (Ok s) = (s.read ≡ r) × Resolves r.items s.scoped
 IsResolved r (Err e) = (x : NameAt) × IsFirstUnknown r.items x × (e ≡ Named 6 x.place (text_in r.parsed.names x.name.0))
 
--- the text up to its trees, up to its items, and up to their names
+-- the text up to its trees, up to these with their names looked at, up to its items, and up to these with their names bound
 abbrev pub ParsesTo : List ℕ → Result Parsed Refused → Type 0
 ParsesTo text = Then IsLexed (IsParsed text) text
 
+abbrev pub NamesTo : List ℕ → Result Parsed Refused → Type 0
+NamesTo = Then ParsesTo IsNamed
+
 abbrev pub RecognisesTo : List ℕ → Result Recognised Refused → Type 0
-RecognisesTo = Then ParsesTo IsRecognised
+RecognisesTo = Then NamesTo IsRecognised
 
 abbrev pub ResolvesTo : List ℕ → Result Scoped Refused → Type 0
 ResolvesTo = Then RecognisesTo IsResolved

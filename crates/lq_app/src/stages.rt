@@ -1,17 +1,21 @@
-// The stages in which a text is judged: its tokens, its trees, its straight-line items, and these with their names bound.
-ghost use Rattle.std.specs.Prelude.{◌≡◌, ◌≤◌, ◌<◌, ◌^◌, ℕ, List, length, Ok, IfOk, IfErr};
+// The stages in which a text is judged: its tokens, its trees, whose names are looked at, its straight-line items, and these with their
+// names bound.
+ghost use Rattle.std.specs.Prelude.{◌≡◌, ◌++◌, codes, ◌≤◌, ◌<◌, ◌^◌, ℕ, List, length, Ok, IfOk, IfErr};
 ghost use Rattle.lq_app.specs.declared.stages.NotJudged.TheVariants.{Memory};
 ghost use Rattle.lq_lex.specs.declared.limits.TheConstants.{TEXT_LIMIT};
 ghost use Rattle.lq_straight.specs.Uses.{AreSmall};
+ghost use Rattle.lq_scope.specs.Views.{complaint_view};
+ghost use Rattle.lq_straight.specs.Names.{text_in};
 ghost use Rattle.lq_tree.specs.Texts.{program_view};
-ghost use Rattle.lq_app.specs.Stages.{fault_refusal, stop_refusal, parsed_with, ParsesTo, RecognisesTo, ResolvesTo, IsReadAs, IsBoundAs};
+ghost use Rattle.lq_app.specs.Stages.{fault_refusal, stop_refusal, complaint_refusal, parsed_with, ParsesTo, NamesTo, RecognisesTo, ResolvesTo, IsReadAs, IsBoundAs};
 ghost use Rattle.lq_app.specs.NotJudged.{IsOf, IsBy};
 
 use crate::texts::text_of;
 use lq_lex::{LexError, lex};
-use lq_name::{Binder, NameTable, NameText, TextKind};
+use lq_name::{Binder, Name, NameTable, NameText, TextKind};
 use lq_parse::{ParseError, parse_program};
 use lq_report::Refused;
+use lq_scope::{Cause, Complaint, first_complaint};
 use lq_straight::{FormError, Item, NameAt, ScopeError, name_table, recognise, resolve};
 use lq_tree::Program;
 use std::alloc::{AllocError, Global};
@@ -84,6 +88,65 @@ fn program_of(alloc: Global, text: &[u8]) -> Result<Parsed, NotJudged>
     }
 }
 
+// An upper and a lower name with a dot between them.
+fn dotted(
+    alloc: Global,
+    names: &NameTable,
+    front: Name,
+    name: Name,
+) -> Result<NameText, AllocError>
+    ensures { IfOk result (λ t. t ≡ text_in names.now front.0 ++ codes "." ++ text_in names.now name.0) }
+{
+    let mut text = String::from_str(alloc, text_of(names, front))?;
+    text.push_str(".")?;
+    text.push_str(text_of(names, name))?;
+    NameText::new(alloc, text.as_str())
+}
+
+// How a complaint about a name is refused.
+fn complaint_refusal(
+    alloc: Global,
+    names: &NameTable,
+    complaint: Complaint,
+) -> Result<Refused, AllocError>
+    ensures { IfOk result (λ r. r ≡ complaint_refusal names.now (complaint_view complaint)) }
+{
+    let place = complaint.place;
+    match complaint.cause {
+        Cause::Unknown(name) => {
+            let text = NameText::new(alloc, text_of(names, name))?;
+            Ok(Refused::Named(6, place, text))
+        }
+        Cause::UnknownIn(front, name) => {
+            let text = dotted(alloc, names, front, name)?;
+            Ok(Refused::Named(6, place, text))
+        }
+        Cause::Twice(name) => {
+            let text = NameText::new(alloc, text_of(names, name))?;
+            Ok(Refused::Named(7, place, text))
+        }
+        Cause::Arity(wanted, found) => Ok(Refused::Wanted(8, place, wanted as u64, found as u64)),
+        Cause::NotPositive => Ok(Refused::At(9, place)),
+    }
+}
+
+// The tree of the text, where nothing is wrong with its names.
+fn named_of(alloc: Global, text: &[u8]) -> Result<Parsed, NotJudged>
+    requires { length text.now ≤ TEXT_LIMIT }
+    ensures ok { IfOk result (λ p. NamesTo text.now (Ok (parsed_with (program_view p.program) p.names))) }
+    ensures count { IfOk result (λ p. length (program_view p.program) < 2 ^ 32) }
+    ensures refused { IfErr result (λ e. IsBy (NamesTo text.now) e) }
+{
+    let parsed = program_of(alloc, text)?;
+    match first_complaint(alloc, &parsed.program, &parsed.names)? {
+        None => Ok(parsed),
+        Some(complaint) => {
+            let refused = complaint_refusal(alloc, &parsed.names, complaint)?;
+            Err(NotJudged::Refused(refused))
+        }
+    }
+}
+
 // The items of the text, where all of its forms are judged.
 pub(crate) fn source_of(alloc: Global, text: &[u8]) -> Result<Source, NotJudged>
     requires { length text.now ≤ TEXT_LIMIT }
@@ -92,7 +155,7 @@ pub(crate) fn source_of(alloc: Global, text: &[u8]) -> Result<Source, NotJudged>
     ensures count { IfOk result (λ s. length s.items.items < 2 ^ 32) }
     ensures refused { IfErr result (λ e. IsBy (RecognisesTo text.now) e) }
 {
-    let parsed = program_of(alloc, text)?;
+    let parsed = named_of(alloc, text)?;
     match recognise(alloc, &parsed.program) {
         Ok(items) => Ok(Source {
             items,

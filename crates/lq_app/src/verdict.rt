@@ -71,8 +71,9 @@ impl From<AllocError> for Refusal {
 /// of pivots of a check of the simplex tableau. For now both other texts are empty, and no pivot is
 /// needed.
 ///
-/// Codes 1 to 3 are faults of tokens, 4 means that the text isn't in the grammar, and 5 that it nests too deeply. Code 17 is a form
-/// of the grammar that isn't judged yet, and code 6 a name with no definition before its use.
+/// Codes 1 to 3 are faults of tokens, 4 means that the text isn't in the grammar, and 5 that it nests too deeply. Codes 6 to 9 are what
+/// is wrong with a name: it has no definition, it is defined again, it has the wrong number of arguments, or it stands where a datatype
+/// isn't positive. Code 17 is a form of the grammar that isn't judged yet.
 pub fn judge(
     alloc: Global,
     program: &[u8],

@@ -43,8 +43,8 @@ pub(crate) fn refused_of(
         ("wanted", Some(kind), [code, line, column, wanted, found]) => Some(Refused::Wanted(
             u8::try_from(*code).ok()?,
             place_of(kind, *line, *column)?,
-            u32::try_from(*wanted).ok()?,
-            u32::try_from(*found).ok()?,
+            *wanted,
+            *found,
         )),
         ("nodes", Some(kind), [code, line, column, nodes]) => Some(Refused::Nodes(
             u8::try_from(*code).ok()?,

@@ -83,14 +83,14 @@ fn located(alloc: Global, code: u8, place: Place) -> Result<Vec<u8>, AllocError>
 }
 
 // Writes what was wanted and what was found.
-fn push_wanted(line: &mut Vec<u8>, wanted: u32, found: u32) -> Result<(), AllocError>
+fn push_wanted(line: &mut Vec<u8>, wanted: u64, found: u64) -> Result<(), AllocError>
     ensures { OnOk result (line.new.items ≡ line.old.items
         ++ (codes ": wanted " ++ decimal wanted ++ codes " found " ++ decimal found)) }
 {
     line.extend_from_slice(b": wanted ")?;
-    push_number(line, wanted as u64)?;
+    push_number(line, wanted)?;
     line.extend_from_slice(b" found ")?;
-    push_number(line, found as u64)
+    push_number(line, found)
 }
 
 // Writes a number behind a word.

@@ -11,7 +11,7 @@ pub enum Refused {
     /// The same with a name: that has no definition, or has one already.
     Named(u8, Place, NameText),
     /// The same with the number that was wanted and the one that was found.
-    Wanted(u8, Place, u32, u32),
+    Wanted(u8, Place, u64, u64),
     /// The same with the number of nodes of a type.
     Nodes(u8, Place, u64),
     /// A code with a count that is past its limit.
