@@ -5,3 +5,5 @@ pub mod Solving
 pub mod Linking
 pub mod Placing
 pub mod Rows
+pub mod Trails
+pub mod Graphing

@@ -15,17 +15,17 @@ use Rattle.std.proofs.lemmas.List.{take_more}
 use Rattle.std.proofs.lemmas.Option.{slice_get_within, get_or_from_slice_get}
 use borrow.Author.Differences.{down}
 
-by_eqb : (m n : ℕ) {P : Type 0} → (m == n ≡ true → P) → (m == n ≡ false → P) → P
+pub by_eqb : (m n : ℕ) {P : Type 0} → (m == n ≡ true → P) → (m == n ≡ false → P) → P
 by_eqb m n {P} f g = by (m == n) refl
   where
     by : (b : Bool) → m == n ≡ b → P
     by true e = f e
     by false e = g e
 
-same_of : (m n : ℕ) → m == n ≡ true → m ≡ n
+pub same_of : (m n : ℕ) → m == n ≡ true → m ≡ n
 same_of m n h = grind arith
 
-apart_of : (m n : ℕ) → m == n ≡ false → m ≢ n
+pub apart_of : (m n : ℕ) → m == n ≡ false → m ≢ n
 apart_of m n h = λ e. grind arith
 
 of_apart : (m n : ℕ) → m ≢ n → m == n ≡ false

@@ -1,11 +1,11 @@
 -- The arcs of rows: what they say of the rows.
-use Rattle.std.proofs.Common.{◌≡◌, ◌≢◌, ℕ, suc, zero, ◌+◌, ◌≤◌, ◌<◌, ◌^◌, refl, sym, ap, ap₂, subst, ◌∙◌, arith, List, [], ◌∷◌, ◌++◌, Bool, true, false, Option, Some, None, IfSome, IsNone, MatchBool, if◌then◌else◌, ◌==◌, nat_lt, slice_get, ◌⊎◌, inl, inr, length, take, get_or, append_assoc, unsigned_abs, All, FitsSigned}
+use Rattle.std.proofs.Common.{◌≡◌, ◌≢◌, ℕ, suc, zero, ◌+◌, ◌≤◌, ◌<◌, ◌^◌, refl, sym, ap, ap₂, subst, ◌∙◌, arith, List, [], ◌∷◌, ◌++◌, Bool, true, false, Option, Some, None, IfSome, IsNone, MatchBool, if◌then◌else◌, ◌==◌, nat_lt, slice_get, ◌⊎◌, inl, inr, length, take, drop, get_or, append_assoc, unsigned_abs, All, FitsSigned}
 use Rattle.std.specs.Int.{w128}
 use Rattle.std.proofs.lemmas.Bool.{cases_lt}
 use Rattle.std.proofs.Math.IntN.{ℤ, pos, negsuc, ◌+ℤ◌, ◌-ℤ◌}
 use Rattle.std.specs.Int.Signed.{◌≤ℤ◌, ◌<ℤ◌}
 use Rattle.std.proofs.lemmas.Int.{ints}
-use Rattle.std.proofs.lemmas.List.{take_more}
+use Rattle.std.proofs.lemmas.List.{take_more, take_all, take_at, take-take, take-append-le, take-append-drop, length-take-le, get_or-take, get_or_append_left, get_or_at}
 use Rattle.std.proofs.lemmas.List.Elements.{All-nil, All-cons}
 use borrow.Author.Differences.{down}
 use Rattle.lq_math.specs.Rational.{ℚ, whole, ◌+ℚ◌, ◌-ℚ◌, ◌*ℚ◌}
@@ -18,17 +18,23 @@ use Rattle.lq_diff.specs.declared.arc.Arc.{Arc}
 use Rattle.lq_diff.specs.declared.arc.Edge.{Edge}
 use Rattle.lq_diff.specs.Arcs.{Potentials, ArcHolds, Meets, falls}
 use Rattle.lq_diff.specs.Climb.{parts}
-use Rattle.lq_diff.specs.Cycles.{Each, IsWalk, costs, TagsOnce, marks, IsNegativeCycle, ArePaired}
+use Rattle.lq_diff.specs.Cycles.{Each, IsAmong, IsWalk, costs, TagsOnce, marks, IsNegativeCycle, ArePaired}
 use Rattle.lq_diff.specs.Edges.{parts_of, row_of, standing_of, forward, backward, arcs_by, arcs_of, sizes, EdgesInRange, HasNoTag, TagsApart}
 use Rattle.lq_diff.specs.Passes.{AllInRange}
 use Rattle.lq_diff.specs.Solving.{IsBounded}
 use Rattle.lq_diff.specs.Range.{InRange, in_range}
-use Rattle.lq_diff.specs.Passes.{vertex_at, values, nexts}
+use Rattle.lq_diff.specs.Passes.{blank, vertex_at, values}
+use Rattle.lq_diff.specs.declared.vertex.Vertex.{Vertex}
+use Rattle.std.proofs.lemmas.Option.{slice_get-get_or}
 use Rattle.lq_diff.specs.Solving.{IsSolved}
-use Rattle.lq_linear.specs.Answers.{Conflicted, last_of}
+use Rattle.lq_linear.specs.Answers.{Held, last_of}
 use Rattle.lq_linear.specs.declared.engine.Answer.{Answer}
 use Rattle.lq_linear.specs.declared.engine.Answer.TheVariants.{Unasked, Solved, Contradicted, GaveUp}
-use Rattle.lq_diff.specs.Table.{Table, table_point, table_rows, table_last, table_multipliers, multiplier_of, multipliers_of, constants, IsAnswer, IsTable, TermsBelow}
+use Rattle.lq_diff.specs.declared.graph.Graph.{Graph}
+use Rattle.lq_diff.specs.declared.graph.Start.{Start}
+use Rattle.lq_diff.specs.Trail.{start_at}
+use Rattle.lq_diff.specs.Graphs.{IsGraph}
+use Rattle.lq_diff.specs.Table.{Table, table_point, table_rows, multiplier_of, multipliers_of, table_last, value_at, over_zero, constants, AllFit, IsStanding, IsTable, TermsBelow}
 use Rattle.lq_diff.proofs.Passing.{each, there}
 
 -- ---- the arcs of a list of rows
@@ -436,8 +442,20 @@ near_sizes edges p s = record {
     more : (x y : ℤ) (m n : ℕ) → x ≤ℤ (y +ℤ pos m) → m ≤ n → x ≤ℤ (y +ℤ pos n)
     more x y m n h k = omega (arith, ints)
 
-pub answer_solves : (t : Table) → EdgesInRange t.edges (length t.vertices) → IsAnswer (arcs_of t.edges) t.vertices → Solves (table_point t) (table_rows t)
-answer_solves t r a = solves t.edges (table_point t) p (length t.vertices) r a.solved.greatest.meets at
+-- ---- the values
+pub value_in : (t : Table) (k : ℕ) → suc k < length t.vertices → value_at t k ≡ values (vertex_at t.vertices) (suc k) -ℤ values (vertex_at t.vertices) 0
+value_in t k l = ap (λ (o : Option Vertex). over_zero o (values (vertex_at t.vertices) 0)) (slice_get-get_or t.vertices (suc k) blank l)
+
+past : {A : Type 0} (xs : List A) (k : ℕ) → length xs ≤ k → slice_get xs k ≡ None
+past [] k l = refl
+past (x ∷ xs) zero l = absurd (omega arith)
+past (x ∷ xs) (suc k) l = past xs k (omega arith)
+
+pub value_out : (t : Table) (k : ℕ) → length t.vertices ≤ suc k → value_at t k ≡ pos 0
+value_out t k l = ap (λ (o : Option Vertex). over_zero o (values (vertex_at t.vertices) 0)) (past t.vertices (suc k) l)
+
+pub answer_solves : (t : Table) → EdgesInRange t.edges (length t.vertices) → IsSolved (arcs_of t.edges) (values (vertex_at t.vertices)) → Solves (table_point t) (table_rows t)
+answer_solves t r a = solves t.edges (table_point t) p (length t.vertices) r a.greatest.meets at
   where
     p : Potentials
     p = values (vertex_at t.vertices)
@@ -447,38 +465,42 @@ answer_solves t r a = solves t.edges (table_point t) p (length t.vertices) r a.s
 
     at : (k : ℕ) → k < length t.vertices → at_vertex (table_point t) k ≡ whole (p k -ℤ p 0)
     at zero h = ap whole (self (p 0))
-    at (suc k) h = ap whole (a.measured (suc k) h)
+    at (suc k) h = ap whole (value_in t k h)
 
 abs_from : (x : ℤ) (n : ℕ) → x ≤ℤ pos n → pos 0 ≤ℤ (x +ℤ pos n) → unsigned_abs x ≤ n
 abs_from (pos m) n h k = omega (arith, ints)
 abs_from (negsuc m) n h k = omega (arith, ints)
 
-pub value_near : (t : Table) (k : ℕ) → IsAnswer (arcs_of t.edges) t.vertices → k < length t.vertices → unsigned_abs (nexts (vertex_at t.vertices) k) ≤ constants (table_rows t)
-value_near t k a h = subst (λ n. unsigned_abs (nexts (vertex_at t.vertices) k) ≤ n) (sym (sizes_are t.edges))
-    (abs_from (nexts (vertex_at t.vertices) k) (sizes t.edges) (high _ _ _ _ (a.measured k h) (r.apart k 0)) (low _ _ _ _ (a.measured k h) (r.apart 0 k)))
+pub value_near : (t : Table) (k : ℕ) → suc k < length t.vertices → IsSolved (arcs_of t.edges) (values (vertex_at t.vertices)) → unsigned_abs (value_at t k) ≤ constants (table_rows t)
+value_near t k l a = subst (λ z. unsigned_abs z ≤ constants (table_rows t)) (sym (value_in t k l)) (subst (λ n. unsigned_abs (p (suc k) -ℤ p 0) ≤ n) (sym (sizes_are t.edges)) (abs_from (p (suc k) -ℤ p 0) (sizes t.edges) (high _ _ _ (r.apart (suc k) 0)) (low _ _ _ (r.apart 0 (suc k)))))
   where
-    r : InRange (values (vertex_at t.vertices)) (sizes t.edges)
-    r = near_sizes t.edges (values (vertex_at t.vertices)) a.solved
+    p : Potentials
+    p = values (vertex_at t.vertices)
 
-    high : (x p z : ℤ) (n : ℕ) → x ≡ p -ℤ z → p ≤ℤ (z +ℤ pos n) → x ≤ℤ pos n
-    high x p z n e h = omega (arith, ints)
+    r : InRange p (sizes t.edges)
+    r = near_sizes t.edges p a
 
-    low : (x p z : ℤ) (n : ℕ) → x ≡ p -ℤ z → z ≤ℤ (p +ℤ pos n) → pos 0 ≤ℤ (x +ℤ pos n)
-    low x p z n e h = omega (arith, ints)
+    high : (x z : ℤ) (n : ℕ) → x ≤ℤ (z +ℤ pos n) → (x -ℤ z) ≤ℤ pos n
+    high x z n h = omega (arith, ints)
 
-pub difference_near : (t : Table) (j k : ℕ) → IsAnswer (arcs_of t.edges) t.vertices → j < length t.vertices → k < length t.vertices
-    → unsigned_abs (nexts (vertex_at t.vertices) j -ℤ nexts (vertex_at t.vertices) k) ≤ constants (table_rows t)
-difference_near t j k a h l = subst (λ n. unsigned_abs (nexts (vertex_at t.vertices) j -ℤ nexts (vertex_at t.vertices) k) ≤ n) (sym (sizes_are t.edges))
-    (abs_from _ (sizes t.edges) (high _ _ _ _ _ _ (a.measured j h) (a.measured k l) (r.apart j k)) (low _ _ _ _ _ _ (a.measured j h) (a.measured k l) (r.apart k j)))
+    low : (x z : ℤ) (n : ℕ) → z ≤ℤ (x +ℤ pos n) → pos 0 ≤ℤ ((x -ℤ z) +ℤ pos n)
+    low x z n h = omega (arith, ints)
+
+pub difference_near : (t : Table) (j k : ℕ) → suc j < length t.vertices → suc k < length t.vertices → IsSolved (arcs_of t.edges) (values (vertex_at t.vertices)) → unsigned_abs (value_at t j -ℤ value_at t k) ≤ constants (table_rows t)
+difference_near t j k l m a = subst (λ z. unsigned_abs z ≤ constants (table_rows t)) (sym (ap₂ (λ x y. x -ℤ y) (value_in t j l) (value_in t k m))) (subst (λ n. unsigned_abs ((p (suc j) -ℤ p 0) -ℤ (p (suc k) -ℤ p 0)) ≤ n) (sym (sizes_are t.edges))
+    (abs_from _ (sizes t.edges) (high (p (suc j)) (p (suc k)) (p 0) (sizes t.edges) (r.apart (suc j) (suc k))) (low (p (suc j)) (p (suc k)) (p 0) (sizes t.edges) (r.apart (suc k) (suc j)))))
   where
-    r : InRange (values (vertex_at t.vertices)) (sizes t.edges)
-    r = near_sizes t.edges (values (vertex_at t.vertices)) a.solved
+    p : Potentials
+    p = values (vertex_at t.vertices)
 
-    high : (x y p q z : ℤ) (n : ℕ) → x ≡ p -ℤ z → y ≡ q -ℤ z → p ≤ℤ (q +ℤ pos n) → (x -ℤ y) ≤ℤ pos n
-    high x y p q z n e f h = omega (arith, ints)
+    r : InRange p (sizes t.edges)
+    r = near_sizes t.edges p a
 
-    low : (x y p q z : ℤ) (n : ℕ) → x ≡ p -ℤ z → y ≡ q -ℤ z → q ≤ℤ (p +ℤ pos n) → pos 0 ≤ℤ ((x -ℤ y) +ℤ pos n)
-    low x y p q z n e f h = omega (arith, ints)
+    high : (x y z : ℤ) (n : ℕ) → x ≤ℤ (y +ℤ pos n) → ((x -ℤ z) -ℤ (y -ℤ z)) ≤ℤ pos n
+    high x y z n h = omega (arith, ints)
+
+    low : (x y z : ℤ) (n : ℕ) → y ≤ℤ (x +ℤ pos n) → pos 0 ≤ℤ (((x -ℤ z) -ℤ (y -ℤ z)) +ℤ pos n)
+    low x y z n h = omega (arith, ints)
 
 pub multiplier_some : (found : List (ℕ × Bool)) (k : ℕ) (m : ℕ × Bool) → slice_get found k ≡ Some m → slice_get (multipliers_of found) k ≡ Some (multiplier_of m)
 multiplier_some [] k m h = absurd (cc)
@@ -494,11 +516,201 @@ pub terms_wider : (m n : ℕ) (parts : List (ℕ × ℤ)) → m ≤ n → TermsB
 terms_wider m n [] h k = tt
 terms_wider m n (x ∷ parts) h k = (omega arith, terms_wider m n parts h k.1)
 
-last_conflicted : (a : Answer) → last_of a ≡ Conflicted → a ≡ Contradicted
-last_conflicted Unasked e = absurd (cc)
-last_conflicted Solved e = absurd (cc)
-last_conflicted Contradicted e = refl
-last_conflicted GaveUp e = absurd (cc)
+-- ---- what stands
+pub solved_all : (edges : List Edge) (g : Graph) (conflict : Bool) (found : List (ℕ × Bool)) → IsStanding edges g conflict found → conflict ≡ false
+    → IsSolved (arcs_of edges) (values (vertex_at g.vertices.items))
+solved_all edges g conflict found h e =
+    subst (λ l. IsSolved l (values (vertex_at g.vertices.items)))
+    (take_all (length g.arcs.items) g.arcs.items (omega arith) ∙ h.arcs ∙ ap arcs_of (take_all (length g.starts.items) edges (let a = h.all e in omega arith))) h.graph.reached.solved
 
-pub answered : (t : Table) (order : List ℕ) → IsTable t order → table_last t ≡ Conflicted → IsContradiction (table_rows t) (table_multipliers t)
-answered t order is e = contradiction t.edges t.found is.apart (is.contradicted (last_conflicted t.answer e))
+-- a cycle of the arcs of the first rows is one of all
+walk_more : (arcs others : List Arc) (a b : ℕ) (steps : List Arc) → ((x : Arc) → IsAmong arcs x → IsAmong others x) → IsWalk arcs a b steps → IsWalk others a b steps
+walk_more arcs others a b [] h w = w
+walk_more arcs others a b (s ∷ steps) h w = (h s w.0, w.1, walk_more arcs others s.from b steps h w.2)
+
+pub cycle_more : (arcs others : List Arc) (found : List (ℕ × Bool)) → ((x : Arc) → IsAmong arcs x → IsAmong others x) → IsNegativeCycle arcs found → IsNegativeCycle others found
+cycle_more arcs others found h c = record { start = c.start; steps = c.steps; walk = walk_more arcs others c.start c.start c.steps h c.walk; negative = c.negative; once = c.once; is = c.is }
+
+among_first : (xs ys : List Arc) (x : Arc) → IsAmong xs x → IsAmong (xs ++ ys) x
+among_first xs ys x h = (h.0, first xs h.0 h.1)
+  where
+    first : (xs : List Arc) (k : ℕ) → slice_get xs k ≡ Some x → slice_get (xs ++ ys) k ≡ Some x
+    first [] k e = absurd (cc)
+    first (y ∷ xs) zero e = e
+    first (y ∷ xs) (suc k) e = first xs k e
+
+pub known_contradicts : (edges : List Edge) (g : Graph) (conflict : Bool) (found : List (ℕ × Bool)) → IsStanding edges g conflict found → conflict ≡ true
+    → IsContradiction (standing_of edges) (multipliers_of found)
+known_contradicts edges g conflict found h e =
+    contradiction edges found h.apart (cycle_more (arcs_of (take n edges)) (arcs_of edges) found
+    (λ x m. subst (λ l. IsAmong l x) (sym (arcs_of-append (take n edges) (drop n edges)) ∙ ap arcs_of (take-append-drop n edges)) (among_first (arcs_of (take n edges)) (arcs_of (drop n edges)) x m)) (h.known e))
+  where
+    n : ℕ
+    n = suc (length g.starts.items)
+
+length_one : {A : Type 0} (xs : List A) (x : A) → length (xs ++ x ∷ []) ≡ length xs + 1
+length_one [] x = omega arith
+length_one (y ∷ xs) x = let e = length_one xs x in omega arith
+
+take_before : (k : ℕ) (edges : List Edge) (e : Edge) → k ≤ length edges → take k (edges ++ e ∷ []) ≡ take k edges
+take_before k edges e l = take-append-le k edges (e ∷ []) l
+
+pub arcs_added : (edges : List Edge) (e : Edge) → arcs_of (edges ++ e ∷ []) ≡ arcs_of edges ++ arcs_by e e.equal
+arcs_added edges e = arcs_of-append edges (e ∷ []) ∙ ap (λ l. arcs_of edges ++ l) (append_nil (arcs_by e e.equal))
+
+pub arcs_all : (edges : List Edge) (g : Graph) (conflict : Bool) (found : List (ℕ × Bool)) → IsStanding edges g conflict found → conflict ≡ false → g.arcs.items ≡ arcs_of edges
+arcs_all edges g conflict found h c = h.arcs ∙ ap arcs_of (take_all (length g.starts.items) edges (let a = h.all c in omega arith))
+
+pub size_added : (edges : List Edge) (e : Edge) → unsigned_abs e.weight ≤ sizes (edges ++ e ∷ [])
+size_added [] e = omega arith
+size_added (x ∷ edges) e = let h = size_added edges e in omega arith
+
+-- a row behind a conflict
+pub standing_behind : (edges new : List Edge) (g : Graph) (conflict : Bool) (found : List (ℕ × Bool)) (e : Edge) → IsStanding edges g conflict found → conflict ≡ true → new ≡ edges ++ e ∷ []
+    → e.from < length g.vertices.items → e.to < length g.vertices.items → HasNoTag e.tag edges → IsStanding new g conflict found
+standing_behind edges new g conflict found e h c is f t fresh = subst (λ l. IsStanding l g conflict found) (sym is) (record {
+  graph = h.graph;
+  in_range = range_more edges e (length g.vertices.items) h.in_range f t;
+  apart = apart_more edges e h.apart fresh;
+  rows = let r = h.rows in let n = length_one edges e in omega arith;
+  all = λ q. absurd (let z : true ≡ false = sym c ∙ q in cc);
+  arcs = h.arcs ∙ ap arcs_of (sym (take_before (length g.starts.items) edges e h.rows));
+  starts = λ i l. h.starts i l ∙ ap (λ x. length (arcs_of x)) (sym (take_before i edges e (let r = h.rows in omega arith)));
+  more = λ q. let m = h.more c in let n = length_one edges e in omega arith;
+  known = λ q. subst (λ x. IsNegativeCycle (arcs_of x) found) (sym (take_before (suc (length g.starts.items)) edges e (let m = h.more c in omega arith))) (h.known c);
+})
+
+-- a row whose arcs were admitted
+pub standing_admitted : (edges new : List Edge) (g later : Graph) (conflict : Bool) (found : List (ℕ × Bool)) (e : Edge) (start : Start) → IsStanding edges g conflict found → conflict ≡ false
+    → new ≡ edges ++ e ∷ [] → e.from < length g.vertices.items → e.to < length g.vertices.items → HasNoTag e.tag edges → IsGraph later
+    → length later.vertices.items ≡ length g.vertices.items → later.arcs.items ≡ g.arcs.items ++ arcs_by e e.equal → later.starts.items ≡ g.starts.items ++ start ∷ []
+    → start.arcs ≡ length g.arcs.items → IsStanding new later conflict found
+standing_admitted edges new g later conflict found e start h c is f t fresh graph same arcs starts at = subst (λ l. IsStanding l later conflict found) (sym is) (record {
+  graph = graph;
+  in_range = subst (λ n. EdgesInRange (edges ++ e ∷ []) n) (sym same) (range_more edges e (length g.vertices.items) h.in_range f t);
+  apart = apart_more edges e h.apart fresh;
+  rows = omega (arith, all_of);
+  all = λ q. all_of;
+  arcs = arcs ∙ ap (λ l. l ++ arcs_by e e.equal) was ∙ sym (arcs_added edges e) ∙ ap arcs_of (sym (take_all (length later.starts.items) (edges ++ e ∷ []) (omega (arith, all_of))));
+  starts = λ i l. elim (cases_lt i (length g.starts.items)) [
+    | inl m ↦ ap (λ (x : List Start). (start_at x i).arcs) starts ∙ ap (λ (x : Start). x.arcs) (get_or_append_left g.starts.items (start ∷ []) _ i m) ∙ h.starts i m
+        ∙ ap (λ x. length (arcs_of x)) (sym (take_before i edges e (let r = h.rows in omega arith)))
+    | inr m ↦
+        let k : length edges ≡ i = (let n = ap length starts in let o = length_one g.starts.items start in let a = h.all c in omega arith) in
+        ap (λ (x : List Start). (start_at x i).arcs) starts ∙ ap (λ (x : Start). x.arcs) (get_or_at g.starts.items start [] _ i (h.all c ∙ k)) ∙ at ∙ ap length was
+        ∙ ap (λ x. length (arcs_of x)) (sym (take_before i edges e (omega arith) ∙ take_all i edges (omega arith)))
+  ];
+  more = λ q. absurd (let z : true ≡ false = sym q ∙ c in cc);
+  known = λ q. absurd (let z : true ≡ false = sym q ∙ c in cc);
+})
+  where
+    all_of : length later.starts.items ≡ length (edges ++ e ∷ [])
+    all_of = let n = ap length starts in let o = length_one g.starts.items start in let m = length_one edges e in let a = h.all c in omega arith
+
+    was : g.arcs.items ≡ arcs_of edges
+    was = h.arcs ∙ ap arcs_of (take_all (length g.starts.items) edges (let a = h.all c in omega arith))
+
+-- a row that closes a cycle
+pub standing_closed : (edges new : List Edge) (g later : Graph) (conflict : Bool) (found steps : List (ℕ × Bool)) (e : Edge) → IsStanding edges g conflict found → conflict ≡ false
+    → new ≡ edges ++ e ∷ [] → e.from < length g.vertices.items → e.to < length g.vertices.items → HasNoTag e.tag edges → IsGraph later
+    → length later.vertices.items ≡ length g.vertices.items → later.arcs.items ≡ g.arcs.items → later.starts.items ≡ g.starts.items
+    → IsNegativeCycle (g.arcs.items ++ arcs_by e e.equal) steps → IsStanding new later true steps
+standing_closed edges new g later conflict found steps e h c is f t fresh graph same arcs starts cycle = subst (λ l. IsStanding l later true steps) (sym is) (record {
+  graph = graph;
+  in_range = subst (λ n. EdgesInRange (edges ++ e ∷ []) n) (sym same) (range_more edges e (length g.vertices.items) h.in_range f t);
+  apart = apart_more edges e h.apart fresh;
+  rows = let m = length_one edges e in omega (arith, all_of);
+  all = λ q. absurd (cc);
+  arcs = arcs ∙ was ∙ ap arcs_of (sym (take_before (length later.starts.items) edges e (omega (arith, all_of)) ∙ take_all (length later.starts.items) edges (omega (arith, all_of))));
+  starts = λ i l. ap (λ (x : List Start). (start_at x i).arcs) starts ∙ h.starts i (let k = ap length starts in omega arith)
+      ∙ ap (λ x. length (arcs_of x)) (sym (take_before i edges e (omega (arith, all_of))));
+  more = λ q. let m = length_one edges e in omega (arith, all_of);
+  known = λ q. subst (λ l. IsNegativeCycle l steps)
+      (ap (λ l. l ++ arcs_by e e.equal) was ∙ sym (arcs_added edges e) ∙ ap arcs_of (sym (take_all (suc (length later.starts.items)) (edges ++ e ∷ []) (let m = length_one edges e in omega (arith, all_of))))) cycle;
+})
+  where
+    all_of : length later.starts.items ≡ length edges
+    all_of = ap length starts ∙ h.all c
+
+    was : g.arcs.items ≡ arcs_of edges
+    was = h.arcs ∙ ap arcs_of (take_all (length g.starts.items) edges (let a = h.all c in omega arith))
+
+-- fewer rows are kept, of which all were admitted
+arcs_front : (r n : ℕ) (edges : List Edge) → r ≤ n → take (length (arcs_of (take r edges))) (arcs_of (take n edges)) ≡ arcs_of (take r edges)
+arcs_front r n edges l =
+    ap (λ x. take (length (arcs_of (take r edges))) x) (ap arcs_of (sym (take-append-drop r (take n edges)) ∙ ap (λ z. z ++ drop r (take n edges)) (take-take r n edges l)) ∙ arcs_of-append (take r edges) (drop r (take n edges)))
+    ∙ take_at (arcs_of (take r edges)) (arcs_of (drop r (take n edges))) (length (arcs_of (take r edges))) refl
+
+pub standing_back : (edges new : List Edge) (g later : Graph) (conflict : Bool) (found : List (ℕ × Bool)) (r : ℕ) → IsStanding edges g conflict found → r < length g.starts.items
+    → new ≡ take r edges → IsGraph later → length later.vertices.items ≡ length g.vertices.items → later.arcs.items ≡ take (start_at g.starts.items r).arcs g.arcs.items
+    → later.starts.items ≡ take r g.starts.items → IsStanding new later false found
+standing_back edges new g later conflict found r h l is graph same arcs starts = subst (λ x. IsStanding x later false found) (sym is) (record {
+  graph = graph;
+  in_range = subst (λ n. EdgesInRange (take r edges) n) (sym same) (range_taken r edges (length g.vertices.items) h.in_range);
+  apart = apart_taken r edges h.apart;
+  rows = omega (arith, count, edged);
+  all = λ q. count ∙ sym edged;
+  arcs = arcs ∙ ap (λ n. take n g.arcs.items) (h.starts r l) ∙ ap (take (length (arcs_of (take r edges)))) h.arcs ∙ arcs_front r (length g.starts.items) edges (omega arith)
+      ∙ ap arcs_of (sym (ap (λ n. take n (take r edges)) count ∙ take-take r r edges (omega arith)));
+  starts = λ i m. ap (λ (x : List Start). (start_at x i).arcs) starts ∙ ap (λ (x : Start). x.arcs) (get_or-take r g.starts.items i _ (omega (arith, count))) ∙ h.starts i (omega (arith, count))
+      ∙ ap (λ x. length (arcs_of x)) (sym (take-take i r edges (omega (arith, count))));
+  more = λ q. absurd (cc);
+  known = λ q. absurd (cc);
+})
+  where
+    count : length later.starts.items ≡ r
+    count = ap length starts ∙ length-take-le r g.starts.items (omega arith)
+
+    edged : length (take r edges) ≡ r
+    edged = length-take-le r edges (let k = h.rows in omega arith)
+
+-- the rows that were admitted are kept
+pub standing_first : (edges new : List Edge) (g : Graph) (conflict : Bool) (found : List (ℕ × Bool)) (r : ℕ) → IsStanding edges g conflict found → r ≡ length g.starts.items
+    → new ≡ take r edges → IsStanding new g false found
+standing_first edges new g conflict found r h e is = subst (λ x. IsStanding x g false found) (sym is) (record {
+  graph = h.graph;
+  in_range = range_taken r edges (length g.vertices.items) h.in_range;
+  apart = apart_taken r edges h.apart;
+  rows = omega (arith, edged);
+  all = λ q. sym e ∙ sym edged;
+  arcs = h.arcs ∙ ap arcs_of (sym (take-take (length g.starts.items) r edges (omega arith)));
+  starts = λ i m. h.starts i m ∙ ap (λ x. length (arcs_of x)) (sym (take-take i r edges (omega arith)));
+  more = λ q. absurd (cc);
+  known = λ q. absurd (cc);
+})
+  where
+    edged : length (take r edges) ≡ r
+    edged = length-take-le r edges (let k = h.rows in omega arith)
+
+-- the row that closes a cycle is kept
+pub standing_kept : (edges new : List Edge) (g : Graph) (conflict : Bool) (found : List (ℕ × Bool)) (r : ℕ) → IsStanding edges g conflict found → length g.starts.items < r → r ≤ length edges
+    → new ≡ take r edges → IsStanding new g conflict found
+standing_kept edges new g conflict found r h l w is = subst (λ x. IsStanding x g conflict found) (sym is) (record {
+  graph = h.graph;
+  in_range = range_taken r edges (length g.vertices.items) h.in_range;
+  apart = apart_taken r edges h.apart;
+  rows = omega (arith, edged);
+  all = λ q. absurd (let a = h.all q in omega arith);
+  arcs = h.arcs ∙ ap arcs_of (sym (take-take (length g.starts.items) r edges (omega arith)));
+  starts = λ i m. h.starts i m ∙ ap (λ x. length (arcs_of x)) (sym (take-take i r edges (omega arith)));
+  more = λ q. omega (arith, edged);
+  known = λ q. subst (λ x. IsNegativeCycle (arcs_of x) found) (sym (take-take (suc (length g.starts.items)) r edges (omega arith))) (h.known q);
+})
+  where
+    edged : length (take r edges) ≡ r
+    edged = length-take-le r edges w
+
+-- after `Held`
+answered_solved : (a : Answer) → last_of a ≡ Held → a ≡ Solved
+answered_solved Unasked e = absurd (cc)
+answered_solved Solved e = refl
+answered_solved Contradicted e = absurd (cc)
+answered_solved GaveUp e = absurd (cc)
+
+pub held : (t : Table) (g : Graph) → IsTable t g → table_last t ≡ Held → IsSolved (arcs_of t.edges) (values (vertex_at t.vertices))
+held t g h e =
+    subst (λ (l : List Vertex). IsSolved (arcs_of t.edges) (values (vertex_at l))) h.same
+    (solved_all t.edges g t.conflict t.found h.standing (h.solved (answered_solved t.answer e)))
+
+pub fits_held : (t : Table) (g : Graph) → IsTable t g → table_last t ≡ Held → AllFit t.vertices
+fits_held t g h e = h.fit (answered_solved t.answer e)

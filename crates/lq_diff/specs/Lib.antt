@@ -8,3 +8,5 @@ pub mod Solving
 pub mod Edges
 pub mod Links
 pub mod Table
+pub mod Trail
+pub mod Graphs

@@ -1,5 +1,5 @@
 -- The state while an arc is being admitted: vertices fall to the offers that reach them, and are settled in the order of their falls.
-use Rattle.std.specs.Prelude.{◌≡◌, ◌≢◌, ℕ, ℤ, pos, ◌+ℤ◌, ◌≤ℤ◌, ◌+◌, ◌<◌, ◌≤◌, ◌⊎◌, List, [], ◌∷◌, ◌++◌, length, slice_get, IfSome, Some, slice_index_or}
+use Rattle.std.specs.Prelude.{◌≡◌, ◌≢◌, ℕ, ℤ, pos, ◌+ℤ◌, ◌≤ℤ◌, ◌+◌, ◌<◌, ◌≤◌, ◌⊎◌, Bool, false, List, [], ◌∷◌, ◌++◌, length, slice_get, IfSome, Some, slice_index_or}
 use Rattle.std.specs.Int.Signed.{◌<ℤ◌}
 use Rattle.lq_diff.specs.declared.arc.Arc.{Arc}
 use Rattle.lq_diff.specs.declared.vertex.Vertex.{Vertex}
@@ -8,7 +8,7 @@ use Rattle.lq_diff.specs.Arcs.{Potentials, ArcHolds, Meets}
 use Rattle.lq_diff.specs.Range.{InRange}
 
 abbrev pub blank : Vertex
-blank = record { kept = record { value = pos 0; last = 0 }; next = pos 0; parent = 0 }
+blank = record { kept = record { value = pos 0; last = 0; touched = false }; next = pos 0; parent = 0 }
 
 abbrev pub vertex_at : List Vertex → ℕ → Vertex
 vertex_at vertices v = slice_index_or vertices v blank
@@ -22,6 +22,10 @@ values s v = (s v).kept.value
 
 abbrev pub nexts : (ℕ → Vertex) → Potentials
 nexts s v = (s v).next
+
+-- whether an arc that was admitted names it
+abbrev pub touched : (ℕ → Vertex) → ℕ → Bool
+touched s v = (s v).kept.touched
 
 -- nothing is offered it, and it isn't settled
 abbrev pub AtRest : (ℕ → Vertex) → (ℕ → ℕ) → ℕ → Type 0

@@ -1,5 +1,5 @@
 -- What holds of all arcs at once.
-use Rattle.std.specs.Prelude.{◌≡◌, ◌≢◌, ℕ, pos, ◌+ℤ◌, ◌≤ℤ◌, ◌≤◌, ◌+◌, ◌⊎◌, Bool, false, List, Some, slice_get, slice_index_or, IfSome}
+use Rattle.std.specs.Prelude.{◌≡◌, ◌≢◌, ℕ, pos, ◌+ℤ◌, ◌≤ℤ◌, ◌≤◌, ◌+◌, ◌⊎◌, Bool, false, List, Some, slice_get, IfSome}
 use Rattle.lq_diff.specs.declared.arc.Arc.{Arc}
 use Rattle.lq_diff.specs.declared.vertex.Vertex.{Vertex}
 use Rattle.lq_diff.specs.Arcs.{Potentials, IsGreatest, falls}
@@ -21,9 +21,6 @@ IsEnded arcs closing s order = (top : ℕ) × IsStuck arcs top closing s order
 -- no arc leads from the vertex or to it
 abbrev pub IsUnnamed : List Arc → ℕ → Type 0
 IsUnnamed arcs v = (k : ℕ) → IfSome (slice_get arcs k) (λ a. (a.from ≢ v) × (a.to ≢ v))
-
-abbrev pub touched_at : List Bool → ℕ → Bool
-touched_at touched v = slice_index_or touched v false
 
 -- the two readings of one equation between two vertices
 pub record IsOpposite (arc back : Arc) : Type 0 where

@@ -1,5 +1,6 @@
 -- What a table is seen as, and what always holds of one.
-use Rattle.std.specs.Prelude.{◌≡◌, ℕ, suc, ℤ, pos, negsuc, ◌+◌, ◌<◌, ◌-ℤ◌, Bool, List, [], ◌∷◌, length, if◌then◌else◌, unsigned_abs}
+use Rattle.std.specs.Prelude.{◌≡◌, ℕ, suc, ℤ, pos, negsuc, ◌+◌, ◌<◌, ◌≤◌, ◌-ℤ◌, Bool, true, false, List, [], ◌∷◌, Option, Some, None, length, take, slice_get, if◌then◌else◌, unsigned_abs, FitsSigned}
+use Rattle.std.specs.Int.{w128}
 use Rattle.lq_math.specs.Rational.{ℚ, whole}
 use Rattle.lq_linear.specs.Row.{Row, Valuation}
 use Rattle.lq_linear.specs.Contradiction.{Tagged}
@@ -8,19 +9,21 @@ use Rattle.lq_linear.specs.declared.engine.Answer.{Answer}
 use Rattle.lq_linear.specs.declared.engine.Answer.TheVariants.{Solved, Contradicted}
 pub use Rattle.lq_linear.specs.Difference.{IsDifference, TermsBelow}
 use Rattle.lq_linear.specs.declared.engine.LinearStop.{LinearStop}
-use Rattle.lq_diff.specs.declared.arc.Arc.{Arc}
 use Rattle.lq_diff.specs.declared.arc.Edge.{Edge}
 use Rattle.lq_diff.specs.declared.vertex.Vertex.{Vertex}
-use Rattle.lq_diff.specs.Passes.{vertex_at, values, nexts}
+use Rattle.lq_diff.specs.declared.graph.Graph.{Graph}
+use Rattle.lq_diff.specs.Trail.{start_at}
+use Rattle.lq_diff.specs.Graphs.{IsGraph}
+use Rattle.lq_diff.specs.Passes.{vertex_at, values}
 use Rattle.lq_diff.specs.Edges.{standing_of, arcs_of, EdgesInRange, TagsApart}
 use Rattle.lq_diff.specs.Cycles.{IsNegativeCycle}
-use Rattle.lq_diff.specs.Solving.{IsSolved}
 use Rattle.lq_diff.specs.Stops.{StopsBy}
 
--- the rows that stand, the potentials, the steps of the last conflict, the last answer, and the limits
+-- the rows that stand, the potentials, whether a conflict is known and the steps of the last one, the last answer, and the limits
 pub record Table : Type 0 where
   pub edges : List Edge
   pub vertices : List Vertex
+  pub conflict : Bool
   pub found : List (ℕ × Bool)
   pub answer : Answer
   pub terms : ℕ
@@ -35,9 +38,13 @@ table_limits t = t.terms ∷ t.rows ∷ []
 abbrev pub table_last : Table → Last
 table_last t = last_of t.answer
 
--- after an answer `next` is the potential over that of the number 0
+-- a vertex's potential over that of the number 0, and 0 where there is no such vertex
+abbrev pub over_zero : Option Vertex → ℤ → ℤ
+over_zero (Some vertex) zero = vertex.kept.value -ℤ zero
+over_zero None zero = pos 0
+
 abbrev pub value_at : Table → ℕ → ℤ
-value_at t term = nexts (vertex_at t.vertices) (suc term)
+value_at t term = over_zero (slice_get t.vertices (suc term)) (values (vertex_at t.vertices) 0)
 
 abbrev pub table_point : Table → Valuation
 table_point t term = whole (value_at t term)
@@ -65,16 +72,27 @@ constants (r ∷ rows) = unsigned_abs r.1.constant + constants rows
 abbrev pub MayStop : List ℕ → Tagged → List Row → LinearStop → Type 0
 MayStop limits rows ever stop = StopsBy (constants rows) stop
 
--- greatest potentials, each with its distance from that of the number 0
-pub record IsAnswer (arcs : List Arc) (vertices : List Vertex) : Type 0 where
-  pub solved : IsSolved arcs (values (vertex_at vertices))
-  pub measured : (v : ℕ) → v < length vertices → nexts (vertex_at vertices) v ≡ values (vertex_at vertices) v -ℤ values (vertex_at vertices) 0
+-- the arcs of the first rows were admitted, those of all where no conflict is known; where one is, it is one of the first row that wasn't
+pub record IsStanding (edges : List Edge) (g : Graph) (conflict : Bool) (found : List (ℕ × Bool)) : Type 0 where
+  pub graph : IsGraph g
+  pub in_range : EdgesInRange edges (length g.vertices.items)
+  pub apart : TagsApart edges
+  pub rows : length g.starts.items ≤ length edges
+  pub all : conflict ≡ false → length g.starts.items ≡ length edges
+  pub arcs : g.arcs.items ≡ arcs_of (take (length g.starts.items) edges)
+  pub starts : (i : ℕ) → i < length g.starts.items → (start_at g.starts.items i).arcs ≡ length (arcs_of (take i edges))
+  pub more : conflict ≡ true → length g.starts.items < length edges
+  pub known : conflict ≡ true → IsNegativeCycle (arcs_of (take (suc (length g.starts.items)) edges)) found
 
-pub record IsTable (t : Table) (order : List ℕ) : Type 0 where
+-- each potential's difference from that of the number 0 can be written
+abbrev pub AllFit : List Vertex → Type 0
+AllFit vertices = (v : ℕ) → v < length vertices → FitsSigned w128 (values (vertex_at vertices) v -ℤ values (vertex_at vertices) 0)
+
+pub record IsTable (t : Table) (g : Graph) : Type 0 where
   pub fits : t.terms < 18446744073709551615
+  pub same : g.vertices.items ≡ t.vertices
   pub sized : length t.vertices ≡ t.terms + 1
-  pub ordered : length order ≡ length t.vertices
-  pub in_range : EdgesInRange t.edges (length t.vertices)
-  pub apart : TagsApart t.edges
-  pub solved : t.answer ≡ Solved → IsAnswer (arcs_of t.edges) t.vertices
-  pub contradicted : t.answer ≡ Contradicted → IsNegativeCycle (arcs_of t.edges) t.found
+  pub standing : IsStanding t.edges g t.conflict t.found
+  pub fit : t.answer ≡ Solved → AllFit t.vertices
+  pub solved : t.answer ≡ Solved → t.conflict ≡ false
+  pub contradicted : t.answer ≡ Contradicted → t.conflict ≡ true

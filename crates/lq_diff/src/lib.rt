@@ -3,10 +3,12 @@
 
 mod arc;
 mod cycle;
+mod graph;
 mod number;
 mod pass;
 mod solve;
 mod table;
+mod trail;
 mod vertex;
 
 pub use table::DistanceTable;

@@ -1,13 +1,15 @@
 // A pass: vertices fall to the offers that reach them.
 ghost use Rattle.std.specs.Prelude.{◌≡◌, ◌⊎◌, ℕ, List, [], ◌∷◌, ◌++◌, ◌<◌, ◌≤◌, ◌^◌, length, IfOk, IfErr, IfSome, IfNone, OnOk};
-ghost use Rattle.lq_diff.specs.Passes.{vertex_at, order_at, values, nexts, AllInRange, AllBelow, IsListed, AreListed, AtRest, IsPass, IsSized, IsLeast, NoneFalls, IsNext, IsStuck, IsNarrow, Falls};
+ghost use Rattle.lq_diff.specs.Passes.{vertex_at, order_at, values, nexts, touched, AllInRange, AllBelow, IsListed, AreListed, AtRest, IsPass, IsSized, IsLeast, NoneFalls, IsNext, IsStuck, IsNarrow, Falls};
 ghost use Rattle.lq_diff.specs.Arcs.{Meets};
 ghost use Rattle.lq_diff.specs.Stops.{StopsBy};
 ghost use Rattle.lq_diff.specs.Links.{kept, AreLinked, IsLatest};
+ghost use Rattle.lq_diff.specs.Trail.{IsTrailed};
 ghost use Rattle.lq_diff.specs.declared.arc.Arc.{Arc};
 
 use crate::arc::Arc;
 use crate::number::{difference, sum};
+use crate::trail::{Note, note_all};
 use crate::vertex::Vertex;
 use lq_linear::LinearStop;
 
@@ -168,7 +170,7 @@ fn settle(
 }
 
 /// Nothing is offered and no vertex is settled: only those that are listed were.
-fn rest(vertices: &mut [Vertex], order: &mut [u64], fallen: &[usize])
+pub(crate) fn rest(vertices: &mut [Vertex], order: &mut [u64], fallen: &[usize])
     requires same { length order.old ≡ length vertices.old }
     requires inside { AllBelow fallen.now (length vertices.old) }
     requires listed { AreListed fallen.now (vertex_at vertices.old) (order_at order.old) }
@@ -190,6 +192,7 @@ fn accept(vertices: &mut [Vertex], fallen: &[usize])
         → values (vertex_at vertices.new) v ≡ nexts (vertex_at vertices.old) v }
     ensures others { (v : ℕ) → IsListed fallen.now v ⊎ (vertex_at vertices.new v ≡ vertex_at vertices.old v) }
     ensures last { (v : ℕ) → (kept (vertex_at vertices.new) v).last ≡ (kept (vertex_at vertices.old) v).last }
+    ensures marks { (v : ℕ) → touched (vertex_at vertices.new) v ≡ touched (vertex_at vertices.old) v }
 {
     for place in fallen {
         let v = *place;
@@ -198,14 +201,15 @@ fn accept(vertices: &mut [Vertex], fallen: &[usize])
     }
 }
 
-/// Admits the last of the arcs, the others being met. The answer is the number of an arc that closes a walk whose costs sum to less
-/// than 0.
+/// Admits the last of the arcs, the others being met, and notes what was kept of the vertices that fall. The answer is the number of an
+/// arc that closes a walk whose costs sum to less than 0.
 pub(crate) fn admit(
     arcs: &[Arc],
     links: &[usize],
     vertices: &mut [Vertex],
     order: &mut [u64],
     fallen: &mut Vec<usize>,
+    trail: &mut Vec<Note>,
 ) -> Result<Option<usize>, LinearStop>
     requires some { 0 < length arcs.now }
     requires in_range { AllInRange arcs.now (length vertices.old) }
@@ -219,6 +223,14 @@ pub(crate) fn admit(
         → AtRest (vertex_at vertices.new) (order_at order.new) v)) }
     ensures lasts { IfOk result (λ closing. IfNone closing ((v : ℕ)
         → (kept (vertex_at vertices.new) v).last ≡ (kept (vertex_at vertices.old) v).last)) }
+    ensures marks { IfOk result (λ closing. IfNone closing ((v : ℕ)
+        → touched (vertex_at vertices.new) v ≡ touched (vertex_at vertices.old) v)) }
+    ensures trailed { IsTrailed (length vertices.old) trail.old.items trail.new.items
+        (kept (vertex_at vertices.old)) (kept (vertex_at vertices.new)) }
+    ensures inside { IfOk result (λ closing. IfSome closing (λ _. AllBelow fallen.new.items
+        (length vertices.new))) }
+    ensures listed { IfOk result (λ closing. IfSome closing (λ _. AreListed fallen.new.items
+        (vertex_at vertices.new) (order_at order.new))) }
     ensures next { IfOk result (λ closing. IfNone closing ((front : List Arc) (last : Arc)
         → arcs.now ≡ front ++ last ∷ [] → Meets (values (vertex_at vertices.old)) front
         → IsNext arcs.now (values (vertex_at vertices.old)) (values (vertex_at vertices.new)))) }
@@ -242,6 +254,7 @@ pub(crate) fn admit(
     match settle(arcs, links, last.from, vertices, order, fallen)? {
         None => {
             let listed = fallen.as_slice();
+            note_all(trail, vertices, listed)?;
             accept(vertices, listed);
             rest(vertices, order, listed);
             fallen.clear();

@@ -1,32 +1,19 @@
 // Arcs admitted one by one.
-ghost use Rattle.std.specs.Prelude.{◌≡◌, ◌≢◌, ℕ, [], pos, true, false, ◌+◌, ◌<◌, ◌≤◌, ◌^◌, ◌+ℤ◌, FitsSigned, length, IfOk, IfErr, IfSome, IfNone, OnOk};
+ghost use Rattle.std.specs.Prelude.{◌≡◌, ◌≢◌, ℕ, [], ◌∷◌, true, false, Some, ◌+◌, ◌<◌, ◌≤◌, ◌^◌, ◌+ℤ◌, FitsSigned, length, slice_get, slice_index_or, IfOk, IfErr, IfSome, IfNone, OnOk, OnErr};
 ghost use Rattle.std.specs.Int.{w128};
-ghost use Rattle.lq_diff.specs.Passes.{vertex_at, order_at, values, nexts, AllInRange, AtRest};
-ghost use Rattle.lq_diff.specs.Solving.{IsBounded, IsSolved, IsEnded, IsOpposite, IsPlacing, touched_at};
+ghost use Rattle.lq_diff.specs.declared.arc.Arc.{Arc};
+ghost use Rattle.lq_diff.specs.Passes.{vertex_at, order_at, values, nexts, touched, AllBelow, AllInRange, AreListed, AtRest};
+ghost use Rattle.lq_diff.specs.Solving.{IsBounded, IsEnded, IsOpposite, IsPlacing};
 ghost use Rattle.lq_diff.specs.Stops.{StopsBy};
 ghost use Rattle.lq_diff.specs.Links.{kept, HasLinks};
+ghost use Rattle.lq_diff.specs.Trail.{IsTrailed, IsReached};
 
 use crate::arc::Arc;
 use crate::number::sum;
 use crate::pass::admit;
-use crate::vertex::{Kept, Vertex};
+use crate::trail::{Note, note_all};
+use crate::vertex::Vertex;
 use lq_linear::LinearStop;
-
-/// All potentials become 0, nothing is offered, and no vertex is settled or has an arc.
-fn clear(vertices: &mut [Vertex], order: &mut [u64])
-    ensures values { (v : ℕ) → values (vertex_at vertices.new) v ≡ pos 0 }
-    ensures nexts { (v : ℕ) → nexts (vertex_at vertices.new) v ≡ pos 0 }
-    ensures last { (v : ℕ) → (kept (vertex_at vertices.new) v).last ≡ 0 }
-    ensures order { (v : ℕ) → order_at order.new v ≡ 0 }
-{
-    for vertex in vertices.iter_mut() {
-        vertex.kept = Kept { value: 0, last: 0 };
-        vertex.next = 0;
-    }
-    for number in order.iter_mut() {
-        *number = 0;
-    }
-}
 
 /// Whether two arcs are the two readings of one equation between two vertices.
 fn are_opposite(arc: Arc, back: Arc) -> bool
@@ -42,10 +29,10 @@ fn are_opposite(arc: Arc, back: Arc) -> bool
 }
 
 /// The arc by which an equation, read from the arc of this number and the next, places a vertex that no arc before names.
-fn placing(arcs: &[Arc], at: usize, touched: &[bool]) -> Option<Arc>
+fn placing(arcs: &[Arc], at: usize, vertices: &[Vertex]) -> Option<Arc>
     requires at_in { at < length arcs.now }
-    requires in_range { AllInRange arcs.now (length touched.now) }
-    ensures { IfSome result (λ arc. IsPlacing arcs.now at (touched_at touched.now) arc) }
+    requires in_range { AllInRange arcs.now (length vertices.now) }
+    ensures { IfSome result (λ arc. IsPlacing arcs.now at (touched (vertex_at vertices.now)) arc) }
 {
     if at + 1 == arcs.len() {
         return None;
@@ -55,10 +42,10 @@ fn placing(arcs: &[Arc], at: usize, touched: &[bool]) -> Option<Arc>
     if !are_opposite(arc, back) {
         return None;
     }
-    if !touched[arc.to] {
+    if !vertices[arc.to].kept.touched {
         return Some(arc);
     }
-    if !touched[arc.from] {
+    if !vertices[arc.from].kept.touched {
         return Some(back);
     }
     None
@@ -70,9 +57,9 @@ fn place(vertices: &mut [Vertex], arc: Arc) -> Result<(), LinearStop>
     requires to_in { arc.to < length vertices.old }
     ensures here { OnOk result (values (vertex_at vertices.new) arc.to
         ≡ values (vertex_at vertices.old) arc.from +ℤ arc.cost) }
-    ensures others { OnOk result ((v : ℕ) → v ≢ arc.to
-        → values (vertex_at vertices.new) v ≡ values (vertex_at vertices.old) v) }
+    ensures others { (v : ℕ) → v ≢ arc.to → kept (vertex_at vertices.new) v ≡ kept (vertex_at vertices.old) v }
     ensures lasts { (v : ℕ) → (kept (vertex_at vertices.new) v).last ≡ (kept (vertex_at vertices.old) v).last }
+    ensures marks { (v : ℕ) → touched (vertex_at vertices.new) v ≡ touched (vertex_at vertices.old) v }
     ensures rest { (order : ℕ → ℕ) → ((v : ℕ) → AtRest (vertex_at vertices.old) order v)
         → (v : ℕ) → AtRest (vertex_at vertices.new) order v }
     ensures stop { IfErr result (λ stop. (n : ℕ) → (¬ (FitsSigned w128
@@ -93,6 +80,10 @@ fn link(arcs: &[Arc], at: usize, links: &mut [usize], vertices: &mut [Vertex])
     ensures linked { HasLinks arcs.now links.new (vertex_at vertices.new) (at + 1) }
     ensures values { (v : ℕ) → values (vertex_at vertices.new) v ≡ values (vertex_at vertices.old) v }
     ensures nexts { (v : ℕ) → nexts (vertex_at vertices.new) v ≡ nexts (vertex_at vertices.old) v }
+    ensures marks { (v : ℕ) → touched (vertex_at vertices.new) v ≡ touched (vertex_at vertices.old) v }
+    ensures others { (arc : Arc) → slice_get arcs.now at ≡ Some arc → (v : ℕ) → v ≢ arc.from
+        → kept (vertex_at vertices.new) v ≡ kept (vertex_at vertices.old) v }
+    ensures before { (j : ℕ) → j < at → slice_index_or links.new j 0 ≡ slice_index_or links.old j 0 }
 {
     let from = arcs[at].from;
     let vertex = &mut vertices[from];
@@ -101,57 +92,138 @@ fn link(arcs: &[Arc], at: usize, links: &mut [usize], vertices: &mut [Vertex])
 }
 
 /// Marks the vertices that an arc names.
-fn touch(touched: &mut [bool], arc: Arc)
-    requires from_in { arc.from < length touched.old }
-    requires to_in { arc.to < length touched.old }
-    ensures { (v : ℕ) → touched_at touched.new v ≡ false → (touched_at touched.old v ≡ false)
-        × (arc.from ≢ v) × (arc.to ≢ v) }
+fn touch(vertices: &mut [Vertex], arc: Arc)
+    requires from_in { arc.from < length vertices.old }
+    requires to_in { arc.to < length vertices.old }
+    ensures marks { (v : ℕ) → touched (vertex_at vertices.new) v ≡ false
+        → (touched (vertex_at vertices.old) v ≡ false) × (arc.from ≢ v) × (arc.to ≢ v) }
+    ensures values { (v : ℕ) → values (vertex_at vertices.new) v ≡ values (vertex_at vertices.old) v }
+    ensures nexts { (v : ℕ) → nexts (vertex_at vertices.new) v ≡ nexts (vertex_at vertices.old) v }
+    ensures lasts { (v : ℕ) → (kept (vertex_at vertices.new) v).last ≡ (kept (vertex_at vertices.old) v).last }
+    ensures others { (v : ℕ) → v ≢ arc.from → v ≢ arc.to
+        → kept (vertex_at vertices.new) v ≡ kept (vertex_at vertices.old) v }
 {
-    touched[arc.from] = true;
-    touched[arc.to] = true;
+    vertices[arc.from].kept.touched = true;
+    vertices[arc.to].kept.touched = true;
 }
 
-/// Admits the arcs in their order, from nothing: an equation with a vertex that no arc before names places that vertex and moves no
-/// other. The vertices of the arcs admitted so far are marked. The answer is the number of an arc that closes a walk whose costs sum to
-/// less than 0.
-pub(crate) fn solve(
+/// Admits the arc of this number and the next, by one of which an equation places a vertex.
+fn admit_two(
     arcs: &[Arc],
+    at: usize,
+    arc: Arc,
+    links: &mut [usize],
+    vertices: &mut [Vertex],
+    trail: &mut Vec<Note>,
+) -> Result<(), LinearStop>
+    requires placing { IsPlacing arcs.now at (touched (vertex_at vertices.old)) arc }
+    requires in_range { AllInRange arcs.now (length vertices.old) }
+    requires same { length links.old ≡ length arcs.now }
+    requires reached { IsReached arcs.now links.old at (kept (vertex_at vertices.old)) }
+    ensures reached { OnOk result (IsReached arcs.now links.new (at + 2) (kept (vertex_at vertices.new))) }
+    ensures rest { (order : ℕ → ℕ) → ((v : ℕ) → AtRest (vertex_at vertices.old) order v)
+        → (v : ℕ) → AtRest (vertex_at vertices.new) order v }
+    ensures before { (j : ℕ) → j < at → slice_index_or links.new j 0 ≡ slice_index_or links.old j 0 }
+    ensures trailed { IsTrailed (length vertices.old) trail.old.items trail.new.items
+        (kept (vertex_at vertices.old)) (kept (vertex_at vertices.new)) }
+    ensures stop { IfErr result (λ stop. (n : ℕ) → IsBounded n arcs.now → StopsBy n stop) }
+{
+    note_all(trail, vertices, &[arc.from, arc.to])?;
+    place(vertices, arc)?;
+    touch(vertices, arc);
+    link(arcs, at, links, vertices);
+    link(arcs, at + 1, links, vertices);
+    Ok(())
+}
+
+/// Admits the arc of this number. The answer is the number of an arc that closes a walk whose costs sum to less than 0.
+fn admit_one(
+    arcs: &[Arc],
+    at: usize,
     links: &mut [usize],
     vertices: &mut [Vertex],
     order: &mut [u64],
     fallen: &mut Vec<usize>,
-    touched: &mut [bool],
+    trail: &mut Vec<Note>,
 ) -> Result<Option<usize>, LinearStop>
+    requires at_in { at < length arcs.now }
     requires in_range { AllInRange arcs.now (length vertices.old) }
-    requires links { length links.old ≡ length arcs.now }
-    requires same { length order.old ≡ length vertices.old }
+    requires same { length links.old ≡ length arcs.now }
+    requires ordered { length order.old ≡ length vertices.old }
+    requires reached { IsReached arcs.now links.old at (kept (vertex_at vertices.old)) }
+    requires rest { (v : ℕ) → AtRest (vertex_at vertices.old) (order_at order.old) v }
     requires empty { fallen.old.items ≡ [] }
-    requires marks { length touched.old ≡ length vertices.old }
-    ensures solved { IfOk result (λ closing. IfNone closing
-        (IsSolved arcs.now (values (vertex_at vertices.new)))) }
+    ensures reached { IfOk result (λ closing. IfNone closing (IsReached arcs.now links.new (at + 1)
+        (kept (vertex_at vertices.new)))) }
+    ensures rest { IfOk result (λ closing. IfNone closing ((v : ℕ)
+        → AtRest (vertex_at vertices.new) (order_at order.new) v)) }
+    ensures empty { IfOk result (λ closing. IfNone closing (fallen.new.items ≡ [])) }
     ensures ended { IfOk result (λ closing. IfSome closing (λ k. IsEnded arcs.now k (vertex_at vertices.new)
         (order_at order.new))) }
+    ensures inside { IfOk result (λ closing. IfSome closing (λ _. AllBelow fallen.new.items
+        (length vertices.new))) }
+    ensures listed { IfOk result (λ closing. IfSome closing (λ _. AreListed fallen.new.items
+        (vertex_at vertices.new) (order_at order.new))) }
+    ensures before { (j : ℕ) → j < at → slice_index_or links.new j 0 ≡ slice_index_or links.old j 0 }
+    ensures trailed { IsTrailed (length vertices.old) trail.old.items trail.new.items
+        (kept (vertex_at vertices.old)) (kept (vertex_at vertices.new)) }
     ensures stop { IfErr result (λ stop. (n : ℕ) → IsBounded n arcs.now → StopsBy n stop) }
 {
-    clear(vertices, order);
-    let mut k = 0;
+    let arc = arcs[at];
+    note_all(trail, vertices, &[arc.from, arc.to])?;
+    touch(vertices, arc);
+    link(arcs, at, links, vertices);
+    admit(
+        &arcs[..at + 1],
+        &links[..at + 1],
+        vertices,
+        order,
+        fallen,
+        trail,
+    )
+}
+
+/// Admits the arcs from this number on, in their order: an equation with a vertex that no arc before names places that vertex and moves
+/// no other. The answer is the number of an arc that closes a walk whose costs sum to less than 0.
+pub(crate) fn solve(
+    arcs: &[Arc],
+    from: usize,
+    links: &mut [usize],
+    vertices: &mut [Vertex],
+    order: &mut [u64],
+    fallen: &mut Vec<usize>,
+    trail: &mut Vec<Note>,
+) -> Result<Option<usize>, LinearStop>
+    requires from_in { from ≤ length arcs.now }
+    requires in_range { AllInRange arcs.now (length vertices.old) }
+    requires same { length links.old ≡ length arcs.now }
+    requires ordered { length order.old ≡ length vertices.old }
+    requires reached { IsReached arcs.now links.old from (kept (vertex_at vertices.old)) }
+    requires rest { (v : ℕ) → AtRest (vertex_at vertices.old) (order_at order.old) v }
+    requires empty { fallen.old.items ≡ [] }
+    ensures reached { IfOk result (λ closing. IfNone closing (IsReached arcs.now links.new (length arcs.now)
+        (kept (vertex_at vertices.new)))) }
+    ensures rest { IfOk result (λ closing. IfNone closing ((v : ℕ)
+        → AtRest (vertex_at vertices.new) (order_at order.new) v)) }
+    ensures empty { IfOk result (λ closing. IfNone closing (fallen.new.items ≡ [])) }
+    ensures ended { IfOk result (λ closing. IfSome closing (λ k. IsEnded arcs.now k (vertex_at vertices.new)
+        (order_at order.new))) }
+    ensures inside { IfOk result (λ closing. IfSome closing (λ _. AllBelow fallen.new.items
+        (length vertices.new))) }
+    ensures listed { IfOk result (λ closing. IfSome closing (λ _. AreListed fallen.new.items
+        (vertex_at vertices.new) (order_at order.new))) }
+    ensures before { (j : ℕ) → j < from → slice_index_or links.new j 0 ≡ slice_index_or links.old j 0 }
+    ensures trailed { IsTrailed (length vertices.old) trail.old.items trail.new.items
+        (kept (vertex_at vertices.old)) (kept (vertex_at vertices.new)) }
+    ensures stop { IfErr result (λ stop. (n : ℕ) → IsBounded n arcs.now → StopsBy n stop) }
+{
+    let mut k = from;
     while k < arcs.len() {
-        if let Some(arc) = placing(arcs, k, touched) {
-            place(vertices, arc)?;
-            touch(touched, arc);
-            link(arcs, k, links, vertices);
-            link(arcs, k + 1, links, vertices);
+        if let Some(arc) = placing(arcs, k, vertices) {
+            admit_two(arcs, k, arc, links, vertices, trail)?;
             k += 2;
         } else {
-            touch(touched, arcs[k]);
-            link(arcs, k, links, vertices);
-            if let Some(closing) = admit(
-                &arcs[..k + 1],
-                &links[..k + 1],
-                vertices,
-                order,
-                fallen,
-            )? {
+            if let Some(closing) = admit_one(arcs, k, links, vertices, order, fallen, trail)? {
                 return Ok(Some(closing));
             }
             k += 1;

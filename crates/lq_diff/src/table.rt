@@ -1,21 +1,20 @@
 // The table of distances: an engine of difference rows.
-ghost use Rattle.std.specs.Prelude.{◌≡◌, ℕ, ℤ, pos, List, [], ◌∷◌, ◌++◌, ◌<◌, ◌≤◌, ◌^◌, ◌+◌, ◌-◌, ◌-ℤ◌, length, slice_index, unsigned_abs, negsuc, if◌then◌else◌, IfOk, IfErr, IfSome, IfNone};
+ghost use Rattle.std.specs.Int.{w128};
+ghost use Rattle.std.specs.Prelude.{◌≡◌, Bool, true, take, FitsSigned, OnOk, OnErr, ℕ, ℤ, pos, List, [], ◌∷◌, ◌++◌, ◌<◌, ◌≤◌, ◌^◌, ◌+◌, ◌-◌, ◌-ℤ◌, length, slice_index, unsigned_abs, negsuc, if◌then◌else◌, IfOk, IfErr, IfSome, IfNone};
 ghost use Rattle.lq_math.specs.Rational.{whole};
 ghost use Rattle.lq_num.specs.Value.{value_of};
 ghost use Rattle.lq_linear.specs.Row.{Row, IsRow, AscendsFrom};
 ghost use Rattle.lq_linear.specs.Answers.{Last, Held};
-ghost use Rattle.lq_diff.specs.Edges.{parts_of, arcs_of, sizes, EdgesInRange, TagsApart};
-ghost use Rattle.lq_diff.specs.Passes.{vertex_at, order_at, values, nexts};
+ghost use Rattle.lq_diff.specs.Edges.{parts_of, sizes, HasNoTag};
+ghost use Rattle.lq_diff.specs.Passes.{vertex_at, values};
 ghost use Rattle.lq_diff.specs.Stops.{StopsBy};
-ghost use Rattle.lq_diff.specs.Table.{IsDifference, TermsBelow, IsAnswer};
+ghost use Rattle.lq_diff.specs.Table.{IsDifference, TermsBelow, IsStanding};
 ghost use Rattle.lq_diff.specs.Range.{InRange};
-ghost use Rattle.lq_diff.specs.Cycles.{IsNegativeCycle};
 
-use crate::arc::{Arc, Edge};
-use crate::cycle::cycle;
+use crate::arc::Edge;
+use crate::graph::Graph;
 use crate::number::difference;
-use crate::solve::solve;
-use crate::vertex::{Kept, Vertex};
+use crate::vertex::Vertex;
 use lq_linear::{Answer, LinearEngine, LinearRow, LinearStop, Mark, Verdict};
 use lq_num::Frac;
 use std::alloc::{AllocError, Global};
@@ -28,8 +27,10 @@ pub struct DistanceTable {
     terms: u64,
     rows: u64,
     edges: Vec<Edge>,
-    vertices: Vec<Vertex>,
-    order: Vec<u64>,
+    graph: Graph,
+    /// Whether the first row whose arcs weren't admitted closes a walk whose costs sum to less than 0.
+    conflict: bool,
+    /// The steps of that walk.
     found: Vec<(u64, bool)>,
     answer: Answer,
 }
@@ -39,9 +40,9 @@ impl Model for DistanceTable {
 
     ghost Value = { Table };
 
-    ghost view = { λ t. record { edges = t.edges.items; vertices = t.vertices.items; found = t.found.items; answer = t.answer; terms = t.terms; rows = t.rows } };
+    ghost view = { λ t. record { edges = t.edges.items; vertices = t.graph.vertices.items; conflict = t.conflict; found = t.found.items; answer = t.answer; terms = t.terms; rows = t.rows } };
 
-    ghost invariant = { λ t. IsTable (record { edges = t.edges.items; vertices = t.vertices.items; found = t.found.items; answer = t.answer; terms = t.terms; rows = t.rows }) t.order.items };
+    ghost invariant = { λ t. IsTable (record { edges = t.edges.items; vertices = t.graph.vertices.items; conflict = t.conflict; found = t.found.items; answer = t.answer; terms = t.terms; rows = t.rows }) t.graph };
 }
 
 /// The vertices of a difference row's terms: it is read "the second minus the first".
@@ -74,100 +75,79 @@ fn ends(parts: &[(u64, i128)]) -> (usize, usize)
     }
 }
 
-/// The arcs of the rows, in their order.
-fn arcs(alloc: Global, edges: &[Edge]) -> Result<Vec<Arc>, LinearStop>
-    ensures arcs { IfOk result (λ found. found.items ≡ arcs_of edges.now) }
-    ensures stop { IfErr result (λ stop. StopsBy (sizes edges.now) stop) }
-{
-    let mut found = Vec::new(alloc);
-    for edge in edges {
-        let cost = difference(0, edge.weight)?;
-        let forward = Arc {
-            tag: edge.tag,
-            from: edge.from,
-            to: edge.to,
-            cost,
-            forward: true,
-        };
-        let Ok(()) = found.push(forward) else {
-            return Err(LinearStop::Memory);
-        };
-        if edge.equal {
-            let backward = Arc {
-                tag: edge.tag,
-                from: edge.to,
-                to: edge.from,
-                cost: edge.weight,
-                forward: false,
-            };
-            let Ok(()) = found.push(backward) else {
-                return Err(LinearStop::Memory);
-            };
-        }
-    }
-    Ok(found)
-}
-
-/// Measures each potential from that of the number 0.
-fn measure(vertices: &mut [Vertex]) -> Result<(), LinearStop>
-    requires { 0 < length vertices.old }
-    ensures kept { (v : ℕ) → values (vertex_at vertices.new) v ≡ values (vertex_at vertices.old) v }
-    ensures measured { IfOk result (λ _. (v : ℕ) → v < length vertices.old
-        → nexts (vertex_at vertices.new) v ≡ values (vertex_at vertices.old) v -ℤ values
-        (vertex_at vertices.old) 0) }
-    ensures stop { IfErr result (λ stop. (n : ℕ) → InRange (values (vertex_at vertices.old)) n → StopsBy n stop) }
+/// Whether the difference of each potential from that of the number 0 can be written.
+fn measure(vertices: &[Vertex]) -> Result<(), LinearStop>
+    requires { 0 < length vertices.now }
+    ensures fit { OnOk result ((v : ℕ) → v < length vertices.now → FitsSigned w128
+        (values (vertex_at vertices.now) v -ℤ values (vertex_at vertices.now) 0)) }
+    ensures stop { IfErr result (λ stop. (n : ℕ) → InRange (values (vertex_at vertices.now)) n → StopsBy n stop) }
 {
     let base = vertices[0].kept.value;
-    for vertex in vertices.iter_mut() {
-        match difference(vertex.kept.value, base) {
-            Ok(from_zero) => vertex.next = from_zero,
-            Err(stop) => return Err(stop),
-        }
+    for vertex in vertices {
+        difference(vertex.kept.value, base)?;
     }
     Ok(())
 }
 
-/// Decides the rows: potentials that meet their arcs, or the steps of a closed walk whose costs sum to less than 0.
-fn decide(
-    alloc: Global,
-    edges: &[Edge],
-    vertices: &mut [Vertex],
-    order: &mut [u64],
-) -> Result<Option<Vec<(u64, bool)>>, LinearStop>
-    requires some { 0 < length vertices.old }
-    requires in_range { EdgesInRange edges.now (length vertices.old) }
-    requires same { length order.old ≡ length vertices.old }
-    requires apart { TagsApart edges.now }
-    ensures solved { IfOk result (λ found. IfNone found (IsAnswer (arcs_of edges.now) vertices.new)) }
-    ensures contradicted { IfOk result (λ found. IfSome found
-        (λ steps. IsNegativeCycle (arcs_of edges.now) steps.items)) }
-    ensures stop { IfErr result (λ stop. StopsBy (sizes edges.now) stop) }
+/// The difference of a potential from that of the number 0.
+fn from_zero(vertices: &[Vertex], at: usize) -> i128
+    requires within { at < length vertices.now }
+    requires fits { FitsSigned w128 (values (vertex_at vertices.now) at -ℤ values (vertex_at vertices.now) 0) }
+    ensures { result ≡ values (vertex_at vertices.now) at -ℤ values (vertex_at vertices.now) 0 }
 {
-    let arcs = arcs(alloc, edges)?;
-    let Ok(mut touched) = vec![in alloc; false; vertices.len()] else {
+    vertices[at].kept.value - vertices[0].kept.value
+}
+
+/// Admits a row and lets it stand. Behind one that closes a walk whose costs sum to less than 0, rows stand without being admitted.
+fn stand(
+    alloc: Global,
+    edges: &mut Vec<Edge>,
+    graph: &mut Graph,
+    conflict: &mut bool,
+    found: &mut Vec<(u64, bool)>,
+    edge: Edge,
+) -> Result<(), LinearStop>
+    requires standing { IsStanding edges.old.items graph.old conflict.old found.old.items }
+    requires from_in { edge.from < length graph.old.vertices.items }
+    requires to_in { edge.to < length graph.old.vertices.items }
+    requires fresh { HasNoTag edge.tag edges.old.items }
+    ensures standing { IsStanding edges.new.items graph.new conflict.new found.new.items }
+    ensures added { OnOk result (edges.new.items ≡ edges.old.items ++ edge ∷ []) }
+    ensures refused { OnErr result (edges.new.items ≡ edges.old.items) }
+    ensures vertices { length graph.new.vertices.items ≡ length graph.old.vertices.items }
+    ensures stop { IfErr result (λ stop. StopsBy (sizes (edges.old.items ++ edge ∷ [])) stop) }
+{
+    let Ok(()) = edges.reserve(1) else {
         return Err(LinearStop::Memory);
     };
-    let Ok(mut links) = vec![in alloc; 0; arcs.len()] else {
-        return Err(LinearStop::Memory);
-    };
-    let mut fallen = Vec::new(alloc);
-    match solve(
-        arcs.as_slice(),
-        &mut links,
-        vertices,
-        order,
-        &mut fallen,
-        &mut touched,
-    ) {
-        Err(stop) => Err(stop),
-        Ok(None) => match measure(vertices) {
-            Ok(()) => Ok(None),
-            Err(stop) => Err(stop),
-        },
-        Ok(Some(closing)) => match cycle(alloc, arcs.as_slice(), vertices, order, closing) {
-            Ok(found) => Ok(Some(found)),
-            Err(_) => Err(LinearStop::Memory),
-        },
+    if *conflict {
+        edges.push_reserved(edge);
+        return Ok(());
+    }
+    let closed = graph.admit(alloc, &edge)?;
+    edges.push_reserved(edge);
+    if let Some(steps) = closed {
+        *conflict = true;
+        *found = steps;
+    }
+    Ok(())
+}
+
+/// Keeps so many of the first rows.
+fn keep(edges: &mut Vec<Edge>, graph: &mut Graph, conflict: &mut bool, rows: usize)
+    requires standing { (found : List (ℕ × Bool)) × IsStanding edges.old.items graph.old conflict.old found }
+    requires within { rows ≤ length edges.old.items }
+    ensures standing { (found : List (ℕ × Bool)) → IsStanding edges.old.items graph.old conflict.old found
+        → IsStanding edges.new.items graph.new conflict.new found }
+    ensures edges { edges.new.items ≡ take rows edges.old.items }
+    ensures vertices { length graph.new.vertices.items ≡ length graph.old.vertices.items }
+{
+    edges.truncate(rows);
+    if rows <= graph.starts.len() {
+        *conflict = false;
+        if rows < graph.starts.len() {
+            graph.back_to(rows);
+        }
     }
 }
 
@@ -195,18 +175,13 @@ impl DistanceTable {
         let Some(count) = (terms as usize).checked_add(1) else {
             return Err(AllocError);
         };
-        let vertex = Vertex {
-            kept: Kept { value: 0, last: 0 },
-            next: 0,
-            parent: 0,
-        };
         Ok(DistanceTable {
             alloc,
             terms,
             rows,
             edges: Vec::new(alloc),
-            vertices: vec![in alloc; vertex; count]?,
-            order: vec![in alloc; 0; count]?,
+            graph: Graph::new(alloc, count)?,
+            conflict: false,
             found: Vec::new(alloc),
             answer: Answer::Unasked,
         })
@@ -246,7 +221,7 @@ impl LinearEngine for DistanceTable {
 
     ghost multipliers = { table_multipliers };
 
-    ghost known = { λ table. table_last table ≡ Conflicted };
+    ghost known = { λ table. table.conflict ≡ true };
 
     fn assert_row(&mut self, row: &LinearRow, tag: u64) -> Result<(), LinearStop> {
         let _ = &self.terms;
@@ -258,14 +233,21 @@ impl LinearEngine for DistanceTable {
             weight: row.constant(),
             equal: row.equal(),
         };
-        match self.edges.push(edge) {
+        match stand(
+            self.alloc,
+            &mut self.edges,
+            &mut self.graph,
+            &mut self.conflict,
+            &mut self.found,
+            edge,
+        ) {
             Ok(()) => {
                 self.answer = Answer::Unasked;
                 Ok(())
             }
-            Err(_) => {
+            Err(stop) => {
                 self.answer = Answer::GaveUp;
-                Err(LinearStop::Memory)
+                Err(stop)
             }
         }
     }
@@ -275,27 +257,28 @@ impl LinearEngine for DistanceTable {
     }
 
     fn back_to(&mut self, mark: Mark) {
-        self.edges.truncate(mark.0 as usize);
+        keep(
+            &mut self.edges,
+            &mut self.graph,
+            &mut self.conflict,
+            mark.0 as usize,
+        );
         self.answer = Answer::Unasked;
     }
 
     fn contradicted(&self) -> bool {
-        matches!(self.answer, Answer::Contradicted)
+        self.conflict
     }
 
     fn check(&mut self) -> Result<Verdict, LinearStop> {
-        if self.contradicted() {
+        if self.conflict {
+            self.answer = Answer::Contradicted;
             return Ok(Verdict::Conflict);
         }
-        match decide(self.alloc, &self.edges, &mut self.vertices, &mut self.order) {
-            Ok(None) => {
+        match measure(&self.graph.vertices) {
+            Ok(()) => {
                 self.answer = Answer::Solved;
                 Ok(Verdict::Holds)
-            }
-            Ok(Some(found)) => {
-                self.found = found;
-                self.answer = Answer::Contradicted;
-                Ok(Verdict::Conflict)
             }
             Err(stop) => {
                 self.answer = Answer::GaveUp;
@@ -306,7 +289,7 @@ impl LinearEngine for DistanceTable {
 
     fn value(&self, term: u64) -> Frac {
         if term < self.terms {
-            Frac::whole(self.vertices[term as usize + 1].next)
+            Frac::whole(from_zero(&self.graph.vertices, term as usize + 1))
         } else {
             Frac::whole(0)
         }

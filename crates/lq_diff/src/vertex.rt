@@ -6,6 +6,8 @@ pub(crate) struct Kept {
     pub(crate) value: i128,
     /// One more than the number of the last arc that leads from it, or 0.
     pub(crate) last: usize,
+    /// Whether an arc that was admitted names it.
+    pub(crate) touched: bool,
 }
 
 /// A vertex: vertex 0 stands for the number 0, and vertex t + 1 for term t.

@@ -17,7 +17,7 @@ loop-place-preserved c =
     let vertices = c.loop-place.vertices in
     let y : Vertex = get_or vertices x blank in
     let fits : FitsSigned w128 y.next = search rules in
-    let new : Vertex = record { kept = record { value = to_z w128 (of_z w128 y.next); last = y.kept.last }; next = y.next; parent = y.parent } in
+    let new : Vertex = record { kept = record { value = to_z w128 (of_z w128 y.next); last = y.kept.last; touched = y.kept.touched }; next = y.next; parent = y.parent } in
     let value : new.kept.value ≡ y.next = to_z-of_z w128 y.next fits in
     let r = vertex_at c.args.vertices.now in
     record {
@@ -28,6 +28,7 @@ loop-place-preserved c =
           (λ e. inl (c.loop-place.place-index, slice_get-get_or c.args.fallen.now c.loop-place.place-index 0 c.loop-place-test.true ∙ ap Some (sym e)))
           (λ n. elim (c.loop-place.invariant.others v) [ inl l ↦ inl l | inr q ↦ inr (get_or-set_other vertices x v new blank n ∙ q) ]);
       last = λ v. set_same_by (λ (z : Vertex). z.kept.last) vertices x new inside refl v ∙ c.loop-place.invariant.last v;
+      marks = λ v. set_same_by (λ (z : Vertex). z.kept.touched) vertices x new inside refl v ∙ c.loop-place.invariant.marks v;
     }
 
 pub returns-clause-listed : goal.returns-clause-listed

@@ -1,4 +1,4 @@
-use Rattle.std.proofs.Common.{Err, IfSome, slice_get, refl, ◌≡◌, ℕ, ◌<◌, ◌-◌, length, pos, ◌+ℤ◌, ◌-ℤ◌, ◌<ℤ◌, to_z, of_z, FitsSigned, arith, rules, get_or, sym, ap, subst, ◌∙◌, false, List, [], ◌∷◌, ◌++◌}
+use Rattle.std.proofs.Common.{Err, IfSome, slice_get, refl, ◌≡◌, ℕ, ◌<◌, ◌-◌, length, pos, ◌+ℤ◌, ◌-ℤ◌, ◌<ℤ◌, to_z, of_z, FitsSigned, arith, rules, get_or, sym, ap, subst, ◌∙◌, false, List, [], ◌∷◌, ◌++◌, ◌⊎◌, inl, inr}
 use Rattle.std.specs.Int.{w128}
 use Rattle.std.proofs.Math.IntN.{ℤ}
 use Rattle.std.proofs.lemmas.Int.{ints, to_z-of_z}
@@ -8,9 +8,10 @@ use Rattle.lq_diff.proofs.Numbers.{element, sum_read}
 use Rattle.lq_diff.specs.declared.arc.Arc.{Arc}
 use Rattle.lq_diff.specs.declared.vertex.Kept.{Kept}
 use Rattle.lq_diff.specs.declared.vertex.Vertex.{Vertex}
-use Rattle.lq_diff.specs.Links.{IsLatest}
+use Rattle.lq_diff.specs.Links.{kept, IsLatest}
+use Rattle.lq_diff.proofs.Trails.{trailed_same, trailed_some, trailed_all, trailed_before}
 use Rattle.lq_diff.specs.Arcs.{Meets}
-use Rattle.lq_diff.specs.Passes.{AllBelow, AreListed, blank, vertex_at, order_at, values, nexts, IsStuck, IsNarrow}
+use Rattle.lq_diff.specs.Passes.{AllBelow, AreListed, IsListed, blank, vertex_at, order_at, values, nexts, IsStuck, IsNarrow}
 use Rattle.lq_diff.proofs.pass.admit.Goals as goal
 
 abbrev none : Arc
@@ -123,8 +124,8 @@ returns-in_err-settle-clause-stop c =
     c.in_ok-fall.ensures.falls (oe ∙ value) (subst (λ z. z <ℤ y.kept.value) (sym oe) less) c.if-last.false)
     (narrow_sized front a c.args.arcs.now r s m n o (again front last c.args.arcs.now e) narrow same (oe ∙ value)))
 
-pub returns-in-None-clause-next : goal.returns-in-None-clause-next
-returns-in-None-clause-next c = λ front last e meets.
+pub returns-in_ok-note_all-in-None-clause-next : goal.returns-in_ok-note_all-in-None-clause-next
+returns-in_ok-note_all-in-None-clause-next c = λ front last e meets.
     let a : Arc = end c.args.arcs.now in
     let x : Vertex = get_or c.args.vertices.now a.from blank in
     let y : Vertex = get_or c.args.vertices.now a.to blank in
@@ -186,5 +187,50 @@ rest-requires-clause-listed c =
     accepted_listed c.as_slice-listed.result.now (vertex_at c.settle.new.vertices) (vertex_at c.accept.new.vertices) (order_at c.settle.new.order)
     (subst (λ l. AreListed l (vertex_at c.settle.new.vertices) (order_at c.settle.new.order)) (sym c.as_slice-listed.ensures.value) c.in_ok-settle.ensures.listed) c.accept.ensures.others
 
-pub returns-in-None-clause-lasts : goal.returns-in-None-clause-lasts
-returns-in-None-clause-lasts c = λ v. ap (λ (q : Kept). q.last) (c.rest.ensures.kept v) ∙ c.accept.ensures.last v ∙ ap (λ (q : Kept). q.last) (c.settle.ensures.kept v ∙ c.fall.ensures.kept v)
+pub returns-in_ok-note_all-in-None-clause-lasts : goal.returns-in_ok-note_all-in-None-clause-lasts
+returns-in_ok-note_all-in-None-clause-lasts c = λ v. ap (λ (q : Kept). q.last) (c.rest.ensures.kept v) ∙ c.accept.ensures.last v ∙ ap (λ (q : Kept). q.last) (c.settle.ensures.kept v ∙ c.fall.ensures.kept v)
+
+pub note_all-requires : goal.note_all-requires
+note_all-requires c = record { inside = subst (λ l. AllBelow l (length c.settle.new.vertices)) (sym c.as_slice-listed.ensures.value) c.settle.ensures.inside }
+
+pub rest-requires-clause-inside : goal.rest-requires-clause-inside
+rest-requires-clause-inside c = subst (λ l. AllBelow l (length c.accept.new.vertices)) (sym c.as_slice-listed.ensures.value) (subst (λ n. AllBelow c.settle.new.fallen.items n) (sym c.accept.auto.vertices) c.settle.ensures.inside)
+
+pub returns-in_err-settle-clause-trailed : goal.returns-in_err-settle-clause-trailed
+returns-in_err-settle-clause-trailed c =
+    trailed_same (length c.args.vertices.now) c.args.trail.now.items (kept (vertex_at c.args.vertices.now)) (kept (vertex_at c.settle.new.vertices)) (λ v. c.settle.ensures.kept v ∙ c.fall.ensures.kept v)
+
+pub returns-in-Some-clause-trailed : goal.returns-in-Some-clause-trailed
+returns-in-Some-clause-trailed c =
+    trailed_same (length c.args.vertices.now) c.args.trail.now.items (kept (vertex_at c.args.vertices.now)) (kept (vertex_at c.settle.new.vertices)) (λ v. c.settle.ensures.kept v ∙ c.fall.ensures.kept v)
+
+pub returns-in_err-note_all-in-None-clause-trailed : goal.returns-in_err-note_all-in-None-clause-trailed
+returns-in_err-note_all-in-None-clause-trailed c =
+    let s = kept (vertex_at c.settle.new.vertices) in
+    let some = c.note_all.ensures.some in
+    trailed_before (length c.args.vertices.now) c.args.trail.now.items c.note_all.new.trail.items (kept (vertex_at c.args.vertices.now)) s s (λ v. c.settle.ensures.kept v ∙ c.fall.ensures.kept v)
+    (trailed_some (length c.args.vertices.now) some.0 c.args.trail.now.items c.note_all.new.trail.items s s c.as_slice-listed.result.now some.1
+    (let n = c.settle.auto.vertices in let m = c.fall.auto.vertices in
+    subst (λ n. AllBelow c.as_slice-listed.result.now n) (n ∙ m)
+    (subst (λ l. AllBelow l (length c.settle.new.vertices)) (sym c.as_slice-listed.ensures.value) c.settle.ensures.inside)) (λ v. refl))
+
+pub returns-in_ok-note_all-in-None-clause-trailed : goal.returns-in_ok-note_all-in-None-clause-trailed
+returns-in_ok-note_all-in-None-clause-trailed c =
+    let s = kept (vertex_at c.settle.new.vertices) in
+    let t = kept (vertex_at c.rest.new.vertices) in
+    let listed = c.as_slice-listed.result.now in
+    let all = c.in_ok-note_all-in-None.ensures.all in
+    trailed_before (length c.args.vertices.now) c.args.trail.now.items c.note_all.new.trail.items (kept (vertex_at c.args.vertices.now)) s t (λ v. c.settle.ensures.kept v ∙ c.fall.ensures.kept v)
+    (trailed_all (length c.args.vertices.now) c.args.trail.now.items c.note_all.new.trail.items s t listed all
+    (let n = c.settle.auto.vertices in let m = c.fall.auto.vertices in
+    subst (λ n. AllBelow listed n) (n ∙ m) (subst (λ l. AllBelow l (length c.settle.new.vertices)) (sym c.as_slice-listed.ensures.value) c.settle.ensures.inside))
+    (λ v. by v (c.accept.ensures.others v)))
+  where
+    by : (v : ℕ) → IsListed c.as_slice-listed.result.now v ⊎ (vertex_at c.accept.new.vertices v ≡ vertex_at c.settle.new.vertices v)
+        → IsListed c.as_slice-listed.result.now v ⊎ (kept (vertex_at c.rest.new.vertices) v ≡ kept (vertex_at c.settle.new.vertices) v)
+    by v (inl l) = inl l
+    by v (inr e) = inr (c.rest.ensures.kept v ∙ ap (λ (x : Vertex). x.kept) e)
+
+pub returns-in_ok-note_all-in-None-clause-marks : goal.returns-in_ok-note_all-in-None-clause-marks
+returns-in_ok-note_all-in-None-clause-marks c =
+    λ v. ap (λ (q : Kept). q.touched) (c.rest.ensures.kept v) ∙ c.accept.ensures.marks v ∙ ap (λ (q : Kept). q.touched) (c.settle.ensures.kept v ∙ c.fall.ensures.kept v)

@@ -25,3 +25,8 @@ pub returns-clause-nexts : goal.returns-clause-nexts
 returns-clause-nexts c =
     let b = element c.args.arcs.now c.args.at none _ c.requires.at_in (c.requires.in_range c.args.at) in
     set_same_by (λ (z : Vertex). z.next) c.args.vertices.now (get_or c.args.arcs.now c.args.at none).from _ b.0 refl
+
+pub returns-clause-marks : goal.returns-clause-marks
+returns-clause-marks c =
+    let b = element c.args.arcs.now c.args.at none _ c.requires.at_in (c.requires.in_range c.args.at) in
+    set_same_by (λ (z : Vertex). z.kept.touched) c.args.vertices.now (get_or c.args.arcs.now c.args.at none).from _ b.0 refl

@@ -19,3 +19,6 @@ returns-clause-lasts c = set_same_by (λ (z : Vertex). z.kept.last) c.args.verti
 
 pub returns-clause-rest : goal.returns-clause-rest
 returns-clause-rest c = λ order rest. rest_set c.args.vertices.now c.args.arc.to _ order c.requires.to_in refl rest
+
+pub returns-clause-marks : goal.returns-clause-marks
+returns-clause-marks c = set_same_by (λ (z : Vertex). z.kept.touched) c.args.vertices.now c.args.arc.to _ c.requires.to_in refl

@@ -1,14 +1,17 @@
-use Rattle.std.proofs.Common.{◌≡◌, ℕ, ◌-◌, length, take, false, []}
-use Rattle.lq_diff.specs.Passes.{vertex_at, order_at, values, AtRest}
-use Rattle.lq_diff.specs.Links.{HasLinks}
-use Rattle.lq_diff.specs.Solving.{IsSolved, IsUnnamed, touched_at}
+use Rattle.std.proofs.Common.{◌≡◌, ℕ, ◌-◌, ◌≤◌, ◌<◌, length, get_or, []}
+use Rattle.lq_diff.specs.Passes.{vertex_at, order_at, AtRest}
+use Rattle.lq_diff.specs.Links.{kept}
+use Rattle.lq_diff.specs.Trail.{IsTrailed, IsReached}
 use Rattle.lq_diff.proofs.solve.solve.Given as goal
 
 abbrev pub invariant-loop-k : goal.invariant-loop-k
 invariant-loop-k l = record {
-  solved : IsSolved (take l.k l.arcs) (values (vertex_at l.vertices));
-  unnamed : (v : ℕ) → touched_at l.touched v ≡ false → IsUnnamed (take l.k l.arcs) v;
-  linked : HasLinks l.arcs l.links (vertex_at l.vertices) l.k;
+  within : l.k ≤ length l.arcs;
+  beyond : l.from ≤ l.k;
+  same : length l.links ≡ length l.arcs;
+  reached : IsReached l.arcs l.links l.k (kept (vertex_at l.vertices));
+  trailed : IsTrailed (length l.fn.vertices) l.fn.trail.items l.trail.items (kept (vertex_at l.fn.vertices)) (kept (vertex_at l.vertices));
+  before : (j : ℕ) → j < l.from → get_or l.links j 0 ≡ get_or l.fn.links j 0;
   rest : (v : ℕ) → AtRest (vertex_at l.vertices) (order_at l.order) v;
   empty : l.fallen.items ≡ [];
 }

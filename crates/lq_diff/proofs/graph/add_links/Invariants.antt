@@ -1,0 +1,12 @@
+use Rattle.std.proofs.Common.{◌≡◌, ◌-◌, ◌≤◌, take, length}
+use Rattle.lq_diff.proofs.graph.add_links.Given as goal
+
+abbrev pub invariant-loop-links : goal.invariant-loop-links
+invariant-loop-links l = record {
+  front : take (length l.fn.links.items) l.links.items ≡ l.fn.links.items;
+  grown : length l.fn.links.items ≤ length l.links.items;
+  within : length l.links.items ≤ l.count;
+}
+
+abbrev pub decreases-loop-links : goal.decreases-loop-links
+decreases-loop-links l = l.count - length l.links.items
