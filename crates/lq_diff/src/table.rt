@@ -1,6 +1,6 @@
 // The table of distances: an engine of difference rows.
 ghost use Rattle.std.specs.Int.{w128};
-ghost use Rattle.std.specs.Prelude.{◌≡◌, Bool, true, take, FitsSigned, OnOk, OnErr, ℕ, ℤ, pos, List, [], ◌∷◌, ◌++◌, ◌<◌, ◌≤◌, ◌^◌, ◌+◌, ◌-◌, ◌-ℤ◌, length, slice_index, unsigned_abs, negsuc, if◌then◌else◌, IfOk, IfErr, IfSome, IfNone};
+ghost use Rattle.std.specs.Prelude.{◌≡◌, Bool, true, false, IsTrue, take, FitsSigned, OnOk, OnErr, ℕ, ℤ, pos, List, [], ◌∷◌, ◌++◌, ◌<◌, ◌≤◌, ◌^◌, ◌+◌, ◌-◌, ◌-ℤ◌, length, slice_index, unsigned_abs, negsuc, if◌then◌else◌, IfOk, IfErr, IfSome, IfNone};
 ghost use Rattle.lq_math.specs.Rational.{whole};
 ghost use Rattle.lq_num.specs.Value.{value_of};
 ghost use Rattle.lq_linear.specs.Row.{Row, IsRow, AscendsFrom};
@@ -202,7 +202,9 @@ impl DistanceTable {
 }
 
 impl LinearEngine for DistanceTable {
+    ghost use Rattle.lq_math.specs.Rational.{ℚ};
     ghost use Rattle.lq_linear.specs.Answers.{Conflicted};
+    ghost use Rattle.lq_linear.specs.Contradiction.{Solves, IsContradiction};
     ghost use Rattle.lq_diff.specs.Table.{table_rows, table_last, table_limits, table_point, table_multipliers, TakesRow, MayStop};
 
     ghost standing = { table_rows };
@@ -266,7 +268,12 @@ impl LinearEngine for DistanceTable {
         self.answer = Answer::Unasked;
     }
 
-    fn contradicted(&self) -> bool {
+    fn contradicted(&self) -> bool
+        ensures known { IsTrue result → self.now.conflict ≡ true }
+        ensures contradicts { IsTrue result → (ms : List (ℕ × ℚ)) × IsContradiction (table_rows self.now) ms }
+        ensures answered { table_last self.now ≡ Conflicted → IsTrue result }
+        ensures decided { result ≡ false → Solves (table_point self.now) (table_rows self.now) }
+    {
         self.conflict
     }
 
