@@ -304,6 +304,9 @@ brought s t a b l r queue more w k m same e f d u =
 pub terms-known : (steps : List Step) (c : Core) → IsExact steps c → length (terms_of steps) ≡ length c.known
 terms-known steps c h = omega (arith, ap length h.is.terms, length-numbered 0 (terms_of steps))
 
+pub known-terms : (s : State) (now : List Step) → IsStanding s → steps_of s.trail.items ≡ now → length (terms_of now) ≡ length s.known
+known-terms s now h e = ap (λ ss. length (terms_of ss)) (sym e) ∙ terms-known (steps_of s.trail.items) (core_of s) h.exact
+
 -- ---- a term that is added
 
 pub grown : (s t : State) (u : List (List ℕ)) (head : Head) (xs : List ℕ) (users : List ℕ) → IsInOrder s → AllBelow (length s.known) xs → IsAdded (head, xs) (core_of s) (core_of t)

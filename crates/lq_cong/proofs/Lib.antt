@@ -15,3 +15,10 @@ pub mod Users
 pub mod Numbers
 pub mod Pairs
 pub mod Members
+pub mod Trees
+pub mod Heights
+pub mod Logs
+pub mod Kept
+pub mod Routes
+pub mod Turning
+pub mod Lasts

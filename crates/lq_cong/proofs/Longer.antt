@@ -12,17 +12,17 @@ terms-append (Added h args ∷ xs) ys = ap (λ l. (h, args) ∷ l) (terms-append
 terms-append (Merged a b r ∷ xs) ys = terms-append xs ys
 terms-append (Differed a b ∷ xs) ys = terms-append xs ys
 
-term-before : (ts us : List Term) (i : ℕ) → i < length ts → term_at (ts ++ us) i ≡ term_at ts i
+pub term-before : (ts us : List Term) (i : ℕ) → i < length ts → term_at (ts ++ us) i ≡ term_at ts i
 term-before [] us i h = absurd (omega arith)
 term-before (t ∷ ts) us zero h = refl
 term-before (t ∷ ts) us (suc i) h = term-before ts us i (omega arith)
 
-term-more : (xs ys : List Step) (i : ℕ) (t : Term) → IsTerm xs i t → IsTerm (xs ++ ys) i t
+pub term-more : (xs ys : List Step) (i : ℕ) (t : Term) → IsTerm xs i t → IsTerm (xs ++ ys) i t
 term-more xs ys i t h =
     let e = terms-append xs ys in
     (omega (arith, h.0, ap length e, length-append (terms_of xs) (terms_of ys)), ap (λ l. term_at l i) e ∙ term-before (terms_of xs) (terms_of ys) i h.0 ∙ h.1)
 
-merge-more : (xs ys : List Step) (a b r : ℕ) → IsMerge xs a b r → IsMerge (xs ++ ys) a b r
+pub merge-more : (xs ys : List Step) (a b r : ℕ) → IsMerge xs a b r → IsMerge (xs ++ ys) a b r
 merge-more [] ys a b r h = absurd h
 merge-more (x ∷ xs) ys a b r h = elim h [ inl e ↦ inl e | inr m ↦ inr (merge-more xs ys a b r m) ]
 

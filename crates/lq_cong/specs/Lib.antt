@@ -5,3 +5,7 @@ pub mod Core
 pub mod Standing
 pub mod Moves
 pub mod Implied
+pub mod Chains
+pub mod Forest
+pub mod Ways
+pub mod Whole

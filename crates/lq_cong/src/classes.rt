@@ -1,19 +1,21 @@
 // The classes as callers see them.
 ghost use Rattle.std.specs.Prelude.{◌≡◌, ◌⊎◌, ◌↔◌, ℕ, ◌<◌, ◌≤◌, [], ◌∷◌, ◌++◌, length, take, IfOk, IfSome, IfNone, OnOk, OnErr, IsTrue};
+ghost use Rattle.lq_cong.specs.Chains.{AllNamed, IsChain, IsName};
 ghost use Rattle.lq_cong.specs.Core.{AllBelow};
 ghost use Rattle.lq_cong.specs.Implied.{IsImplied, pair_times};
 ghost use Rattle.lq_cong.specs.Steps.{IsDifference, IsNamed, IsSame, IsTerm, terms_of};
 ghost use Rattle.lq_cong.specs.declared.steps.Step.TheVariants.{Added, Merged, Differed};
 
 use crate::differing::first_clash;
+use crate::forest::Forest;
 use crate::head::Head;
 use crate::ids::Ids;
 use crate::implied::Implied;
+use crate::reasons::Reasons;
 use crate::state::State;
 use crate::steps::Pair;
-use crate::table::{Key, Table};
+use crate::table::Key;
 use lq_pred::Mark;
-use lq_ring::Rings;
 use std::alloc::{AllocError, Global};
 use std::marker::Model;
 
@@ -22,18 +24,20 @@ use std::marker::Model;
 #[derive(Drop)]
 pub struct Classes {
     state: State,
+    forest: Forest,
 }
 
 impl Model for Classes {
     ghost use Rattle.std.specs.Prelude.{List};
     ghost use Rattle.lq_cong.specs.declared.steps.Step.{Step};
-    ghost use Rattle.lq_cong.specs.Standing.{steps_of, IsStanding};
+    ghost use Rattle.lq_cong.specs.Standing.{steps_of};
+    ghost use Rattle.lq_cong.specs.Whole.{IsWhole};
 
     ghost Value = { List Step };
 
     ghost view = { λ c. steps_of c.state.trail.items };
 
-    ghost invariant = { λ c. IsStanding c.state };
+    ghost invariant = { λ c. IsWhole c.state c.forest };
 }
 
 impl Classes {
@@ -42,17 +46,8 @@ impl Classes {
         ensures { IfOk result (λ classes. classes ≡ []) }
     {
         Ok(Classes {
-            state: State {
-                alloc,
-                known: Table::new(alloc),
-                filed: Table::new(alloc),
-                labels: Vec::new(alloc),
-                sizes: Vec::new(alloc),
-                rings: Rings::new(alloc, 0)?,
-                uses: Vec::new(alloc),
-                trail: Vec::new(alloc),
-                steps: 0,
-            },
+            state: State::new(alloc)?,
+            forest: Forest::new(alloc),
         })
     }
 
@@ -85,7 +80,13 @@ impl Classes {
         ensures ok { OnOk result (self.new ≡ self.old ++ Merged a b reason ∷ []) }
         ensures err { OnErr result (self.new ≡ self.old) }
     {
-        self.state.merge(a, b, reason)
+        let step = self.state.steps;
+        self.forest.note(&self.state, a, b, reason)?;
+        if let Err(refused) = self.state.merge(a, b, reason) {
+            self.forest.back_to(step);
+            return Err(refused);
+        }
+        Ok(())
     }
 
     /// Says that two terms differ. Whether they can is what `conflict` answers.
@@ -123,6 +124,23 @@ impl Classes {
         first_clash(&self.state.trail, &self.state.labels)
     }
 
+    /// The reasons of merges that lead from one term to another of its class, where all merges are of names.
+    /// None where the two are one.
+    pub fn why(&self, a: u64, b: u64) -> Result<Reasons, AllocError>
+        requires merges { AllNamed self.now }
+        requires a_name { IsName self.now a }
+        requires b_name { IsName self.now b }
+        requires same { IsSame self.now a b }
+        ensures chain { IfOk result (λ reasons. IsChain self.now a b reasons) }
+        ensures none { IfOk result (λ reasons. a ≡ b → reasons ≡ []) }
+    {
+        if a == b {
+            return Reasons::new(self.state.alloc);
+        }
+        let reasons = self.forest.way(self.state.alloc, a, b)?;
+        Ok(Reasons::of(reasons))
+    }
+
     /// The pairs of applications of one head whose arguments are the same. It looks at the pairs of each
     /// class.
     pub fn implied(&self) -> Implied<'_>
@@ -142,7 +160,8 @@ impl Classes {
         requires { mark.0 ≤ length self.old }
         ensures { self.new ≡ take mark.0 self.old }
     {
-        self.state.back_to(mark.0)
+        self.state.back_to(mark.0);
+        self.forest.back_to(mark.0);
     }
 
     /// How many steps stand.

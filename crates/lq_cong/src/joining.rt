@@ -88,4 +88,19 @@ impl State {
             self.unite(left, right, queue)
         }
     }
+
+    /// Two terms, that of the smaller class first.
+    pub(crate) fn by_size(&self, a: u64, b: u64) -> (u64, u64)
+        requires ready { IsReady self.now }
+        requires a_in { a < length self.now.known }
+        requires b_in { b < length self.now.known }
+        ensures { (result ≡ (a, b)) ⊎ (result ≡ (b, a)) }
+    {
+        let (left, right) = (self.labels[a as usize], self.labels[b as usize]);
+        if self.sizes[left as usize] < self.sizes[right as usize] {
+            (a, b)
+        } else {
+            (b, a)
+        }
+    }
 }

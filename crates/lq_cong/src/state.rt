@@ -1,9 +1,12 @@
 // The parts of which the classes are made.
+ghost use Rattle.std.specs.Prelude.{◌≡◌, [], IfOk};
+ghost use Rattle.lq_cong.specs.Standing.{IsStanding};
+
 use crate::ids::Ids;
 use crate::steps::Entry;
 use crate::table::Table;
 use lq_ring::Rings;
-use std::alloc::Global;
+use std::alloc::{AllocError, Global};
 
 /// The parts of which the classes are made.
 #[derive(Drop)]
@@ -25,4 +28,24 @@ pub(crate) struct State {
     pub(crate) trail: Vec<Entry>,
     /// How many steps stand.
     pub(crate) steps: u64,
+}
+
+impl State {
+    /// Nothing.
+    pub(crate) fn new(alloc: Global) -> Result<State, AllocError>
+        ensures standing { IfOk result (λ state. IsStanding state) }
+        ensures none { IfOk result (λ state. state.trail.items ≡ []) }
+    {
+        Ok(State {
+            alloc,
+            known: Table::new(alloc),
+            filed: Table::new(alloc),
+            labels: Vec::new(alloc),
+            sizes: Vec::new(alloc),
+            rings: Rings::new(alloc, 0)?,
+            uses: Vec::new(alloc),
+            trail: Vec::new(alloc),
+            steps: 0,
+        })
+    }
 }

@@ -12,7 +12,7 @@ returns-clause-none c =
     let s = c.self.inside.state in
     let now = c.args.self.now in
     let P : List Step → Type 0 = λ l. IsExact l (core_of s) in
-    let exact = subst P c.self.view_is c.self.invariant.exact in
+    let exact = subst P c.self.view_is c.self.invariant.standing.exact in
     let steps : steps_of c.deref.result.now ≡ now = ap steps_of c.deref.ensures.value ∙ c.self.view_is in
     none-map c.first_clash.result
     ((a b : ℕ) → IsDifference (steps_of c.deref.result.now) a b → get_or c.deref-2.result.now a 0 ≡ get_or c.deref-2.result.now b 0 → ⊥)

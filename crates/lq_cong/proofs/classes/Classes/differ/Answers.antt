@@ -1,16 +1,26 @@
--- As many terms as the steps added.
-use Rattle.std.proofs.Common.{length, ap, arith}
-use Rattle.lq_cong.specs.Steps.{terms_of}
+-- The forest stays beside a difference.
+use Rattle.std.proofs.Common.{List, sym, subst, arith}
 use Rattle.lq_cong.specs.Standing.{core_of, steps_of}
-use Rattle.lq_cong.proofs.Following.{terms-known}
+use Rattle.lq_cong.specs.Forest.{IsKept}
+use Rattle.lq_cong.specs.declared.steps.Step.{Step}
+use Rattle.lq_cong.proofs.Following.{known-terms}
+use Rattle.lq_cong.proofs.Kept.{either, kept-differed}
 use Rattle.lq_cong.proofs.classes.Classes.differ.Goals as goal
 
 pub differ-requires-clause-a_in : goal.differ-requires-clause-a_in
-differ-requires-clause-a_in c =
-    let s = c.self.inside.state in
-    omega (arith, c.requires.a_in, terms-known (steps_of s.trail.items) (core_of s) c.self.invariant.exact, ap (λ l. length (terms_of l)) c.self.view_is)
+differ-requires-clause-a_in c = omega (arith, c.requires.a_in, known-terms c.self.inside.state c.args.self.now c.self.invariant.standing c.self.view_is)
 
 pub differ-requires-clause-b_in : goal.differ-requires-clause-b_in
-differ-requires-clause-b_in c =
+differ-requires-clause-b_in c = omega (arith, c.requires.b_in, known-terms c.self.inside.state c.args.self.now c.self.invariant.standing c.self.view_is)
+
+pub invariant_of-self : goal.invariant_of-self
+invariant_of-self c =
     let s = c.self.inside.state in
-    omega (arith, c.requires.b_in, terms-known (steps_of s.trail.items) (core_of s) c.self.invariant.exact, ap (λ l. length (terms_of l)) c.self.view_is)
+    let f = c.self.inside.forest in
+    let P : List Step → Type 0 = λ ss. IsKept ss f in
+    record {
+      standing = c.differ.ensures.standing;
+      kept = either c.differ.result _ _ _ c.differ.ensures.ok c.differ.ensures.err
+          (λ e. subst P (sym e) (kept-differed (steps_of s.trail.items) c.args.a c.args.b (core_of s) f c.self.invariant.standing.exact c.self.invariant.kept))
+          (λ e. subst P (sym e) c.self.invariant.kept);
+    }

@@ -1,0 +1,13 @@
+-- What was joined is near: joined, or by the edge that is still to be given.
+use Rattle.std.proofs.Common.{ℕ, suc, length, Some, ◌≡◌}
+use Rattle.lq_cong.specs.Forest.{edges_of, AreApart, AreJoined, AreRooted, Follows, IsLog, IsOfLink}
+use Rattle.lq_cong.specs.declared.forest.Edge.{Edge}
+use Rattle.lq_cong.proofs.Heights.{height}
+use Rattle.lq_cong.proofs.Turning.{IsTurning}
+use Rattle.lq_cong.proofs.forest.Forest.turn.Given as goal
+
+abbrev pub invariant-loop-was : goal.invariant-loop-was
+invariant-loop-was l = IsTurning l.initial.self l.self l.step l.from l.to l.reason l.at l.edge
+
+abbrev pub decreases-loop-was : goal.decreases-loop-was
+decreases-loop-was l = height (length l.self.toward.items) (edges_of l.self.toward.items) l.at
