@@ -13,7 +13,7 @@ pub mod Following
 pub mod Clashes
 pub mod Users
 pub mod Numbers
-pub mod Pairs
+pub mod Partners
 pub mod Members
 pub mod Trees
 pub mod Heights
@@ -22,3 +22,4 @@ pub mod Kept
 pub mod Routes
 pub mod Turning
 pub mod Lasts
+pub mod Represented

@@ -16,12 +16,12 @@ use Rattle.lq_cong.specs.declared.steps.Pair.{Pair}
 use Rattle.lq_cong.specs.declared.steps.Step.{Step}
 use Rattle.lq_cong.proofs.Labels.{term-numbered, length-numbered, map-same, same-labels}
 use Rattle.lq_cong.proofs.Walks.{below-at}
-use Rattle.lq_cong.proofs.Pairs.{partner-is, partner-true}
+use Rattle.lq_cong.proofs.Partners.{partner-is, partner-true}
 
 abbrev ring : Core → ℕ → List ℕ
 ring c i = until (length c.next) c.next i i
 
-times-append : (i j : ℕ) (xs ys : List Pair) → pair_times i j (xs ++ ys) ≡ pair_times i j xs + pair_times i j ys
+pub times-append : (i j : ℕ) (xs ys : List Pair) → pair_times i j (xs ++ ys) ≡ pair_times i j xs + pair_times i j ys
 times-append i j [] ys = omega arith
 times-append i j (x ∷ xs) ys = omega (arith, times-append i j xs ys)
 
@@ -116,7 +116,7 @@ map-at labels [] k h = absurd (omega arith)
 map-at labels (x ∷ xs) zero h = refl
 map-at labels (x ∷ xs) (suc k) h = map-at labels xs k (omega arith)
 
-partner-implied : (steps : List Step) (c : Core) (i j : ℕ) → IsExact steps c → i < length c.known → j < length c.known → IsPartner c i j → IsImplied steps i j
+pub partner-implied : (steps : List Step) (c : Core) (i j : ℕ) → IsExact steps c → i < length c.known → j < length c.known → IsPartner c i j → IsImplied steps i j
 partner-implied steps c i j h k l p =
     let ts = terms_of steps in
     let long : length c.known ≡ length ts = ap length h.is.terms ∙ length-numbered 0 ts in
@@ -141,7 +141,7 @@ partner-implied steps c i j h k l p =
           h.is.sound (get_or xs n 0) (get_or ys n 0) (omega arith) (omega arith) (sym (map-at c.labels xs n z) ∙ ap (λ m. get_or m n 0) maps ∙ map-at c.labels ys n (omega arith));
     }
 
-implied-partner : (steps : List Step) (c : Core) (i j : ℕ) → IsExact steps c → IsImplied steps i j → IsPartner c i j × (i < length c.known) × (j < length c.known) × (get_or c.labels i 0 ≡ get_or c.labels j 0)
+pub implied-partner : (steps : List Step) (c : Core) (i j : ℕ) → IsExact steps c → IsImplied steps i j → IsPartner c i j × (i < length c.known) × (j < length c.known) × (get_or c.labels i 0 ≡ get_or c.labels j 0)
 implied-partner steps c i j h p =
     let ts = terms_of steps in
     let long : length c.known ≡ length ts = ap length h.is.terms ∙ length-numbered 0 ts in

@@ -1,8 +1,8 @@
 -- Applications of one head whose arguments are the same.
-use Rattle.std.specs.Prelude.{◌≡◌, ℕ, zero, suc, ◌+◌, ◌-◌, ◌<◌, Bool, cond, eqb, nat_lt, ◌&&◌, List, [], ◌∷◌, ◌++◌, length, slice_index, Option, Some, None}
+use Rattle.std.specs.Prelude.{◌≡◌, ◌≢◌, ◌⊎◌, ◌≤◌, ℕ, zero, suc, ◌+◌, ◌-◌, ◌<◌, Bool, cond, eqb, nat_lt, ◌&&◌, List, [], ◌∷◌, ◌++◌, length, slice_index, Option, Some, None}
 use Rattle.lq_ring.specs.Ring.{times}
 use Rattle.lq_ring.specs.Walk.{until}
-use Rattle.lq_cong.specs.Terms.{same_term, term_in}
+use Rattle.lq_cong.specs.Terms.{find_in, same_term, term_in}
 use Rattle.lq_cong.specs.Steps.{IsTerm, IsSame}
 use Rattle.lq_cong.specs.Core.{Core, IsShaped, signature}
 use Rattle.lq_cong.specs.declared.head.Head.{Head}
@@ -25,6 +25,14 @@ pub record IsImplied (steps : List Step) (i j : ℕ) : Type 0 where
 abbrev pub pair_times : ℕ → ℕ → List Pair → ℕ
 pair_times i j [] = 0
 pair_times i j (p ∷ ps) = cond (eqb i p.left && eqb j p.right) 1 0 + pair_times i j ps
+
+-- two terms of which one is the other or stands for it
+abbrev pub StandsFor : List Pair → ℕ → ℕ → Type 0
+StandsFor pairs k i = (k ≡ i) ⊎ (0 < pair_times k i pairs)
+
+-- two terms for which one stands
+abbrev pub HaveOne : List Pair → ℕ → ℕ → Type 0
+HaveOne pairs i j = (k : ℕ) × StandsFor pairs k i × StandsFor pairs k j
 
 -- the same by labels
 pub record IsPartner (c : Core) (i j : ℕ) : Type 0 where
@@ -62,3 +70,9 @@ pub record IsPlace (c : Core) (n i : ℕ) (walk : Option (List ℕ)) : Type 0 wh
   pub shaped : IsShaped c
   pub count : n ≡ length c.known
   pub under_way : IsUnderWay c i walk
+
+-- of the first terms, each application for which another one stands, behind that one
+pub record Represents (c : Core) (n : ℕ) (pairs : List Pair) : Type 0 where
+  pub each : (k i : ℕ) → 0 < pair_times k i pairs → (i < n) × (0 < length (term_in c.known i).1) × (find_in c.filed (signature c.labels (term_in c.known i)) ≡ Some k) × (k ≢ i)
+  pub all : (i k : ℕ) → i < n → 0 < length (term_in c.known i).1 → find_in c.filed (signature c.labels (term_in c.known i)) ≡ Some k → StandsFor pairs k i
+  pub few : length pairs ≤ n

@@ -2,7 +2,7 @@
 ghost use Rattle.std.specs.Prelude.{◌≡◌, ◌⊎◌, ◌↔◌, ℕ, ◌<◌, ◌≤◌, [], ◌∷◌, ◌++◌, length, take, IfOk, IfSome, IfNone, OnOk, OnErr, IsTrue};
 ghost use Rattle.lq_cong.specs.Chains.{AllNamed, IsChain, IsName};
 ghost use Rattle.lq_cong.specs.Core.{AllBelow};
-ghost use Rattle.lq_cong.specs.Implied.{IsImplied, pair_times};
+ghost use Rattle.lq_cong.specs.Implied.{HaveOne, IsImplied, pair_times};
 ghost use Rattle.lq_cong.specs.Steps.{IsDifference, IsNamed, IsSame, IsTerm, terms_of};
 ghost use Rattle.lq_cong.specs.declared.steps.Step.TheVariants.{Added, Merged, Differed};
 
@@ -11,6 +11,7 @@ use crate::forest::Forest;
 use crate::head::Head;
 use crate::ids::Ids;
 use crate::implied::Implied;
+use crate::pair_list::Pairs;
 use crate::reasons::Reasons;
 use crate::state::State;
 use crate::steps::Pair;
@@ -126,7 +127,7 @@ impl Classes {
 
     /// The reasons of merges that lead from one term to another of its class, where all merges are of names.
     /// None where the two are one.
-    pub fn why(&self, a: u64, b: u64) -> Result<Reasons, AllocError>
+    pub fn why(&self, alloc: Global, a: u64, b: u64) -> Result<Reasons, AllocError>
         requires merges { AllNamed self.now }
         requires a_name { IsName self.now a }
         requires b_name { IsName self.now b }
@@ -135,9 +136,9 @@ impl Classes {
         ensures none { IfOk result (λ reasons. a ≡ b → reasons ≡ []) }
     {
         if a == b {
-            return Reasons::new(self.state.alloc);
+            return Reasons::new(alloc);
         }
-        let reasons = self.forest.way(self.state.alloc, a, b)?;
+        let reasons = self.forest.way(alloc, a, b)?;
         Ok(Reasons::of(reasons))
     }
 
@@ -153,6 +154,18 @@ impl Classes {
             left: 0,
             walk: None,
         }
+    }
+
+    /// Each application for which another one of its class stands, behind that one: pairs as `implied` gives,
+    /// at most as many as terms, by which any two that `implied` gives hang together.
+    pub fn representatives(&self, alloc: Global) -> Result<Pairs, AllocError>
+        ensures each { IfOk result (λ pairs. (i j : ℕ) → 0 < pair_times i j pairs
+            → IsImplied self.now i j ⊎ IsImplied self.now j i) }
+        ensures all { IfOk result (λ pairs. (i j : ℕ) → IsImplied self.now i j → HaveOne pairs i j) }
+        ensures few { IfOk result (λ pairs. length pairs ≤ length (terms_of self.now)) }
+    {
+        let pairs = self.state.representatives(alloc)?;
+        Ok(pairs)
     }
 
     /// Takes back the last steps, until as many stand as when the mark was made.

@@ -25,7 +25,7 @@ fn labels_of(alloc: Global, labels: &[u64], terms: &[u64]) -> Result<Vec<u64>, A
 
 impl State {
     /// The head of a term with the labels of its arguments.
-    fn signature(&self, term: u64) -> Result<Key, AllocError>
+    pub(crate) fn signature(&self, term: u64) -> Result<Key, AllocError>
         requires shaped { IsShaped (core_of self.now) }
         requires term { term < length self.now.known }
         ensures { IfOk result (λ key. term_of key ≡ signature self.now.labels.items

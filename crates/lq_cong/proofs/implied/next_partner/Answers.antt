@@ -1,7 +1,7 @@
 -- One term of the ring more.
 use Rattle.std.proofs.Common.{length, ◌∙◌}
 use Rattle.lq_cong.specs.Standing.{core_of}
-use Rattle.lq_cong.proofs.Pairs.{within-first, within-rest, no-partner, partners-skip}
+use Rattle.lq_cong.proofs.Partners.{within-first, within-rest, no-partner, partners-skip}
 use Rattle.lq_cong.proofs.implied.next_partner.Goals as goal
 
 pub is_partner-requires-clause-right_in : goal.is_partner-requires-clause-right_in

@@ -3,7 +3,7 @@ use Rattle.std.proofs.Common.{rules, ◌≡◌, length, map, get_or, sym, ap, �
 use Rattle.lq_cong.proofs.Labels.{map-same}
 use Rattle.lq_cong.proofs.Walks.{below-at}
 use Rattle.lq_cong.proofs.Members.{map-at}
-use Rattle.lq_cong.proofs.Pairs.{not-iff}
+use Rattle.lq_cong.proofs.Partners.{not-iff}
 use Rattle.lq_cong.proofs.implied.same_args.Goals as goal
 
 pub bounds-labels-term : goal.bounds-labels-term

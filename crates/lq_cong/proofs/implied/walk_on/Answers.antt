@@ -1,6 +1,6 @@
 -- A new walk goes round the ring.
 use Rattle.lq_cong.specs.Standing.{core_of}
-use Rattle.lq_cong.proofs.Pairs.{walk-none}
+use Rattle.lq_cong.proofs.Partners.{walk-none}
 use Rattle.lq_cong.proofs.implied.walk_on.Goals as goal
 
 pub returns-in-None-clause-pairs : goal.returns-in-None-clause-pairs

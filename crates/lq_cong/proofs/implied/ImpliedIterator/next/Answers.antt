@@ -3,7 +3,7 @@ use Rattle.std.proofs.Common.{◌≡◌, List, [], ◌∷◌, IfSome, IfNone, su
 use Rattle.lq_cong.specs.Standing.{core_of}
 use Rattle.lq_cong.specs.Implied.{left_pairs}
 use Rattle.lq_cong.specs.declared.steps.Pair.{Pair}
-use Rattle.lq_cong.proofs.Pairs.{yields}
+use Rattle.lq_cong.proofs.Partners.{yields}
 use Rattle.lq_cong.proofs.implied.ImpliedIterator.next.Goals as goal
 
 pub returns-clause-steps : goal.returns-clause-steps

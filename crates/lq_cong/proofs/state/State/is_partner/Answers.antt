@@ -5,7 +5,7 @@ use Rattle.lq_cong.specs.Core.{AllBelow}
 use Rattle.lq_cong.specs.Standing.{core_of}
 use Rattle.lq_cong.proofs.Filing.{head-is}
 use Rattle.lq_cong.proofs.Labels.{below-more}
-use Rattle.lq_cong.proofs.Pairs.{partner-iff, some-of}
+use Rattle.lq_cong.proofs.Partners.{partner-iff, some-of}
 use Rattle.lq_cong.proofs.Tables.{head-eq}
 use Rattle.lq_cong.proofs.state.State.is_partner.Goals as goal
 
