@@ -1,7 +1,8 @@
 // What a line of a table asks for, in order.
-ghost use Rattle.std.specs.Prelude.{◌<◌, length, IfOk, IfSome};
+ghost use Rattle.std.specs.Prelude.{◌<◌, length, IfOk, IfSome, IsTrue};
+ghost use Rattle.lq_cong.specs.Chains.{AllNamed, IsName};
 ghost use Rattle.lq_cong.specs.Core.{AllBelow};
-ghost use Rattle.lq_cong.specs.Steps.{IsNamed, terms_of};
+ghost use Rattle.lq_cong.specs.Steps.{IsNamed, IsSame, terms_of};
 
 use lq_cong::{Classes, Head, Ids, Pair};
 use lq_name::Name;
@@ -146,6 +147,68 @@ impl Work {
         Ok(Some(pairs))
     }
 
+    // Whether the reasons why two terms are the same may be asked for.
+    fn may_ask(&self, pair: Pair) -> bool
+        requires left { pair.left < length (terms_of self.now.classes) }
+        requires right { pair.right < length (terms_of self.now.classes) }
+        ensures merges { IsTrue result → AllNamed self.now.classes }
+        ensures left { IsTrue result → IsName self.now.classes pair.left }
+        ensures right { IsTrue result → IsName self.now.classes pair.right }
+        ensures same { IsTrue result → IsSame self.now.classes pair.left pair.right }
+    {
+        if !self.classes.merges_names() {
+            return false;
+        }
+        if !self.classes.is_name(pair.left) {
+            return false;
+        }
+        if !self.classes.is_name(pair.right) {
+            return false;
+        }
+        self.classes.same(pair.left, pair.right)
+    }
+
+    // The reasons of a chain of merges.
+    fn why(&self, rest: &str) -> Result<Option<String>, AllocError> {
+        let Some(pair) = pair_of(rest, &self.classes) else {
+            return Ok(None);
+        };
+        if !self.may_ask(pair) {
+            return Ok(Some(String::from_str(self.alloc, "not asked")?));
+        }
+        let reasons = self.classes.why(self.alloc, pair.left, pair.right)?;
+        let mut chain = String::new(self.alloc);
+        for at in 0..reasons.len() {
+            if let Some(reason) = reasons.get(at) {
+                let reason = format!(in self.alloc; " {reason}")?;
+                chain.push_str(&reason)?;
+            }
+        }
+        if chain.is_empty() {
+            chain.push_str("no reason")?;
+        }
+        Ok(Some(String::from_str(self.alloc, chain.trim())?))
+    }
+
+    // Applications for which another one stands, behind that one, with `,` between the pairs.
+    fn representatives(&self) -> Result<Option<String>, AllocError> {
+        let found = self.classes.representatives(self.alloc)?;
+        let mut pairs = String::new(self.alloc);
+        for at in 0..found.len() {
+            if let Some(Pair { left, right }) = found.get(at) {
+                if !pairs.is_empty() {
+                    pairs.push_str(", ")?;
+                }
+                let pair = format!(in self.alloc; "{left} {right}")?;
+                pairs.push_str(&pair)?;
+            }
+        }
+        if pairs.is_empty() {
+            pairs.push_str("none")?;
+        }
+        Ok(Some(pairs))
+    }
+
     fn mark(&mut self) -> Result<Option<String>, AllocError> {
         let Mark(steps) = self.classes.mark();
         self.marks.push(steps)?;
@@ -182,6 +245,8 @@ impl Work {
             "same" => self.same(rest),
             "conflict" => self.conflict(),
             "implied" => self.implied(),
+            "representatives" => self.representatives(),
+            "why" => self.why(rest),
             "mark" => self.mark(),
             "back" => self.back(),
             "steps" => self.steps(),

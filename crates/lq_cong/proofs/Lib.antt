@@ -23,3 +23,4 @@ pub mod Routes
 pub mod Turning
 pub mod Lasts
 pub mod Represented
+pub mod Named

@@ -1,5 +1,6 @@
 -- Chains of merges between names.
 use Rattle.std.specs.Prelude.{◌≡◌, ◌⊎◌, ℕ, List, [], ◌∷◌}
+use Rattle.lq_cong.specs.Terms.{Term, term_in}
 use Rattle.lq_cong.specs.Steps.{IsMerge, IsNamed, IsTerm}
 use Rattle.lq_cong.specs.declared.head.Head.{Head}
 use Rattle.lq_cong.specs.declared.steps.Step.{Step}
@@ -16,3 +17,7 @@ AllNamed steps = (a b r : ℕ) → IsMerge steps a b r → IsName steps a × IsN
 abbrev pub IsChain : List Step → ℕ → ℕ → List ℕ → Type 0
 IsChain steps a b [] = a ≡ b
 IsChain steps a b (r ∷ rs) = (m : ℕ) × (IsMerge steps a m r ⊎ IsMerge steps m a r) × IsChain steps m b rs
+
+-- a name among the terms with their numbers
+abbrev pub IsNameIn : List (Term × ℕ) → ℕ → Type 0
+IsNameIn known i = (h : Head) × IsNamed h × (term_in known i ≡ (h, []))

@@ -125,6 +125,21 @@ impl Classes {
         first_clash(&self.state.trail, &self.state.labels)
     }
 
+    /// Whether a term is a name.
+    pub fn is_name(&self, term: u64) -> bool
+        requires { term < length (terms_of self.now) }
+        ensures { IsTrue result ↔ IsName self.now term }
+    {
+        self.state.is_name(term)
+    }
+
+    /// Whether all merges are of names. It looks at each step.
+    pub fn merges_names(&self) -> bool
+        ensures { IsTrue result ↔ AllNamed self.now }
+    {
+        self.state.merges_names()
+    }
+
     /// The reasons of merges that lead from one term to another of its class, where all merges are of names.
     /// None where the two are one.
     pub fn why(&self, alloc: Global, a: u64, b: u64) -> Result<Reasons, AllocError>

@@ -5,14 +5,14 @@ ghost use Rattle.lq_cong.specs.Forest.{edges_of, IsLog, AreRooted, AreApart, Fol
 use std::alloc::{AllocError, Global};
 
 /// An edge to another term, for the reason of a merge.
-#[derive(Clone, Copy, Debug, PartialEq, Eq)]
+#[derive(Clone, Copy)]
 pub(crate) struct Edge {
     pub(crate) to: u64,
     pub(crate) reason: u64,
 }
 
 /// The edge of a term before a step gave it another one.
-#[derive(Clone, Copy, Debug, PartialEq, Eq)]
+#[derive(Clone, Copy)]
 pub(crate) struct Written {
     pub(crate) step: u64,
     pub(crate) term: u64,

@@ -10,6 +10,7 @@ mod head;
 mod ids;
 mod implied;
 mod joining;
+mod naming;
 mod noting;
 mod pair_list;
 mod reasons;

@@ -8,7 +8,7 @@ use crate::forest::Forest;
 use std::alloc::{AllocError, Global};
 
 /// A term that has an edge, and the reason of the edge.
-#[derive(Clone, Copy, Debug, PartialEq, Eq)]
+#[derive(Clone, Copy, PartialEq)]
 pub(crate) struct Hop {
     pub(crate) term: u64,
     pub(crate) reason: u64,
