@@ -1,13 +1,13 @@
 -- The forest keeps to the steps.
-use Rattle.std.proofs.Common.{◌≡◌, ◌≢◌, ◌⊎◌, inl, inr, ℕ, zero, suc, ◌+◌, ◌<◌, ◌≤◌, List, [], ◌∷◌, ◌++◌, length, take, Option, Some, None, Result, Ok, Err, OnOk, OnErr, refl, sym, ap, ◌∙◌, subst, arith, length-append}
+use Rattle.std.proofs.Common.{◌≡◌, ◌⊎◌, inl, inr, ℕ, zero, suc, ◌<◌, ◌≤◌, List, [], ◌∷◌, ◌++◌, length, take, Option, Some, None, Result, Ok, Err, OnOk, OnErr, refl, sym, ap, ◌∙◌, subst, arith, length-append}
 use Rattle.std.proofs.lemmas.Bool.{cases_eq}
 use Rattle.std.proofs.lemmas.List.{take_all, take-append-le}
 use Rattle.std.specs.declared.alloc.AllocError.{AllocError}
 use Rattle.lq_cong.specs.Terms.{Term}
-use Rattle.lq_cong.specs.Steps.{terms_of, term_at, IsTerm, IsNamed, IsMerge, IsSame, merged, itself, turned, onward, applied}
+use Rattle.lq_cong.specs.Steps.{terms_of, term_at, IsTerm, IsMerge, IsSame, merged, itself, turned, onward, applied}
 use Rattle.lq_cong.specs.Chains.{IsName, AllNamed, IsChain}
-use Rattle.lq_cong.specs.Forest.{edges_of, IsPath, IsRoot, AreRooted, AreJoined, AreApart, IsForest, undone, IsLog, Follows, AreEnds, IsOfLink, Links, IsKept, Notes}
-use Rattle.lq_cong.specs.Ways.{IsEdge, IsWay}
+use Rattle.lq_cong.specs.Forest.{edges_of, IsPath, IsRoot, AreJoined, AreApart, IsForest, undone, IsLog, Follows, AreEnds, Links, IsKept, Notes}
+use Rattle.lq_cong.specs.Ways.{IsWay}
 use Rattle.lq_cong.specs.declared.head.Head.{Head}
 use Rattle.lq_cong.specs.declared.steps.Step.{Step}
 use Rattle.lq_cong.specs.declared.steps.Step.TheVariants.{Added, Merged, Differed}
@@ -20,7 +20,7 @@ use Rattle.lq_cong.proofs.Clashes.{kind-of}
 use Rattle.lq_cong.proofs.Following.{terms-known}
 use Rattle.lq_cong.proofs.Longer.{terms-append, terms-noted, term-before, term-more, merge-more, merge-here, merge-last}
 use Rattle.lq_cong.proofs.Logs.{undone-none, log-room, follows-on}
-use Rattle.lq_cong.proofs.Trees.{Edges, path-same, rooted-same, joined-same, joined-turned, joined-onward, joined-itself}
+use Rattle.lq_cong.proofs.Trees.{Edges, rooted-same, joined-same, joined-turned, joined-onward, joined-itself}
 
 -- each number of a merge is that of a term
 abbrev pub MergesIn : List Step → Type 0

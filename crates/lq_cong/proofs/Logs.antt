@@ -1,5 +1,5 @@
 -- What was written over, and edges as they were.
-use Rattle.std.proofs.Common.{◌≡◌, ◌≢◌, inl, inr, ℕ, zero, suc, ◌<◌, ◌≤◌, true, false, cond, eqb, leb, List, [], ◌∷◌, ◌++◌, length, Option, Some, ◌+◌, ◌-◌, None, get_or, set, refl, sym, ap, ap₂, ◌∙◌, subst, arith, eq-eqb, length-append, get_or-set_other, get_or-set_same}
+use Rattle.std.proofs.Common.{◌≡◌, ◌≢◌, inl, inr, ℕ, suc, ◌<◌, ◌≤◌, true, false, cond, eqb, leb, List, [], ◌∷◌, ◌++◌, length, Option, Some, ◌-◌, None, get_or, set, refl, sym, ap, ◌∙◌, subst, arith, eq-eqb, get_or-set_other, get_or-set_same}
 use Rattle.std.specs.List.{slice_get}
 use Rattle.std.proofs.lemmas.Bool.{cases_eq}
 use Rattle.std.proofs.lemmas.List.{length-set}

@@ -1,5 +1,5 @@
 -- Names, and merges of names among the entries of the trail.
-use Rattle.std.proofs.Common.{◌≡◌, ◌⊎◌, ◌↔◌, inl, inr, ℕ, zero, suc, ◌+◌, ◌<◌, List, [], ◌∷◌, ◌++◌, length, take, get_or, refl, sym, ap, ◌∙◌, subst, arith, append-nil}
+use Rattle.std.proofs.Common.{◌≡◌, ◌⊎◌, inl, inr, ℕ, zero, suc, ◌+◌, ◌<◌, List, [], ◌∷◌, ◌++◌, length, take, get_or, refl, sym, ap, ◌∙◌, subst, arith, append-nil}
 use Rattle.std.proofs.lemmas.List.{take_more}
 use Rattle.lq_cong.specs.Terms.{Term, term_in}
 use Rattle.lq_cong.specs.Steps.{terms_of, term_at, IsMerge}
@@ -10,7 +10,6 @@ use Rattle.lq_cong.specs.declared.steps.Entry.{Entry}
 use Rattle.lq_cong.specs.declared.steps.Step.{Step}
 use Rattle.lq_cong.specs.declared.steps.Step.TheVariants.{Merged}
 use Rattle.lq_cong.proofs.Clashes.{left-of, right-of}
-use Rattle.lq_cong.proofs.Following.{terms-known}
 use Rattle.lq_cong.proofs.Kept.{exact-in}
 use Rattle.lq_cong.proofs.Labels.{term-numbered}
 use Rattle.lq_cong.proofs.Longer.{merge-more}

@@ -1,13 +1,13 @@
 -- Applications that stand for those of their class.
-use Rattle.std.proofs.Common.{◌≡◌, ◌≢◌, ◌⊎◌, inl, inr, ℕ, suc, ◌+◌, ◌<◌, ◌≤◌, cond, eqb, ◌&&◌, true, List, [], ◌∷◌, ◌++◌, length, map, get_or, Some, None, refl, sym, ap, ap₂, ◌∙◌, subst, arith, length-append}
+use Rattle.std.proofs.Common.{◌≡◌, ◌≢◌, ◌⊎◌, inl, inr, ℕ, ◌+◌, ◌<◌, ◌≤◌, List, [], ◌∷◌, ◌++◌, length, map, get_or, Some, None, refl, sym, ap, ap₂, ◌∙◌, subst, arith, length-append}
 use Rattle.std.proofs.lemmas.Bool.{cases_eq, cases_order}
 use Rattle.std.proofs.lemmas.Bool.Decides.{nat_tests}
 use Rattle.std.proofs.lemmas.List.{length-map}
-use Rattle.lq_cong.specs.Terms.{Term, find_in, term_in}
+use Rattle.lq_cong.specs.Terms.{find_in, term_in}
 use Rattle.lq_cong.specs.Steps.{terms_of}
-use Rattle.lq_cong.specs.Core.{Core, signature, AllBelow, SameLabels, IsShaped, IsFound, AllFound}
+use Rattle.lq_cong.specs.Core.{Core, signature, AllBelow, SameLabels, IsShaped, AllFound}
 use Rattle.lq_cong.specs.Standing.{IsExact}
-use Rattle.lq_cong.specs.Implied.{IsImplied, IsPartner, HaveOne, Represents, StandsFor, pair, pair_times}
+use Rattle.lq_cong.specs.Implied.{IsImplied, HaveOne, Represents, pair, pair_times}
 use Rattle.lq_cong.specs.declared.steps.Pair.{Pair}
 use Rattle.lq_cong.specs.declared.steps.Step.{Step}
 use Rattle.lq_cong.proofs.Filing.{found-filed}

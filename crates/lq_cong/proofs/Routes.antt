@@ -1,5 +1,5 @@
 -- Climbs to roots, and ways put together from two of them.
-use Rattle.std.proofs.Common.{◌≡◌, inl, inr, ℕ, zero, suc, ◌+◌, ◌<◌, List, [], ◌∷◌, ◌++◌, length, drop, get_or, Option, Some, None, refl, sym, ap, ap₂, ◌∙◌, subst, arith}
+use Rattle.std.proofs.Common.{◌≡◌, inl, inr, ℕ, zero, suc, ◌+◌, ◌<◌, List, [], ◌∷◌, ◌++◌, length, drop, get_or, Some, None, refl, sym, ap, ap₂, ◌∙◌, subst, arith}
 use Rattle.lq_cong.specs.Ways.{IsClimb, IsEdge, IsWay, Meets}
 use Rattle.lq_cong.specs.declared.forest.Edge.{Edge}
 use Rattle.lq_cong.specs.declared.tracing.Hop.{Hop}

@@ -1,7 +1,7 @@
 -- Edges turned round one by one.
-use Rattle.std.proofs.Common.{◌≡◌, ◌⊎◌, inl, inr, ℕ, suc, ◌<◌, ◌≤◌, length, Option, Some, None, refl, sym, ap, ap₂, ◌∙◌, subst, arith}
+use Rattle.std.proofs.Common.{◌≡◌, inl, inr, ℕ, suc, ◌<◌, length, Some, None, refl, sym, ap, ap₂, ◌∙◌, subst, arith}
 use Rattle.std.proofs.lemmas.Bool.{cases_eq}
-use Rattle.lq_cong.specs.Forest.{edges_of, IsRoot, AreRooted, AreJoined, AreApart, IsLog, Follows, Writes, IsOfLink, Links}
+use Rattle.lq_cong.specs.Forest.{edges_of, AreRooted, AreJoined, AreApart, IsLog, Follows, Writes, IsOfLink, Links}
 use Rattle.lq_cong.specs.declared.forest.Edge.{Edge}
 use Rattle.lq_cong.specs.declared.forest.Forest.{Forest}
 use Rattle.lq_cong.proofs.Heights.{height, path-height}

@@ -1,5 +1,5 @@
 -- A hop less on both sides.
-use Rattle.std.proofs.Common.{◌≡◌, ◌-◌, List, [], ◌∷◌, ◌++◌, length, Option, Some, sym, ap, ◌∙◌, subst, arith}
+use Rattle.std.proofs.Common.{◌≡◌, ◌-◌, List, [], ◌∷◌, ◌++◌, length, Some, sym, ◌∙◌, subst}
 use Rattle.std.specs.List.{slice_get}
 use Rattle.lq_cong.specs.Ways.{Meets}
 use Rattle.lq_cong.specs.declared.tracing.Hop.{Hop}

@@ -1,5 +1,5 @@
 -- A term that is found, or a new one.
-use Rattle.std.proofs.Common.{◌≡◌, inl, inr, ℕ, List, [], ◌∷◌, ◌++◌, length, refl, sym, ap, ap₂, ◌∙◌, subst}
+use Rattle.std.proofs.Common.{inl, inr, ℕ, List, [], ◌∷◌, ◌++◌, length, refl, sym, ap, ap₂, ◌∙◌, subst}
 use Rattle.lq_cong.specs.Terms.{find_in}
 use Rattle.lq_cong.specs.Core.{AllBelow}
 use Rattle.lq_cong.specs.Standing.{IsExact, core_of, steps_of}

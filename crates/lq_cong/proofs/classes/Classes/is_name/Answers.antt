@@ -1,5 +1,5 @@
 -- A name among the terms is one among the steps.
-use Rattle.std.proofs.Common.{List, length, subst, arith}
+use Rattle.std.proofs.Common.{List, subst, arith}
 use Rattle.lq_cong.specs.Standing.{IsExact, core_of}
 use Rattle.lq_cong.specs.declared.steps.Step.{Step}
 use Rattle.lq_cong.proofs.Following.{known-terms}

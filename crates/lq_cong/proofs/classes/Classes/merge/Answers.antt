@@ -1,7 +1,6 @@
 -- The merge is noted in the forest first, and taken off it where the classes refuse it.
-use Rattle.std.proofs.Common.{List, length, sym, ap, subst, arith}
-use Rattle.lq_cong.specs.Steps.{terms_of}
-use Rattle.lq_cong.specs.Standing.{core_of, steps_of}
+use Rattle.std.proofs.Common.{List, sym, subst, arith}
+use Rattle.lq_cong.specs.Standing.{steps_of}
 use Rattle.lq_cong.specs.Forest.{IsKept}
 use Rattle.lq_cong.specs.declared.steps.Step.{Step}
 use Rattle.lq_cong.specs.declared.steps.Step.TheVariants.{Merged}

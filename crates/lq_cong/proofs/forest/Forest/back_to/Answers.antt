@@ -1,5 +1,5 @@
 -- One write less.
-use Rattle.std.proofs.Common.{ℕ, List, length, sym, ap, ◌∙◌, subst, arith}
+use Rattle.std.proofs.Common.{ℕ, List, length, sym, ap, subst, arith}
 use Rattle.lq_cong.specs.Forest.{IsLog}
 use Rattle.lq_cong.specs.declared.forest.Written.{Written}
 use Rattle.lq_cong.proofs.Logs.{last-within, unwritten}

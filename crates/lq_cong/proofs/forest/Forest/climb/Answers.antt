@@ -1,5 +1,5 @@
 -- An edge more.
-use Rattle.std.proofs.Common.{◌≡◌, List, Some, sym, ◌∙◌, subst}
+use Rattle.std.proofs.Common.{List, sym, ◌∙◌, subst}
 use Rattle.lq_cong.specs.Forest.{edges_of}
 use Rattle.lq_cong.specs.Ways.{IsClimb}
 use Rattle.lq_cong.specs.declared.tracing.Hop.{Hop}

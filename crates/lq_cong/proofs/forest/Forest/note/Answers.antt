@@ -1,6 +1,5 @@
 -- An edge more, or none where the two are the same.
-use Rattle.std.proofs.Common.{◌↔◌, ◌≡◌, true, eqb, arith, eq-eqb, eqb-true}
-use Rattle.lq_cong.specs.Steps.{IsSame}
+use Rattle.std.proofs.Common.{arith, eq-eqb, eqb-true}
 use Rattle.lq_cong.specs.Standing.{core_of, steps_of}
 use Rattle.lq_cong.specs.Forest.{edges_of}
 use Rattle.lq_cong.proofs.Following.{terms-known}

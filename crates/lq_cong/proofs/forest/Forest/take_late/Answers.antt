@@ -1,5 +1,5 @@
 -- The last entry is of an early step.
-use Rattle.std.proofs.Common.{◌≡◌, List, Some, Option, refl, sym, ap, ◌∙◌, subst, length, ◌-◌}
+use Rattle.std.proofs.Common.{◌≡◌, List, Some, refl, sym, subst, length, ◌-◌}
 use Rattle.std.specs.List.{slice_get}
 use Rattle.lq_cong.specs.declared.forest.Written.{Written}
 use Rattle.lq_cong.proofs.Logs.{early-last}

@@ -1,7 +1,6 @@
 -- One edge turned round.
 use Rattle.std.proofs.Common.{suc, refl, sym, ◌∙◌}
-use Rattle.lq_cong.specs.declared.forest.Edge.{Edge}
-use Rattle.lq_cong.proofs.Logs.{follows-on, follows-stays, follows-writes, log-stays, log-writes}
+use Rattle.lq_cong.proofs.Logs.{follows-on, follows-writes, log-stays, log-writes}
 use Rattle.lq_cong.proofs.Turning.{turning-first, turning-on, turning-done}
 use Rattle.lq_cong.proofs.forest.Forest.turn.Goals as goal
 

@@ -1,7 +1,6 @@
 -- What was joined is near: joined, or by the edge that is still to be given.
-use Rattle.std.proofs.Common.{ℕ, suc, length, Some, ◌≡◌}
-use Rattle.lq_cong.specs.Forest.{edges_of, AreApart, AreJoined, AreRooted, Follows, IsLog, IsOfLink}
-use Rattle.lq_cong.specs.declared.forest.Edge.{Edge}
+use Rattle.std.proofs.Common.{length}
+use Rattle.lq_cong.specs.Forest.{edges_of}
 use Rattle.lq_cong.proofs.Heights.{height}
 use Rattle.lq_cong.proofs.Turning.{IsTurning}
 use Rattle.lq_cong.proofs.forest.Forest.turn.Given as goal

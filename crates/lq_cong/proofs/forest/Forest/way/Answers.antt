@@ -1,5 +1,5 @@
 -- A hop more, up or down.
-use Rattle.std.proofs.Common.{◌≡◌, List, [], drop, sym, ap, ◌∙◌, subst}
+use Rattle.std.proofs.Common.{List, sym, subst}
 use Rattle.lq_cong.specs.Forest.{edges_of}
 use Rattle.lq_cong.specs.declared.tracing.Hop.{Hop}
 use Rattle.lq_cong.proofs.Routes.{Climbing, climbing-first, climbing-up, climbing-down, climbs-meet}
