@@ -1,5 +1,5 @@
 -- One more that stands.
-use Rattle.std.proofs.Common.{◌≡◌, ℕ, ◌<◌, List, [], ◌∷◌, ◌++◌, length, sym, subst}
+use Rattle.std.proofs.Common.{ℕ, ◌<◌, List, [], ◌∷◌, ◌++◌, length, sym, subst}
 use Rattle.lq_cong.specs.Core.{AllBelow}
 use Rattle.lq_cong.specs.Steps.{terms_of}
 use Rattle.lq_class_cases.proofs.commands.args_of.Goals as goal
