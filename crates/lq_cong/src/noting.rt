@@ -21,7 +21,8 @@ impl Forest {
         requires whole { IsWhole state.now self.old }
         requires a_in { a < length state.now.known }
         requires b_in { b < length state.now.known }
-        ensures ok { OnOk result (Notes (steps_of state.now.trail.items) (Merged a b reason) self.old self.new) }
+        ensures ok { OnOk result (Notes (steps_of state.now.trail.items) (Merged a b reason)
+            self.old self.new) }
         ensures err { OnErr result (IsKept (steps_of state.now.trail.items) self.new) }
     {
         if state.labels[a as usize] == state.labels[b as usize] {

@@ -16,11 +16,13 @@ impl State {
         requires shaped { IsShaped (core_of self.now) }
         requires found { AllFound (core_of self.now) 0 0 [] }
         requires term { term < length self.now.known }
-        ensures some { IfOk result (λ found. IfSome found (λ by. (0 < length (term_in self.now.known term).1)
-            × (find_in self.now.filed (signature self.now.labels.items (term_in self.now.known term)) ≡ Some by)
-            × (by ≢ term))) }
+        ensures some { IfOk result (λ found. IfSome found
+            (λ by. (0 < length (term_in self.now.known term).1)
+            × (find_in self.now.filed (signature self.now.labels.items (term_in self.now.known term))
+            ≡ Some by) × (by ≢ term))) }
         ensures none { IfOk result (λ found. IfNone found (0 < length (term_in self.now.known term).1
-            → find_in self.now.filed (signature self.now.labels.items (term_in self.now.known term)) ≡ Some term)) }
+            → find_in self.now.filed (signature self.now.labels.items (term_in self.now.known term))
+            ≡ Some term)) }
     {
         let key = self.signature(term)?;
         if key.args.is_empty() {
