@@ -132,7 +132,8 @@ impl Graph {
         requires rest { IsAtRest self.old }
         requires before { rows < length self.old.starts.items }
         ensures graph { IsGraph self.new }
-        ensures arcs { self.new.arcs.items ≡ take (start_at self.old.starts.items rows).arcs self.old.arcs.items }
+        ensures arcs { self.new.arcs.items
+            ≡ take (start_at self.old.starts.items rows).arcs self.old.arcs.items }
         ensures starts { self.new.starts.items ≡ take rows self.old.starts.items }
         ensures vertices { length self.new.vertices.items ≡ length self.old.vertices.items }
     {
@@ -193,8 +194,8 @@ impl Graph {
         requires paired { ArePaired (self.old.arcs.items ++ arcs_by edge.now edge.now.equal) }
         ensures graph { IsGraph self.new }
         ensures vertices { length self.new.vertices.items ≡ length self.old.vertices.items }
-        ensures arcs { IfOk result (λ found. IfNone found (self.new.arcs.items ≡ self.old.arcs.items ++ arcs_by
-            edge.now edge.now.equal)) }
+        ensures arcs { IfOk result (λ found. IfNone found (self.new.arcs.items
+            ≡ self.old.arcs.items ++ arcs_by edge.now edge.now.equal)) }
         ensures starts { IfOk result (λ found. IfNone found (self.new.starts.items ≡ self.old.starts.items ++
             (record { arcs = length self.old.arcs.items; trail = length self.old.trail.items }) ∷ [])) }
         ensures cycle { IfOk result (λ found. IfSome found (λ steps. IsNegativeCycle

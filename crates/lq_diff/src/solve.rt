@@ -57,8 +57,10 @@ fn place(vertices: &mut [Vertex], arc: Arc) -> Result<(), LinearStop>
     requires to_in { arc.to < length vertices.old }
     ensures here { OnOk result (values (vertex_at vertices.new) arc.to
         ≡ values (vertex_at vertices.old) arc.from +ℤ arc.cost) }
-    ensures others { (v : ℕ) → v ≢ arc.to → kept (vertex_at vertices.new) v ≡ kept (vertex_at vertices.old) v }
-    ensures lasts { (v : ℕ) → (kept (vertex_at vertices.new) v).last ≡ (kept (vertex_at vertices.old) v).last }
+    ensures others { (v : ℕ) → v ≢ arc.to
+        → kept (vertex_at vertices.new) v ≡ kept (vertex_at vertices.old) v }
+    ensures lasts { (v : ℕ) → (kept (vertex_at vertices.new) v).last
+        ≡ (kept (vertex_at vertices.old) v).last }
     ensures marks { (v : ℕ) → touched (vertex_at vertices.new) v ≡ touched (vertex_at vertices.old) v }
     ensures rest { (order : ℕ → ℕ) → ((v : ℕ) → AtRest (vertex_at vertices.old) order v)
         → (v : ℕ) → AtRest (vertex_at vertices.new) order v }
@@ -99,7 +101,8 @@ fn touch(vertices: &mut [Vertex], arc: Arc)
         → (touched (vertex_at vertices.old) v ≡ false) × (arc.from ≢ v) × (arc.to ≢ v) }
     ensures values { (v : ℕ) → values (vertex_at vertices.new) v ≡ values (vertex_at vertices.old) v }
     ensures nexts { (v : ℕ) → nexts (vertex_at vertices.new) v ≡ nexts (vertex_at vertices.old) v }
-    ensures lasts { (v : ℕ) → (kept (vertex_at vertices.new) v).last ≡ (kept (vertex_at vertices.old) v).last }
+    ensures lasts { (v : ℕ) → (kept (vertex_at vertices.new) v).last
+        ≡ (kept (vertex_at vertices.old) v).last }
     ensures others { (v : ℕ) → v ≢ arc.from → v ≢ arc.to
         → kept (vertex_at vertices.new) v ≡ kept (vertex_at vertices.old) v }
 {

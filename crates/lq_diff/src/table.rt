@@ -80,7 +80,8 @@ fn measure(vertices: &[Vertex]) -> Result<(), LinearStop>
     requires { 0 < length vertices.now }
     ensures fit { OnOk result ((v : ℕ) → v < length vertices.now → FitsSigned w128
         (values (vertex_at vertices.now) v -ℤ values (vertex_at vertices.now) 0)) }
-    ensures stop { IfErr result (λ stop. (n : ℕ) → InRange (values (vertex_at vertices.now)) n → StopsBy n stop) }
+    ensures stop { IfErr result (λ stop. (n : ℕ) → InRange (values (vertex_at vertices.now)) n
+        → StopsBy n stop) }
 {
     let base = vertices[0].kept.value;
     for vertex in vertices {
@@ -92,7 +93,8 @@ fn measure(vertices: &[Vertex]) -> Result<(), LinearStop>
 /// The difference of a potential from that of the number 0.
 fn from_zero(vertices: &[Vertex], at: usize) -> i128
     requires within { at < length vertices.now }
-    requires fits { FitsSigned w128 (values (vertex_at vertices.now) at -ℤ values (vertex_at vertices.now) 0) }
+    requires fits { FitsSigned w128 (values (vertex_at vertices.now) at
+        -ℤ values (vertex_at vertices.now) 0) }
     ensures { result ≡ values (vertex_at vertices.now) at -ℤ values (vertex_at vertices.now) 0 }
 {
     vertices[at].kept.value - vertices[0].kept.value
