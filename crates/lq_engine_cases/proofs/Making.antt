@@ -1,21 +1,21 @@
 -- Rows that are made term by term, and tags that none of the rows has.
 use Rattle.std.proofs.Common.{◌≡◌, ◌≢◌, ℕ, suc, ℤ, pos, ◌+◌, ◌≤◌, ◌==◌, if◌then◌else◌, arith, refl, subst, Bool, true, false, List, [], ◌∷◌, ◌++◌, Some, None, IsNone, sym}
 use Rattle.std.proofs.lemmas.List.Elements.{All-nil, All-cons, All-append}
+use Rattle.lq_linear.specs.Difference as linear
 use Rattle.lq_linear.specs.Row.{Row, AscendsFrom}
 use Rattle.lq_linear.specs.Contradiction.{Tagged, tagged}
 use Rattle.lq_diff.specs.Table as diff
-use Rattle.lq_simplex.specs.Systems as simplex
 use Rattle.lq_engine_cases.specs.Rows.{IsBelow}
 
 abbrev Parts : Type 0
 Parts = List (ℕ × ℤ)
 
 -- a term that is greater than those before it
-ascending_push : (low next n : ℕ) (parts : Parts) (c : ℤ) → AscendsFrom low parts → simplex.TermsBelow next parts → next ≤ n → low ≤ n → AscendsFrom low (parts ++ (n, c) ∷ [])
+ascending_push : (low next n : ℕ) (parts : Parts) (c : ℤ) → AscendsFrom low parts → linear.TermsBelow next parts → next ≤ n → low ≤ n → AscendsFrom low (parts ++ (n, c) ∷ [])
 ascending_push low next n [] c a b h l = (l, tt)
 ascending_push low next n (p ∷ parts) c a b h l = (a.0, ascending_push (suc p.0) next n parts c a.1 b.1 h (let k = b.0 in omega arith))
 
-simplex_push : (next n : ℕ) (parts : Parts) (c : ℤ) → simplex.TermsBelow next parts → next ≤ n → simplex.TermsBelow (n + 1) (parts ++ (n, c) ∷ [])
+simplex_push : (next n : ℕ) (parts : Parts) (c : ℤ) → linear.TermsBelow next parts → next ≤ n → linear.TermsBelow (n + 1) (parts ++ (n, c) ∷ [])
 simplex_push next n [] c b h = (omega arith, tt)
 simplex_push next n (p ∷ parts) c b h = (let k = b.0 in omega arith, simplex_push next n parts c b.1 h)
 
@@ -32,7 +32,7 @@ row_push next n parts c r h z = record {
 }
 
 -- a greater bound
-simplex_more : (next n : ℕ) (parts : Parts) → simplex.TermsBelow next parts → next ≤ n → simplex.TermsBelow n parts
+simplex_more : (next n : ℕ) (parts : Parts) → linear.TermsBelow next parts → next ≤ n → linear.TermsBelow n parts
 simplex_more next n [] b h = tt
 simplex_more next n (p ∷ parts) b h = (let k = b.0 in omega arith, simplex_more next n parts b.1 h)
 

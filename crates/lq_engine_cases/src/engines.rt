@@ -2,8 +2,8 @@
 ghost use Rattle.std.specs.Prelude.{◌≡◌, ◌≢◌, ◌≤◌, ◌<◌, ◌+◌, ℕ, [], ◌∷◌, length, IsNone, IfOk, IfSome, OnOk};
 ghost use Rattle.lq_linear.specs.Answers.{Nothing, Stopped};
 ghost use Rattle.lq_linear.specs.Contradiction.{tagged};
+ghost use Rattle.lq_linear.specs.Difference as linear;
 ghost use Rattle.lq_diff.specs.Table as diff;
-ghost use Rattle.lq_simplex.specs.Systems as simplex;
 ghost use Rattle.lq_simplex.specs.Table as table;
 
 use crate::error::CaseError;
@@ -24,7 +24,7 @@ fn add_to_tableau(
     requires few { length (table.table_rows tableau.old) ≡ tag }
     requires fresh { (t : ℕ) → tag ≤ t → IsNone (tagged (table.table_rows tableau.old) t) }
     requires going { table.table_last tableau.old ≢ Stopped }
-    requires below { simplex.TermsBelow 64 row.now.parts }
+    requires below { linear.TermsBelow 64 row.now.parts }
     ensures limits { OnOk result (table.table_limits tableau.new ≡ 64 ∷ limit ∷ []) }
     ensures rows { OnOk result (length (table.table_rows tableau.new) ≡ tag + 1) }
     ensures fresh { OnOk result ((t : ℕ) → tag + 1 ≤ t → IsNone (tagged (table.table_rows tableau.new) t)) }

@@ -2,8 +2,9 @@
 use Rattle.std.proofs.Common.{◌≢◌, ℕ, suc, pos, ◌+◌, ◌≤◌, arith, [], ◌∷◌, ◌++◌}
 use Rattle.std.proofs.Math.IntN.{ℤ}
 use Rattle.std.proofs.lemmas.List.Elements.{All-nil, All-cons, All-append}
+use Rattle.lq_linear.specs.Difference.{TermsBelow}
+use Rattle.lq_linear.specs.Forms.{Parts}
 use Rattle.lq_linear.specs.Row.{AscendsFrom}
-use Rattle.lq_simplex.specs.Systems.{Parts, TermsBelow}
 use Rattle.lq_engine_tests.specs.Rows.{IsRowBelow}
 
 ascending_push : (low n : ℕ) (parts : Parts) (c : ℤ) → AscendsFrom low parts → TermsBelow n parts → low ≤ n → AscendsFrom low (parts ++ (n, c) ∷ [])

@@ -1,7 +1,8 @@
 -- Rows over the terms below a number.
 use Rattle.std.specs.Prelude.{◌≢◌, ℕ, pos, All}
+use Rattle.lq_linear.specs.Difference.{TermsBelow}
+use Rattle.lq_linear.specs.Forms.{Parts}
 use Rattle.lq_linear.specs.Row.{AscendsFrom}
-use Rattle.lq_simplex.specs.Systems.{Parts, TermsBelow}
 
 -- the parts of a row over the terms below n
 pub record IsRowBelow (n : ℕ) (parts : Parts) : Type 0 where

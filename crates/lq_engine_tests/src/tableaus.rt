@@ -2,9 +2,9 @@
 ghost use Rattle.std.specs.Prelude.{◌≡◌, ◌≢◌, ◌<◌, ◌+◌, [], ◌∷◌, IfSome};
 ghost use Rattle.lq_linear.specs.Answers.{Nothing, Stopped};
 ghost use Rattle.lq_linear.specs.Contradiction.{Solves};
+ghost use Rattle.lq_linear.specs.Difference.{TermsBelow};
 ghost use Rattle.lq_linear.specs.Row.{Valuation};
 ghost use Rattle.lq_linear.specs.declared.engine.Verdict.TheVariants.{Holds, Conflict};
-ghost use Rattle.lq_simplex.specs.Systems.{TermsBelow};
 ghost use Rattle.lq_simplex.specs.Table.{table_limits, table_rows, table_last};
 ghost use Rattle.lq_engine_tests.specs.Rows.{IsRowBelow};
 
