@@ -89,12 +89,7 @@ fn program_of(alloc: Global, text: &[u8]) -> Result<Parsed, NotJudged>
 }
 
 // An upper and a lower name with a dot between them.
-fn dotted(
-    alloc: Global,
-    names: &NameTable,
-    front: Name,
-    name: Name,
-) -> Result<NameText, AllocError>
+fn dotted(alloc: Global, names: &NameTable, front: Name, name: Name) -> Result<NameText, AllocError>
     ensures { IfOk result (λ t. t ≡ text_in names.now front.0 ++ codes "." ++ text_in names.now name.0) }
 {
     let mut text = String::from_str(alloc, text_of(names, front))?;
