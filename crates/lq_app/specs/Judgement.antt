@@ -1,5 +1,5 @@
 -- The judgement on a text.
-use Rattle.std.specs.Prelude.{◌≡◌, ◌⊎◌, ℕ, ℤ, ◌+◌, ◌<◌, ◌^◌, Bool, true, false, List, [], ◌∷◌, ◌++◌, map, All, Some, slice_get, Result, Ok, Err, codes, decimal}
+use Rattle.std.specs.Prelude.{◌≡◌, ◌⊎◌, ℕ, ℤ, ◌+◌, ◌<◌, Bool, true, false, List, [], ◌∷◌, ◌++◌, map, All, Some, slice_get, Result, Ok, Err, codes, decimal}
 use Rattle.lq_math.specs.LowestTerms.{IsLowest}
 use Rattle.lq_name.specs.declared.name.Binder.{Binder}
 use Rattle.lq_name.specs.declared.place.Place.{Place}
@@ -25,6 +25,7 @@ use Rattle.lq_app.specs.declared.verdict.Refusal.{Refusal}
 use Rattle.lq_app.specs.declared.verdict.Refusal.TheVariants.{Code, Memory}
 use Rattle.lq_app.specs.Stages.{Scoped, ResolvesTo}
 use Rattle.lq_app.specs.Texts.{fraction_text, past_text, term_text, formula_text}
+use Rattle.lq_linear.specs.declared.limits.TheConstants.{SUM_LIMIT}
 
 -- The program that a text is: its trees, the texts of its names, its items, and these with their names bound.
 pub record Bound (text : List ℕ) : Type 0 where
@@ -89,7 +90,7 @@ pub record IsUngathered (text report : List ℕ) : Type 0 where
   pub written : report ≡ head_lines (codes "undecided\n") number assertion.place
       ++ codes "number past in " ++ formula_text (names_of of.program) (items_of of.program) formula ++ codes "\n"
 
--- All literals can be gathered, the demands before this one are valid, and the sizes of its constants sum to 2 ^ 126 or more. The
+-- All literals can be gathered, the demands before this one are valid, and the sizes of its constants sum to the limit of sums or more. The
 -- report has an operation on two fractions whose result has no form within 128 bits.
 pub record IsPastNumber (text report : List ℕ) : Type 0 where
   pub of : Bound text
@@ -161,6 +162,6 @@ Agree a b = a ≡ b
 abbrev pub IsOneJudgement : Type 0
 IsOneJudgement = (text : List ℕ) (a b : Result Judgement Refusal) → IsJudgement text a → IsJudgement text b → Agree a b ⊎ (IsByNumber text a ⊎ IsByNumber text b)
 
--- the sizes of the constants of each demand sum to less than 2 ^ 126
+-- the sizes of the constants of each demand sum to less than the limit of sums
 abbrev pub HasSmallDemands : List ℕ → Type 0
-HasSmallDemands text = (b : Bound text) → All (λ i. sizes_of i < 2 ^ 126) (demands b)
+HasSmallDemands text = (b : Bound text) → All (λ i. sizes_of i < SUM_LIMIT) (demands b)

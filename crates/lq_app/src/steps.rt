@@ -1,5 +1,5 @@
 // A straight-line program as a list of what is known and what is asked.
-ghost use Rattle.std.specs.Prelude.{◌≡◌, ◌<◌, ◌^◌, pos, neg_ℤ, ◌++◌, All, IfOk, OnOk};
+ghost use Rattle.std.specs.Prelude.{◌≡◌, ◌<◌, pos, neg_ℤ, ◌++◌, All, IfOk, OnOk};
 ghost use Rattle.lq_pred.specs.TermView.{sum_of};
 ghost use Rattle.lq_pred.specs.PredView.{formula_of};
 ghost use Rattle.lq_demand.specs.Straight.{implications_of};
@@ -9,6 +9,7 @@ ghost use Rattle.lq_straight.specs.Uses.{IsSmallSum, IsSmallItem, AreSmall};
 ghost use Rattle.lq_straight.specs.Demands.{term_of, goal_of, implications_of as demands_of};
 ghost use Rattle.lq_straight.specs.Meaning.{op_of};
 ghost use Rattle.lq_app.specs.Steps.{item_steps};
+ghost use Rattle.lq_name.specs.declared.limits.TheConstants.{LITERAL_LIMIT};
 
 use lq_demand::{Line, Lines};
 use lq_name::{Binder, CompareOp};
@@ -17,14 +18,14 @@ use lq_straight::{Assertion, Item, ItemNode, Operand, Order, Right};
 use std::alloc::{AllocError, Global};
 
 fn whole(n: u128) -> i128
-    requires { n < 2 ^ 127 }
+    requires { n < LITERAL_LIMIT }
     ensures { result ≡ pos n }
 {
     n as i128
 }
 
 fn negative(n: u128) -> i128
-    requires { n < 2 ^ 127 }
+    requires { n < LITERAL_LIMIT }
     ensures { result ≡ neg_ℤ (pos n) }
 {
     -(n as i128)

@@ -1,11 +1,12 @@
 -- What an answer on a straight-line list means.
-use Rattle.std.specs.Prelude.{◌≡◌, ◌≤◌, ◌+◌, ◌^◌, ℕ, false, List, [], ◌∷◌, All, Some, slice_get, take, unsigned_abs}
+use Rattle.std.specs.Prelude.{◌≡◌, ◌≤◌, ◌+◌, ℕ, false, List, [], ◌∷◌, All, Some, slice_get, take, unsigned_abs}
 use Rattle.lq_pred.specs.Comparison.{Comparison, CanGather, row_constant}
 use Rattle.lq_pred.specs.Formula.{Formula}
 use Rattle.lq_pred.specs.ClosedImplication.{ClosedImplication, IsPoint, MeetsEach, IsValid}
 use Rattle.lq_pred.specs.Literals.{each_literals, implication_literals}
 use Rattle.lq_pred.specs.Points.{Point, Meets}
 use Rattle.lq_pred.specs.Reading.{reading_of, AllFitIn}
+use Rattle.lq_linear.specs.declared.limits.TheConstants.{SUM_LIMIT}
 
 -- each literal of the implication can be gathered
 abbrev pub CanBeGathered : ClosedImplication → Type 0
@@ -39,10 +40,10 @@ pub record IsFirstUngathered (is : List ClosedImplication) (k : ℕ) (goal : For
   pub is_goal : ungathered.goal ≡ goal
   pub cannot : AllFitIn (reading_of false goal) → ⊥
 
--- The implication of this number is the first one that wasn't decided: its sizes sum to 2 ^ 126 or more.
+-- The implication of this number is the first one that wasn't decided: its sizes sum to the limit of sums or more.
 pub record IsFirstLarge (is : List ClosedImplication) (k : ℕ) : Type 0 where
   pub large : ClosedImplication
   pub at : slice_get is k ≡ Some large
   pub gathered : All CanBeGathered is
   pub before : All IsValid (take k is)
-  pub sized : 2 ^ 126 ≤ sizes_of large
+  pub sized : SUM_LIMIT ≤ sizes_of large

@@ -1,18 +1,19 @@
 -- An operation on whole numbers that has no result within 128 bits.
-use Rattle.std.specs.Prelude.{◌≡◌, ◌≤◌, ◌^◌, ℕ}
+use Rattle.std.specs.Prelude.{◌≡◌, ◌≤◌, ℕ}
 use Rattle.lq_linear.specs.declared.engine.LinearStop.{LinearStop}
 use Rattle.lq_linear.specs.declared.engine.LinearStop.TheVariants.{Number, Pivots, Memory}
 use Rattle.lq_num.specs.Past.{IsPast}
 use Rattle.lq_num.specs.Value.{denom_of}
 use Rattle.lq_num.specs.declared.past.NumberPast.{NumberPast}
+use Rattle.lq_linear.specs.declared.limits.TheConstants.{SUM_LIMIT}
 
 pub record IsWholePast (e : NumberPast) : Type 0 where
   pub past : IsPast e
   pub left : denom_of e.left ≡ 1
   pub right : denom_of e.right ≡ 1
 
--- want of memory, or such an operation where the sizes sum to n, at least 2 ^ 126
+-- want of memory, or such an operation where the sizes sum to n, at least the limit
 abbrev pub StopsBy : ℕ → LinearStop → Type 0
-StopsBy n (Number e) = IsWholePast e × (2 ^ 126 ≤ n)
+StopsBy n (Number e) = IsWholePast e × (SUM_LIMIT ≤ n)
 StopsBy n (Pivots k) = ⊥
 StopsBy n Memory = Unit {0}

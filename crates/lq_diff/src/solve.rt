@@ -1,5 +1,5 @@
 // Arcs admitted one by one.
-ghost use Rattle.std.specs.Prelude.{◌≡◌, ◌≢◌, ℕ, [], ◌∷◌, true, false, Some, ◌+◌, ◌<◌, ◌≤◌, ◌^◌, ◌+ℤ◌, FitsSigned, length, slice_get, slice_index_or, IfOk, IfErr, IfSome, IfNone, OnOk, OnErr};
+ghost use Rattle.std.specs.Prelude.{◌≡◌, ◌≢◌, ℕ, [], ◌∷◌, true, false, Some, ◌+◌, ◌<◌, ◌≤◌, ◌+ℤ◌, FitsSigned, length, slice_get, slice_index_or, IfOk, IfErr, IfSome, IfNone, OnOk, OnErr};
 ghost use Rattle.std.specs.Int.{w128};
 ghost use Rattle.lq_diff.specs.declared.arc.Arc.{Arc};
 ghost use Rattle.lq_diff.specs.Passes.{vertex_at, order_at, values, nexts, touched, AllBelow, AllInRange, AreListed, AtRest};
@@ -7,6 +7,7 @@ ghost use Rattle.lq_diff.specs.Solving.{IsBounded, IsEnded, IsOpposite, IsPlacin
 ghost use Rattle.lq_diff.specs.Stops.{StopsBy};
 ghost use Rattle.lq_diff.specs.Links.{kept, HasLinks};
 ghost use Rattle.lq_diff.specs.Trail.{IsTrailed, IsReached};
+ghost use Rattle.lq_linear.specs.declared.limits.TheConstants.{SUM_LIMIT};
 
 use crate::arc::Arc;
 use crate::number::sum;
@@ -65,7 +66,7 @@ fn place(vertices: &mut [Vertex], arc: Arc) -> Result<(), LinearStop>
     ensures rest { (order : ℕ → ℕ) → ((v : ℕ) → AtRest (vertex_at vertices.old) order v)
         → (v : ℕ) → AtRest (vertex_at vertices.new) order v }
     ensures stop { IfErr result (λ stop. (n : ℕ) → (¬ (FitsSigned w128
-        (values (vertex_at vertices.old) arc.from +ℤ arc.cost)) → 2 ^ 126 ≤ n) → StopsBy n stop) }
+        (values (vertex_at vertices.old) arc.from +ℤ arc.cost)) → SUM_LIMIT ≤ n) → StopsBy n stop) }
 {
     let value = sum(vertices[arc.from].kept.value, arc.cost)?;
     let vertex = &mut vertices[arc.to];

@@ -1,5 +1,5 @@
--- Values near the sizes of constants below 2 ^ 126 are no reason for an operation past 128 bits.
-use Rattle.std.proofs.Common.{◌≡◌, ℕ, zero, suc, ◌<◌, ◌≤◌, ◌^◌, ◌⊎◌, inl, inr, List, [], ◌∷◌, take, slice_get, Some, refl, sym, ap, ap₂, subst, ◌∙◌, arith, unsigned_abs, FitsSigned}
+-- Values near the sizes of constants below the limit of sums are no reason for an operation past 128 bits.
+use Rattle.std.proofs.Common.{◌≡◌, ℕ, zero, suc, ◌<◌, ◌≤◌, ◌⊎◌, inl, inr, List, [], ◌∷◌, take, slice_get, Some, refl, sym, ap, ap₂, subst, ◌∙◌, arith, unsigned_abs, FitsSigned}
 use Rattle.std.proofs.Math.IntN.{ℤ, pos, negsuc, ◌+ℤ◌, ◌-ℤ◌, ◌*ℤ◌}
 use Rattle.std.proofs.Math.Nat.{eq-one_of_dvd-one, dvd-mul_left}
 use Rattle.std.specs.Int.{w128}
@@ -21,6 +21,7 @@ use Rattle.lq_linear.specs.Row.{Row, Valuation, sum_at}
 use Rattle.lq_linear.specs.Steps.{IsStep, IsFormed, member_product, member_sum, constant_sum}
 use Rattle.lq_linear.specs.Difference.{IsDifference, TermsBelow}
 use Rattle.lq_linear.specs.Near.{IsNear}
+use Rattle.lq_linear.specs.declared.limits.TheConstants.{SUM_LIMIT}
 
 -- ---- fractions that are whole numbers
 
@@ -147,16 +148,16 @@ take_below terms parts zero t = tt
 take_below terms [] (suc k) t = tt
 take_below terms (x ∷ parts) (suc k) t = (t.0, take_below terms parts k t.1)
 
-fits_one : (n : ℕ) (z : ℤ) → n < 2 ^ 126 → IsWithin n z → FitsSigned w128 z
+fits_one : (n : ℕ) (z : ℤ) → n < SUM_LIMIT → IsWithin n z → FitsSigned w128 z
 unfolding IsWithin
 fits_one n z l h = omega (arith, ints)
 
-fits_two : (n : ℕ) (y z : ℤ) → n < 2 ^ 126 → IsWithin n y → IsWithin n z → FitsSigned w128 (y +ℤ z)
+fits_two : (n : ℕ) (y z : ℤ) → n < SUM_LIMIT → IsWithin n y → IsWithin n z → FitsSigned w128 (y +ℤ z)
 unfolding IsWithin
 fits_two n y z l h k = omega (arith, ints)
 
 -- no operation by which a difference row is evaluated at near values is past 128 bits
-step_fits : (n terms : ℕ) (v : Valuation) (row : Row) (op : NumOp) (l r : ℚ) → n < 2 ^ 126 → (near : IsNear n terms v) → IsDifference row.parts → TermsBelow terms row.parts
+step_fits : (n terms : ℕ) (v : Valuation) (row : Row) (op : NumOp) (l r : ℚ) → n < SUM_LIMIT → (near : IsNear n terms v) → IsDifference row.parts → TermsBelow terms row.parts
     → unsigned_abs row.constant ≤ n → IsStep v row op l r → (f g : Frac) → value_of f ≡ l → value_of g ≡ r → IsPastBy op f g → ⊥
 step_fits n terms v row _ _ _ small near d t size (member_product k term c at) f g ef eg past =
     let u = unit_at terms row.parts k term c d t at in
@@ -175,15 +176,15 @@ step_fits n terms v row _ _ _ small near d t size constant_sum f g ef eg past =
     no_sum_past f g (sum_of near.at row.parts) row.constant (ef ∙ sum_is terms v near.at row.parts near.whole_at t) eg
     (fits_one n _ small all) (fits_one n _ small one) (fits_two n _ _ small all one) past
 
-pub near_formed : (n terms : ℕ) (v : Valuation) (row : Row) → n < 2 ^ 126 → IsNear n terms v → IsDifference row.parts → TermsBelow terms row.parts
+pub near_formed : (n terms : ℕ) (v : Valuation) (row : Row) → n < SUM_LIMIT → IsNear n terms v → IsDifference row.parts → TermsBelow terms row.parts
     → unsigned_abs row.constant ≤ n → IsFormed v row
 near_formed n terms v row small near d t size e step past = step_fits n terms v row e.op (value_of e.left) (value_of e.right) small near d t size step e.left e.right refl refl past
 
 -- so where one is, the sizes are large
 pub large_by_step : (n terms : ℕ) (v : Valuation) (row : Row) (e : NumberPast) → IsNear n terms v → IsDifference row.parts → TermsBelow terms row.parts
-    → unsigned_abs row.constant ≤ n → IsStep v row e.op (value_of e.left) (value_of e.right) → IsPast e → 2 ^ 126 ≤ n
-large_by_step n terms v row e near d t size step past = by (cases_lt n (2 ^ 126))
+    → unsigned_abs row.constant ≤ n → IsStep v row e.op (value_of e.left) (value_of e.right) → IsPast e → SUM_LIMIT ≤ n
+large_by_step n terms v row e near d t size step past = by (cases_lt n SUM_LIMIT)
   where
-    by : (n < 2 ^ 126) ⊎ (2 ^ 126 ≤ n) → 2 ^ 126 ≤ n
+    by : (n < SUM_LIMIT) ⊎ (SUM_LIMIT ≤ n) → SUM_LIMIT ≤ n
     by (inl l) = absurd (near_formed n terms v row l near d t size e step past)
     by (inr h) = h

@@ -2,9 +2,11 @@
 #![tactic(auto)]
 
 mod engine;
+mod limits;
 mod row;
 mod value;
 
 pub use engine::{Answer, LinearEngine, LinearStop, Mark, Verdict, conflict_or_point};
+pub use limits::SUM_LIMIT;
 pub use row::LinearRow;
 pub use value::{level_at, level_sees_its_terms, near_values_form_differences};

@@ -1,5 +1,5 @@
 // The level of a row at given values.
-ghost use Rattle.std.specs.Prelude.{◌≡◌, ◌<◌, ◌≤◌, ◌^◌, ℕ, unsigned_abs, IfOk, IfErr};
+ghost use Rattle.std.specs.Prelude.{◌≡◌, ◌<◌, ◌≤◌, ℕ, unsigned_abs, IfOk, IfErr};
 ghost use Rattle.lq_linear.specs.Difference.{IsDifference, TermsBelow};
 ghost use Rattle.lq_linear.specs.Near.{IsNear};
 ghost use Rattle.lq_linear.specs.Seen.{AgreeOn};
@@ -7,6 +7,7 @@ ghost use Rattle.lq_linear.specs.Row.{Row, Valuation, level};
 ghost use Rattle.lq_linear.specs.Steps.{valuation_of, HasValues, IsStep, IsFormed};
 ghost use Rattle.lq_num.specs.Past.{IsPast};
 ghost use Rattle.lq_num.specs.Value.{value_of};
+ghost use Rattle.lq_linear.specs.declared.limits.TheConstants.{SUM_LIMIT};
 
 use crate::row::LinearRow;
 use lq_num::{Frac, NumberPast};
@@ -37,7 +38,7 @@ pub fn level_sees_its_terms()
 /// At whole values that are no larger in size than a number below 2^126, and no farther apart, the level of a difference row whose
 /// constant is no larger either is formed.
 pub fn near_values_form_differences()
-    ensures { (n terms : ℕ) (v : Valuation) (row : Row) → n < 2 ^ 126 → IsNear n terms v
+    ensures { (n terms : ℕ) (v : Valuation) (row : Row) → n < SUM_LIMIT → IsNear n terms v
         → IsDifference row.parts → TermsBelow terms row.parts → unsigned_abs row.constant ≤ n
         → IsFormed v row }
 {}

@@ -1,6 +1,6 @@
 -- Which trees are straight-line programs, and the first node of any other that isn't judged yet. A node is met before its parts, and
 -- these from left to right.
-use Rattle.std.specs.Prelude.{ℕ, suc, pos, negsuc, ◌==◌, ◌^◌, nat_lt, List, [], ◌∷◌, if◌then◌else◌}
+use Rattle.std.specs.Prelude.{ℕ, suc, pos, negsuc, ◌==◌, nat_lt, List, [], ◌∷◌, if◌then◌else◌}
 use Rattle.lq_name.specs.declared.operation.ArithOp.TheVariants as arith
 use Rattle.lq_name.specs.declared.operation.CompareOp.{CompareOp}
 use Rattle.lq_name.specs.declared.operation.CompareOp.TheVariants as compare_op
@@ -21,6 +21,7 @@ use Rattle.lq_straight.specs.declared.item.Item.{Item}
 use Rattle.lq_straight.specs.declared.item.ItemNode.{ItemNode}
 use Rattle.lq_straight.specs.declared.item.ItemNode.TheVariants.{Define, Assert, Print}
 use Rattle.lq_straight.specs.Names.{read_name, print_name, is_primitive}
+use Rattle.lq_name.specs.declared.limits.TheConstants.{LITERAL_LIMIT}
 
 -- what a tree is, or the place of the first node that isn't judged
 pub data Found (A : Type 0) : Type 0 where
@@ -47,7 +48,7 @@ variable_and_literal form a b = then_found (variable_in a) (λ x. then_found (li
 
 abbrev pub sum_in : Tree → Found (Operand NameAt)
 sum_in (tree i p (whole (pos n))) = is (sum.Whole n)
-sum_in (tree i p (whole (negsuc n))) = if nat_lt (suc n) (2 ^ 127) then is (sum.Negative (suc n)) else unbuilt p
+sum_in (tree i p (whole (negsuc n))) = if nat_lt (suc n) LITERAL_LIMIT then is (sum.Negative (suc n)) else unbuilt p
 sum_in (tree i p (use_of x)) = then_found (variable_in (tree i p (use_of x))) (λ x. is (sum.Use x))
 sum_in (tree i p (arithmetic arith.Add a b)) = variable_and_literal sum.Add a b
 sum_in (tree i p (arithmetic arith.Sub a b)) = variable_and_literal sum.Sub a b

@@ -1,5 +1,5 @@
 -- What the items use, and how large their literals are.
-use Rattle.std.specs.Prelude.{◌<◌, ◌^◌, List, [], ◌∷◌, ◌++◌}
+use Rattle.std.specs.Prelude.{◌<◌, List, [], ◌∷◌, ◌++◌}
 use Rattle.lq_straight.specs.declared.item.Operand.{Operand}
 use Rattle.lq_straight.specs.declared.item.Operand.TheVariants as sum
 use Rattle.lq_straight.specs.declared.item.Right.{Right}
@@ -9,6 +9,7 @@ use Rattle.lq_straight.specs.declared.item.Printed.TheVariants as printed
 use Rattle.lq_straight.specs.declared.item.Item.{Item}
 use Rattle.lq_straight.specs.declared.item.ItemNode.{ItemNode}
 use Rattle.lq_straight.specs.declared.item.ItemNode.TheVariants.{Define, Assert, Print}
+use Rattle.lq_name.specs.declared.limits.TheConstants.{LITERAL_LIMIT}
 
 -- what a sum uses
 abbrev pub used_by_sum : {V : Type 0} → Operand V → List V
@@ -36,13 +37,13 @@ used_by_node (Print e) = used_by_printed e
 abbrev pub used : {V : Type 0} → Item V → List V
 used i = used_by_node i.node
 
--- the literal is below 2 ^ 127
+-- the literal is below the limit of literals
 abbrev pub IsSmallSum : {V : Type 0} → Operand V → Type 0
 IsSmallSum (sum.Use x) = Unit {0}
-IsSmallSum (sum.Add x n) = n < 2 ^ 127
-IsSmallSum (sum.Sub x n) = n < 2 ^ 127
-IsSmallSum (sum.Whole n) = n < 2 ^ 127
-IsSmallSum (sum.Negative n) = n < 2 ^ 127
+IsSmallSum (sum.Add x n) = n < LITERAL_LIMIT
+IsSmallSum (sum.Sub x n) = n < LITERAL_LIMIT
+IsSmallSum (sum.Whole n) = n < LITERAL_LIMIT
+IsSmallSum (sum.Negative n) = n < LITERAL_LIMIT
 
 abbrev pub IsSmallRight : {V : Type 0} → Right V → Type 0
 IsSmallRight (right.Read p) = Unit {0}
@@ -57,7 +58,7 @@ IsSmallNode (Print e) = Unit {0}
 abbrev pub IsSmallItem : {V : Type 0} → Item V → Type 0
 IsSmallItem i = IsSmallNode i.node
 
--- the literals of definitions and assertions are below 2 ^ 127; nothing is said of printed literals
+-- the literals of definitions and assertions are below the limit of literals; nothing is said of printed literals
 abbrev pub AreSmall : {V : Type 0} → List (Item V) → Type 0
 AreSmall [] = Unit {0}
 AreSmall (i ∷ items) = IsSmallItem i × AreSmall items

@@ -1,5 +1,5 @@
 // The straight-line programs among the trees.
-ghost use Rattle.std.specs.Prelude.{◌≡◌, ◌<◌, ◌^◌, IfOk, Err};
+ghost use Rattle.std.specs.Prelude.{◌≡◌, ◌<◌, IfOk, Err};
 ghost use Rattle.lq_name.specs.declared.place.Place.{Place};
 ghost use Rattle.lq_tree.specs.Items.{let_of, item_view};
 ghost use Rattle.lq_tree.specs.Pattern.{pattern, bind};
@@ -11,6 +11,7 @@ ghost use Rattle.lq_straight.specs.Forms.{is, unbuilt, variable_in, literal_in, 
 ghost use Rattle.lq_straight.specs.Recognising.{Answers};
 ghost use Rattle.lq_straight.specs.Uses.{AreSmall, IsSmallSum, IsSmallRight, IsSmallNode, IsSmallItem};
 ghost use Rattle.lq_straight.specs.declared.forms.FormError.TheVariants.{Unbuilt, Memory};
+ghost use Rattle.lq_name.specs.declared.limits.TheConstants.{LITERAL_LIMIT};
 
 use crate::item::{Assertion, Item, ItemNode, NameAt, Operand, Order, Printed, Right};
 use crate::names::{PRINT_INT, READ_INT, is_primitive};
@@ -68,7 +69,7 @@ fn variable_in(tree: &Expr<Name>) -> Result<NameAt, Place>
 // The literal, unless it has a sign.
 fn literal(n: i128, place: Place) -> Result<u128, Place>
     ensures literal { Answers result (literal_in (tree 0 place (whole n))) }
-    ensures small { IfOk result (λ n. n < 2 ^ 127) }
+    ensures small { IfOk result (λ n. n < LITERAL_LIMIT) }
 {
     if n < 0 {
         return Err(place);
@@ -78,7 +79,7 @@ fn literal(n: i128, place: Place) -> Result<u128, Place>
 
 fn literal_in(tree: &Expr<Name>) -> Result<u128, Place>
     ensures literal { Answers result (literal_in (parsed_view tree.now)) }
-    ensures small { IfOk result (λ n. n < 2 ^ 127) }
+    ensures small { IfOk result (λ n. n < LITERAL_LIMIT) }
 {
     match &tree.node {
         Node::Whole(n) => literal(*n, tree.place),

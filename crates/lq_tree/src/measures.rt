@@ -1,6 +1,7 @@
 // Measures as they are written.
 ghost use Rattle.std.specs.Prelude.{◌≡◌, ◌≤◌};
 ghost use Rattle.lq_tree.specs.MeasureTrees.{definitions_view, definitions_nesting};
+ghost use Rattle.lq_name.specs.declared.limits.TheConstants.{LEVEL_LIMIT};
 
 use crate::pattern::Pat;
 use crate::pred_expr::PredExpr;
@@ -24,18 +25,18 @@ pub struct Equation {
     pub term: PredExpr,
 }
 
-/// A parsed text of measures, in order. No term of it nests deeper than 250 steps.
+/// A parsed text of measures, in order. No term of it nests deeper than the limit of levels.
 #[derive(Drop)]
 pub struct Measures {
     measures: Vec<Measure>,
-    ghost shallow: { definitions_nesting (definitions_view measures.items) ≤ 250 },
+    ghost shallow: { definitions_nesting (definitions_view measures.items) ≤ LEVEL_LIMIT },
 }
 
 impl Measures {
     ghost use Rattle.lq_tree.specs.Texts.{measures_view};
 
     pub fn new(measures: Vec<Measure>) -> Measures
-        requires { definitions_nesting (definitions_view measures.items) ≤ 250 }
+        requires { definitions_nesting (definitions_view measures.items) ≤ LEVEL_LIMIT }
         ensures { measures_view result ≡ definitions_view measures.items }
     {
         Measures { measures }
@@ -44,7 +45,7 @@ impl Measures {
     /// The measures, in order.
     pub fn measures(&self) -> &[Measure]
         ensures measures { definitions_view result.now ≡ measures_view self.now }
-        ensures shallow { definitions_nesting (measures_view self.now) ≤ 250 }
+        ensures shallow { definitions_nesting (measures_view self.now) ≤ LEVEL_LIMIT }
     {
         &self.measures
     }

@@ -2,22 +2,23 @@
 ghost use Rattle.std.specs.Prelude.{◌≡◌, ◌≤◌};
 ghost use Rattle.lq_tree.specs.Items.{parsed_items};
 ghost use Rattle.lq_tree.specs.Levels.{items_nesting};
+ghost use Rattle.lq_name.specs.declared.limits.TheConstants.{LEVEL_LIMIT};
 
 use crate::item::Item;
 use lq_name::Name;
 
-/// A parsed program: its items in order. No tree of it nests deeper than 250 steps.
+/// A parsed program: its items in order. No tree of it nests deeper than the limit of levels.
 #[derive(Drop)]
 pub struct Program {
     items: Vec<Item<Name>>,
-    ghost shallow: { items_nesting (parsed_items items.items) ≤ 250 },
+    ghost shallow: { items_nesting (parsed_items items.items) ≤ LEVEL_LIMIT },
 }
 
 impl Program {
     ghost use Rattle.lq_tree.specs.Texts.{program_view};
 
     pub fn new(items: Vec<Item<Name>>) -> Program
-        requires { items_nesting (parsed_items items.items) ≤ 250 }
+        requires { items_nesting (parsed_items items.items) ≤ LEVEL_LIMIT }
         ensures { program_view result ≡ parsed_items items.items }
     {
         Program { items }
@@ -26,7 +27,7 @@ impl Program {
     /// The items, in order.
     pub fn items(&self) -> &[Item<Name>]
         ensures items { parsed_items result.now ≡ program_view self.now }
-        ensures shallow { items_nesting (program_view self.now) ≤ 250 }
+        ensures shallow { items_nesting (program_view self.now) ≤ LEVEL_LIMIT }
     {
         &self.items
     }

@@ -1,6 +1,7 @@
 // Qualifiers as they are written.
 ghost use Rattle.std.specs.Prelude.{◌≡◌, ◌≤◌};
 ghost use Rattle.lq_tree.specs.Qualifiers.{qualifiers_view, qualifiers_nesting};
+ghost use Rattle.lq_name.specs.declared.limits.TheConstants.{LEVEL_LIMIT};
 
 use crate::pred_expr::PredExpr;
 use lq_name::{Name, Place};
@@ -18,18 +19,18 @@ pub struct Qualifier {
     pub predicate: PredExpr,
 }
 
-/// A parsed text of qualifiers, in order. No predicate of it nests deeper than 250 steps.
+/// A parsed text of qualifiers, in order. No predicate of it nests deeper than the limit of levels.
 #[derive(Drop)]
 pub struct Quals {
     qualifiers: Vec<Qualifier>,
-    ghost shallow: { qualifiers_nesting (qualifiers_view qualifiers.items) ≤ 250 },
+    ghost shallow: { qualifiers_nesting (qualifiers_view qualifiers.items) ≤ LEVEL_LIMIT },
 }
 
 impl Quals {
     ghost use Rattle.lq_tree.specs.Texts.{quals_view};
 
     pub fn new(qualifiers: Vec<Qualifier>) -> Quals
-        requires { qualifiers_nesting (qualifiers_view qualifiers.items) ≤ 250 }
+        requires { qualifiers_nesting (qualifiers_view qualifiers.items) ≤ LEVEL_LIMIT }
         ensures { quals_view result ≡ qualifiers_view qualifiers.items }
     {
         Quals { qualifiers }
@@ -38,7 +39,7 @@ impl Quals {
     /// The qualifiers, in order.
     pub fn qualifiers(&self) -> &[Qualifier]
         ensures qualifiers { qualifiers_view result.now ≡ quals_view self.now }
-        ensures shallow { qualifiers_nesting (quals_view self.now) ≤ 250 }
+        ensures shallow { qualifiers_nesting (quals_view self.now) ≤ LEVEL_LIMIT }
     {
         &self.qualifiers
     }
