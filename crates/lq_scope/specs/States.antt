@@ -2,7 +2,9 @@
 use Rattle.std.specs.Prelude.{◌≡◌, ℕ, List, [], map, length, Option}
 use Rattle.lq_scope.specs.Complaints.{Complaint, least_with}
 use Rattle.lq_scope.specs.Datatypes.{name_of}
+use Rattle.lq_walk.specs.Visits.{Visit}
 use Rattle.lq_scope.specs.Known.{Known}
+use Rattle.lq_scope.specs.Passing.{found_at, known_behind, open_after}
 use Rattle.lq_scope.specs.Views.{found_view}
 use Rattle.lq_scope.specs.declared.checker.Checker.{Checker}
 
@@ -22,3 +24,12 @@ pub record HasFound (old new : Checker) (complaints : List Complaint) (k : Known
   pub open_ : open_of new ≡ n
   pub best : best_of new ≡ least_with (best_of old) complaints
   pub seen : new.seen ≡ []
+
+-- One checker has made this visit more than another.
+abbrev pub HasVisited : Checker → Checker → Visit → Type 0
+HasVisited old new v =
+    HasFound old new (found_at old.names.now (known_of old) (open_of old) v) (known_behind (known_of old) v) (open_after (open_of old) v)
+
+-- One checker has these complaints more than another, and is else as it was.
+abbrev pub Adds : Checker → Checker → List Complaint → Type 0
+Adds old new complaints = HasFound old new complaints (known_of old) (open_of old)

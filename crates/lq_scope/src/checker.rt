@@ -3,7 +3,7 @@ ghost use Rattle.std.specs.Prelude.{◌≡◌, [], ◌∷◌, None, IfOk, OnOk};
 ghost use Rattle.lq_name.specs.declared.name.Name.{Name};
 ghost use Rattle.lq_tree.specs.PatternView.{pat_view};
 ghost use Rattle.lq_tree.specs.Texts.{program_view};
-ghost use Rattle.lq_tree.specs.TreeView.{form_view, tree_view, trees_view};
+ghost use Rattle.lq_tree.specs.TreeView.{form_view, parsed_view, trees_view};
 ghost use Rattle.lq_walk.specs.Pending.{visit_view};
 ghost use Rattle.lq_walk.specs.View.{leaf_view};
 ghost use Rattle.lq_walk.specs.Visits.{enter, enter_item, declare, show, hide};
@@ -11,8 +11,7 @@ ghost use Rattle.lq_tree.specs.Items.{item_view};
 ghost use Rattle.lq_walk.specs.Shape.{listed, shape_of};
 ghost use Rattle.lq_scope.specs.Complaints.{least};
 ghost use Rattle.lq_scope.specs.Known.{arity_in, predeclared_constructors, predeclared_known, predeclared_types};
-ghost use Rattle.lq_scope.specs.Passing.{found_at, known_behind, open_after};
-ghost use Rattle.lq_scope.specs.States.{known_of, open_of, best_of, HasFound};
+ghost use Rattle.lq_scope.specs.States.{known_of, open_of, best_of, Adds, HasVisited};
 ghost use Rattle.lq_scope.specs.Uses.{as_arguments, given_to, of_build, of_leaf, of_program};
 ghost use Rattle.lq_scope.specs.Views.{found_view};
 
@@ -106,8 +105,11 @@ fn given_to(wanted: usize, held: Arguments, parts: &Exprs<Name>) -> usize
 
 impl<'a> Checker<'a> {
     fn new(alloc: Global, names: &'a NameTable) -> Result<Checker<'a>, AllocError>
-        ensures { IfOk result (λ c. (known_of c ≡ predeclared_known) × ((open_of c ≡ 0) × ((best_of c ≡ None) × ((c.seen ≡ [])
-            × (c.names.now ≡ names.now))))) }
+        ensures known { IfOk result (λ c. known_of c ≡ predeclared_known) }
+        ensures open { IfOk result (λ c. open_of c ≡ 0) }
+        ensures best { IfOk result (λ c. best_of c ≡ None) }
+        ensures seen { IfOk result (λ c. c.seen ≡ []) }
+        ensures names { IfOk result (λ c. c.names.now ≡ names.now) }
     {
         Ok(Checker {
             alloc,
@@ -125,8 +127,8 @@ impl<'a> Checker<'a> {
     // A node without parts, before the arguments that it is given are closed.
     fn leaf(&mut self, place: Place, leaf: Leaf<Name>)
         requires { self.old.seen ≡ [] }
-        ensures { HasFound self.old self.new (of_leaf self.old.names.now place (leaf_view Name (λ n. n.0) leaf)
-            (known_of self.old) (open_of self.old)) (known_of self.old) (open_of self.old) }
+        ensures { Adds self.old self.new (of_leaf self.old.names.now place
+            (leaf_view Name (λ n. n.0) leaf) (known_of self.old) (open_of self.old)) }
     {
         match leaf {
             Leaf::Use(name) => {
@@ -150,8 +152,8 @@ impl<'a> Checker<'a> {
     // A constructor with its arguments.
     fn build(&mut self, place: Place, name: Name, held: Arguments, parts: &Exprs<Name>)
         requires { self.old.seen ≡ [] }
-        ensures { HasFound self.old self.new (of_build place (arity_in self.old.constructors name.0) name.0 held
-            (listed (trees_view Name (λ n. n.0) parts.now))) (known_of self.old) (open_of self.old) }
+        ensures { Adds self.old self.new (of_build place (arity_in self.old.constructors name.0) name.0
+            held (listed (trees_view Name (λ n. n.0) parts.now))) }
     {
         match self.constructors.find(name) {
             None => self.least.note(place, Cause::Unknown(name)),
@@ -166,8 +168,7 @@ impl<'a> Checker<'a> {
     // A node, before its parts.
     fn enter(&mut self, node: &'a Expr<Name>) -> Result<(), AllocError>
         requires { self.old.seen ≡ [] }
-        ensures { OnOk result (HasFound self.old self.new (found_at self.old.names.now (known_of self.old) (open_of self.old)
-            (enter (tree_view Name (λ n. n.0) node.now))) (known_behind (known_of self.old) (enter (tree_view Name (λ n. n.0) node.now))) (open_after (open_of self.old) (enter (tree_view Name (λ n. n.0) node.now)))) }
+        ensures { OnOk result (HasVisited self.old self.new (enter (parsed_view node.now))) }
     {
         match shape_of(&node.node) {
             Shape::Leaf(leaf) => {
@@ -179,15 +180,32 @@ impl<'a> Checker<'a> {
                 self.open.clear();
             }
             Shape::Two(Two::Call, _, argument) => self.open.push(argument)?,
-            _ => self.open.clear(),
+            Shape::Row(Row::Tuple | Row::ListOf | Row::Chain, _)
+            | Shape::Two(
+                Two::Arith(_)
+                | Two::Compare(_)
+                | Two::And
+                | Two::Or
+                | Two::Make
+                | Two::Fetch
+                | Two::MapFind,
+                _,
+                _,
+            )
+            | Shape::One(_, _)
+            | Shape::Three(_, _, _, _)
+            | Shape::Fun(_, _)
+            | Shape::Let(_, _, _)
+            | Shape::LetRec(_, _, _)
+            | Shape::Match(_, _) => self.open.clear(),
         }
         Ok(())
     }
 
     fn declare(&mut self, pattern: &Pat<Name>) -> Result<(), AllocError>
         requires { self.old.seen ≡ [] }
-        ensures { OnOk result (HasFound self.old self.new (found_at self.old.names.now (known_of self.old) (open_of self.old)
-            (declare (pat_view Name (λ n. n.0) pattern.now))) (known_behind (known_of self.old) (declare (pat_view Name (λ n. n.0) pattern.now))) (open_after (open_of self.old) (declare (pat_view Name (λ n. n.0) pattern.now)))) }
+        ensures { OnOk result (HasVisited self.old self.new
+            (declare (pat_view Name (λ n. n.0) pattern.now))) }
     {
         note_built(&self.constructors, &mut self.least, pattern);
         self.bindings.clear();
@@ -199,8 +217,7 @@ impl<'a> Checker<'a> {
 
     fn show(&mut self, pattern: &Pat<Name>) -> Result<(), AllocError>
         requires { self.old.seen ≡ [] }
-        ensures { OnOk result (HasFound self.old self.new (found_at self.old.names.now (known_of self.old) (open_of self.old)
-            (show (pat_view Name (λ n. n.0) pattern.now))) (known_behind (known_of self.old) (show (pat_view Name (λ n. n.0) pattern.now))) (open_after (open_of self.old) (show (pat_view Name (λ n. n.0) pattern.now)))) }
+        ensures { OnOk result (HasVisited self.old self.new (show (pat_view Name (λ n. n.0) pattern.now))) }
     {
         self.bindings.clear();
         push_binders(&mut self.bindings, pattern)?;
@@ -210,8 +227,7 @@ impl<'a> Checker<'a> {
 
     fn hide(&mut self, pattern: &Pat<Name>) -> Result<(), AllocError>
         requires { self.old.seen ≡ [] }
-        ensures { OnOk result (HasFound self.old self.new (found_at self.old.names.now (known_of self.old) (open_of self.old)
-            (hide (pat_view Name (λ n. n.0) pattern.now))) (known_behind (known_of self.old) (hide (pat_view Name (λ n. n.0) pattern.now))) (open_after (open_of self.old) (hide (pat_view Name (λ n. n.0) pattern.now)))) }
+        ensures { OnOk result (HasVisited self.old self.new (hide (pat_view Name (λ n. n.0) pattern.now))) }
     {
         self.bindings.clear();
         push_binders(&mut self.bindings, pattern)?;
@@ -221,8 +237,8 @@ impl<'a> Checker<'a> {
 
     fn enter_item(&mut self, item: &Item<Name>) -> Result<(), AllocError>
         requires { self.old.seen ≡ [] }
-        ensures { OnOk result (HasFound self.old self.new (found_at self.old.names.now (known_of self.old) (open_of self.old)
-            (enter_item (item_view Name (λ n. n.0) item.now))) (known_behind (known_of self.old) (enter_item (item_view Name (λ n. n.0) item.now))) (open_after (open_of self.old) (enter_item (item_view Name (λ n. n.0) item.now)))) }
+        ensures { OnOk result (HasVisited self.old self.new
+            (enter_item (item_view Name (λ n. n.0) item.now))) }
     {
         self.open.clear();
         match &item.node {
@@ -243,8 +259,7 @@ impl<'a> Checker<'a> {
 
     fn visit(&mut self, visit: Visit<'a, Name>) -> Result<(), AllocError>
         requires { self.old.seen ≡ [] }
-        ensures { OnOk result (HasFound self.old self.new (found_at self.old.names.now (known_of self.old) (open_of self.old)
-            (visit_view Name (λ n. n.0) visit.entry)) (known_behind (known_of self.old) (visit_view Name (λ n. n.0) visit.entry)) (open_after (open_of self.old) (visit_view Name (λ n. n.0) visit.entry))) }
+        ensures { OnOk result (HasVisited self.old self.new (visit_view Name (λ n. n.0) visit.entry)) }
     {
         match visit {
             Visit::EnterItem(item) => self.enter_item(item),
@@ -269,7 +284,8 @@ pub fn first_complaint(
     program: &Program,
     names: &NameTable,
 ) -> Result<Option<Complaint>, AllocError>
-    ensures { IfOk result (λ found. found_view found ≡ least (of_program names.now (program_view program.now))) }
+    ensures { IfOk result (λ found. found_view found
+        ≡ least (of_program names.now (program_view program.now))) }
 {
     let mut checker = Checker::new(alloc, names)?;
     let mut walk = Walk::of_items(alloc, program.items())?;

@@ -70,7 +70,8 @@ pub(crate) struct Least {
 impl Least {
     /// One complaint more.
     pub(crate) fn note(&mut self, place: Place, cause: Cause)
-        ensures { found_view self.new.found ≡ lesser (found_view self.old.found) (at place (cause_view cause)) }
+        ensures { found_view self.new.found
+            ≡ lesser (found_view self.old.found) (at place (cause_view cause)) }
     {
         let complaint = Complaint { place, cause };
         self.found = match self.found {

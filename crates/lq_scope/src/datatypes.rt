@@ -70,7 +70,8 @@ fn push_types<'a>(
     wrongly: bool,
     row: &'a TypeExprs,
 ) -> Result<(), AllocError>
-    ensures { OnOk result (pending left.new.items ≡ spots_in wrongly (types_view row.now) ++ pending left.old.items) }
+    ensures { OnOk result (pending left.new.items
+        ≡ spots_in wrongly (types_view row.now) ++ pending left.old.items) }
 {
     let count = row.len();
     for at in 0..count {
@@ -101,7 +102,8 @@ fn push_parts<'a>(
     wrongly: bool,
     written: &'a TypeExpr,
 ) -> Result<(), AllocError>
-    ensures { OnOk result (pending left.new.items ≡ parts_in wrongly (type_view written.now) ++ pending left.old.items) }
+    ensures { OnOk result (pending left.new.items
+        ≡ parts_in wrongly (type_view written.now) ++ pending left.old.items) }
 {
     match &written.node {
         TypeNode::Var(_) => {}
@@ -148,7 +150,8 @@ fn note_constructors(
     least: &mut Least,
     constructors: &[Constructor],
 ) -> Result<(), AllocError>
-    ensures known { OnOk result (known.new ≡ with_constructors known.old (map constructor_view constructors.now)) }
+    ensures known { OnOk result (known.new
+        ≡ with_constructors known.old (map constructor_view constructors.now)) }
     ensures found { OnOk result (found_view least.new.found ≡ least_with (found_view least.old.found)
         (of_constructors (frame_view frame.now) known.old (map constructor_view constructors.now))) }
 {
@@ -192,8 +195,9 @@ pub(crate) fn note_datatype(
         (definition_view definition.now).constructors) }
     ensures types { OnOk result (types.new ≡ type_arity (definition_view definition.now) ∷ types.old) }
     ensures parameters { OnOk result (parameters.new ≡ []) }
-    ensures found { OnOk result ((variables : List ℕ) → found_view least.new.found ≡ least_with (found_view least.old.found)
-        (of_datatype (record { variables = variables; constructors = constructors.old; types = types.old })
+    ensures found { OnOk result ((variables : List ℕ) → found_view least.new.found
+        ≡ least_with (found_view least.old.found) (of_datatype
+        (record { variables = variables; constructors = constructors.old; types = types.old })
         (definition_view definition.now))) }
 {
     let itself = Binding {

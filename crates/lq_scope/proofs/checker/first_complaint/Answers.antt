@@ -14,11 +14,11 @@ loop-walk-init c =
     let names = c.args.names.now in
     let first = c.in_ok-checker.ensures in
     let visits = left Name (λ n. n.0) c.in_ok-walk.walk in (
-      ap (λ k. passed names k (open_of c.in_ok-checker.checker) (best_of c.in_ok-checker.checker) visits) first.0
-          ∙ ap (λ n. passed names predeclared_known n (best_of c.in_ok-checker.checker) visits) first.1.0
-          ∙ ap (λ b. passed names predeclared_known 0 b visits) first.1.1.0
+      ap (λ k. passed names k (open_of c.in_ok-checker.checker) (best_of c.in_ok-checker.checker) visits) first.known
+          ∙ ap (λ n. passed names predeclared_known n (best_of c.in_ok-checker.checker) visits) first.«open»
+          ∙ ap (λ b. passed names predeclared_known 0 b visits) first.best
           ∙ ap (passed names predeclared_known 0 None) (c.in_ok-walk.ensures ∙ ap visits_of_items c.items.ensures.items)
           ∙ walked_items names (program_view c.args.program.now) predeclared_known None,
-      first.1.1.1.1,
-      first.1.1.1.0,
+      first.names,
+      first.seen,
     )
