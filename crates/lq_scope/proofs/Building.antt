@@ -1,6 +1,6 @@
 -- The arguments of a constructor in memory.
-use Rattle.std.specs.Prelude.{nat_lt, option_copied}
-use Rattle.std.proofs.Common.{◌≡◌, ℕ, ◌<◌, true, List, [], ◌∷◌, map, length, slice_get, Option, Some, None, refl, sym, ap, ◌∙◌, if◌then◌else◌, rules}
+use Rattle.std.specs.Prelude.{nat_lt}
+use Rattle.std.proofs.Common.{◌≡◌, ℕ, ◌<◌, true, List, [], ◌∷◌, map, length, slice_get, Some, None, refl, sym, ap, ◌∙◌, if◌then◌else◌, rules}
 use Rattle.std.proofs.lemmas.Bool.Decides.{Decides-ltb}
 use Rattle.std.proofs.lemmas.List.{length-map}
 use Rattle.lq_name.specs.declared.name.Name.{Name}
@@ -9,7 +9,7 @@ use Rattle.lq_tree.specs.TreeView.{Case, Recursive, trees_of, node_step, arm_ste
 use Rattle.lq_tree.specs.declared.expr.Expr.{Expr, out-Expr}
 use Rattle.lq_tree.specs.declared.expr.Exprs.{Exprs, fold_out-Exprs}
 use Rattle.lq_tree.specs.declared.expr.Node.{the_lemmas}
-use Rattle.lq_tree.specs.declared.expr.Arguments.TheVariants.{Apart, Listed}
+use Rattle.lq_tree.specs.declared.expr.Arguments.TheVariants.{Listed}
 use Rattle.lq_walk.specs.Shape as shape
 use Rattle.lq_walk.specs.Shape.{Shape, shape_of, listed}
 use Rattle.lq_scope.specs.Uses.{as_arguments, given_to, shape_in}

@@ -1,12 +1,11 @@
 -- The constructors and the parameters of a datatype, one after another.
 use Rattle.std.proofs.Common.{◌≡◌, ℕ, zero, suc, ◌+◌, ◌<◌, false, List, [], ◌∷◌, ◌++◌, map, drop, reverse, length, get_or, Option, refl, sym, ap, ◌∙◌, arith}
-use Rattle.std.proofs.lemmas.List.{append-nil, map-append, reverse-append}
+use Rattle.std.proofs.lemmas.List.{map-append, reverse-append}
 use Rattle.lq_tree.specs.Items.{Construct, Datatype, Named}
 use Rattle.lq_scope.specs.Complaints.{Complaint, least_with}
-use Rattle.lq_scope.specs.Datatypes.{Frame, arity_of, name_of, named_of, of_constructors, of_types, with_constructors, parameter_name, frame_of, of_datatype, type_arity}
+use Rattle.lq_scope.specs.Datatypes.{Frame, arity_of, name_of, named_of, of_constructors, of_types, parameter_name, frame_of, of_datatype, type_arity}
 use Rattle.lq_scope.specs.Known.{Arity, Known}
 use Rattle.lq_scope.specs.Patterns.{again, repeated, shown_name, shown_names}
-use Rattle.lq_scope.proofs.Naming.{shown_first}
 use Rattle.lq_scope.proofs.Rows.{least_acts}
 
 pub drop_by : {X : Type 0} (xs : List X) (at : ℕ) (x : X) → at < length xs → x ≡ get_or xs at x → drop at xs ≡ x ∷ drop (at + 1) xs

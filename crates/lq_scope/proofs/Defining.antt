@@ -6,7 +6,7 @@ use Rattle.lq_tree.specs.declared.item.ItemNode.{ItemNode}
 use Rattle.lq_tree.specs.declared.item.ItemNode.TheVariants as node
 use Rattle.lq_tree.specs.declared.item.TypeDefinition.{TypeDefinition}
 use Rattle.lq_scope.specs.Complaints.{least_with}
-use Rattle.lq_scope.specs.Datatypes.{name_of, of_datatype, with_constructors, with_datatype, type_arity}
+use Rattle.lq_scope.specs.Datatypes.{name_of, of_datatype, with_constructors, type_arity}
 use Rattle.lq_scope.specs.Known.{known_with}
 use Rattle.lq_scope.specs.Passing.{about_item, known_at}
 use Rattle.lq_scope.specs.States.{HasFound, known_of, best_of, open_of}

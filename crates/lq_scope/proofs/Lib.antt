@@ -1,3 +1,4 @@
+mod Ordering
 mod Building
 mod Constructing
 mod Defining

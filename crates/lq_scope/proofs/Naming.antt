@@ -1,8 +1,8 @@
 -- Names that become visible one after another, and those that are defined again.
-use Rattle.std.proofs.Common.{◌≡◌, ℕ, ◌+◌, List, [], ◌∷◌, ◌++◌, map, take, reverse, Option, refl, sym, ap, ◌∙◌}
+use Rattle.std.proofs.Common.{◌≡◌, ℕ, ◌+◌, List, [], ◌∷◌, ◌++◌, map, take, reverse, Option, sym, ap, ◌∙◌}
 use Rattle.std.proofs.lemmas.List.{append_assoc, append-nil, map-append, reverse-append}
 use Rattle.lq_tree.specs.Items.{Named}
-use Rattle.lq_tree.specs.Pattern.{Pattern, bound_in}
+use Rattle.lq_tree.specs.Pattern.{Pattern}
 use Rattle.lq_tree.specs.PatternView.{patterns_of}
 use Rattle.lq_scope.specs.Complaints.{Complaint, least_with}
 use Rattle.lq_scope.specs.Datatypes.{name_of}

@@ -3,7 +3,6 @@ use Rattle.std.proofs.Common.{◌≡◌, ℕ, suc, List, [], ◌∷◌, ◌++◌
 use Rattle.std.proofs.lemmas.List.{map-append, length-map}
 use Rattle.lq_name.specs.declared.name.Name.{Name}
 use Rattle.lq_name.specs.declared.place.Place.{Place}
-use Rattle.lq_tree.specs.Items.{Named}
 use Rattle.lq_tree.specs.Pattern.{Pattern, PatternForm, Patterns, bound_in, bound_in_form, bound_in_all, pattern, any, bind, nothing, tuple_of, build_of, no_patterns, more_patterns}
 use Rattle.lq_tree.specs.PatternView.{pat_view, pat_form_view, pats_view, pats_items, patterns_of, pat_node_step, pat_step, pats_step}
 use Rattle.lq_tree.specs.declared.pattern.Pat.{Pat}

@@ -5,7 +5,7 @@ use Rattle.std.proofs.lemmas.Bool.Decides.{Decides-eqb}
 use Rattle.std.proofs.lemmas.Grind.{get_or-set_at}
 use Rattle.std.proofs.lemmas.List.{get_or-set_other, reverse-append}
 use Rattle.lq_scope.specs.Datatypes.{name_of}
-use Rattle.lq_scope.specs.Known.{Arity, arity_in, has, defined}
+use Rattle.lq_scope.specs.Known.{Arity, arity_in, has}
 use Rattle.lq_scope.specs.Views.{IsScope, KeepFormer, entries_view, entry_view}
 use Rattle.lq_scope.specs.declared.scope.Entry.{Entry}
 

@@ -1,12 +1,11 @@
 -- Names that become visible, are visible no longer, and are looked at, by the bindings of a pattern.
 use Rattle.std.proofs.Common.{◌≡◌, ℕ, zero, suc, List, [], ◌∷◌, ◌++◌, map, drop, reverse, length, Option, refl, sym, ap, ◌∙◌}
-use Rattle.std.proofs.lemmas.List.{append-nil, length-map, length-reverse, drop_at}
+use Rattle.std.proofs.lemmas.List.{length-map, length-reverse, drop_at}
 use Rattle.lq_tree.specs.Items.{Named}
 use Rattle.lq_tree.specs.Pattern.{Pattern, bound_in}
 use Rattle.lq_scope.specs.Complaints.{Complaint, least_with}
 use Rattle.lq_scope.specs.Datatypes.{name_of, parameter_name}
-use Rattle.lq_scope.specs.Known.{Arity, Known, known_with, under}
-use Rattle.lq_scope.specs.Passing.{without}
+use Rattle.lq_scope.specs.Known.{Arity, known_with}
 use Rattle.lq_scope.specs.Patterns.{binders_in, built_in, of_pattern, repeated, shown_name, shown_names}
 use Rattle.lq_scope.specs.Views.{binding_view}
 use Rattle.lq_scope.specs.declared.binders.Binding.{Binding}

@@ -1,7 +1,7 @@
 -- The types of a row in memory, and those that are still to be looked at.
 use Rattle.std.specs.Prelude.{◌==◌, ◌||◌}
-use Rattle.std.proofs.Common.{◌≡◌, ℕ, zero, suc, ◌+◌, ◌-◌, ◌<◌, ◌≤◌, Bool, true, false, List, [], ◌∷◌, ◌++◌, map, drop, reverse, length, slice_get, Option, Some, None, refl, sym, ap, ◌∙◌, arith, rules}
-use Rattle.std.proofs.lemmas.List.{append_assoc, append-nil, map-append, length-map, reverse-append}
+use Rattle.std.proofs.Common.{◌≡◌, ℕ, zero, suc, ◌+◌, ◌-◌, ◌<◌, ◌≤◌, Bool, true, false, List, [], ◌∷◌, ◌++◌, map, drop, length, slice_get, Option, Some, None, refl, sym, ap, ◌∙◌, arith, rules}
+use Rattle.std.proofs.lemmas.List.{append_assoc, append-nil, length-map, reverse-append}
 use Rattle.lq_name.specs.declared.name.Name.{Name}
 use Rattle.lq_name.specs.declared.place.Place.{Place}
 use Rattle.lq_tree.specs.TypeTree.{TypeTree, type_tree, TypeForm, variable, apply, product, arrow, TypeTrees, no_type_trees, more_type_trees}
@@ -12,7 +12,7 @@ use Rattle.lq_tree.specs.declared.type_expr.TypeExprs.{TypeExprs, fold_out-TypeE
 use Rattle.lq_scope.specs.Complaints.{Complaint, least_with}
 use Rattle.lq_scope.specs.Datatypes.{Frame, count_of, of_type, of_types, of_name, of_variable}
 use Rattle.lq_scope.specs.Known.{array_name}
-use Rattle.lq_scope.specs.Spots.{TypeAt, type_at, own_of, parts_in, spot_view, pending, spots_in, of_spot, of_spots, size_of, size_of_all, size_of_spot, total}
+use Rattle.lq_scope.specs.Spots.{TypeAt, type_at, own_of, parts_in, spot_view, pending, spots_in, of_spot, of_spots, size_of, size_of_all, total}
 use Rattle.lq_scope.specs.declared.datatypes.Spot.{Spot}
 use Rattle.lq_scope.proofs.Rows.{least_acts, past}
 

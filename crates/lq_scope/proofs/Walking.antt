@@ -1,5 +1,5 @@
 -- A pass over the visits of a program finds what is wrong with its names.
-use Rattle.std.proofs.Common.{◌≡◌, ℕ, suc, ◌+◌, Bool, true, false, List, [], ◌∷◌, ◌++◌, map, drop, reverse, length, Option, refl, sym, ap, ◌∙◌}
+use Rattle.std.proofs.Common.{◌≡◌, ℕ, suc, Bool, true, false, List, [], ◌∷◌, ◌++◌, reverse, length, Option, refl, sym, ap, ◌∙◌}
 use Rattle.std.proofs.lemmas.List.{append_assoc, append-nil, drop_at, length-reverse}
 use Rattle.lq_name.specs.declared.place.Place.{Place}
 use Rattle.lq_tree.specs.Items.{ItemTree, ItemForm, type_of, let_of, let_rec_of}
@@ -7,15 +7,14 @@ use Rattle.lq_tree.specs.Pattern.{Pattern, bound_in}
 use Rattle.lq_tree.specs.Tree as form
 use Rattle.lq_tree.specs.Tree.{Tree, tree, Form, Trees, no_trees, more_trees, Cases, no_cases, more_cases}
 use Rattle.lq_tree.specs.TreeView.{Recursive}
-use Rattle.lq_walk.specs.Fold.{Arm, fold, fold_all, fold_cases}
-use Rattle.lq_walk.specs.Shape as shape
-use Rattle.lq_walk.specs.Shape.{Two, Row, shape_of}
-use Rattle.lq_walk.specs.Visits.{Visit, enter_item, leave_item, enter, leave, leave_function, declare, show, hide, show_name, hide_name, visits_of, visits_of_form, visits_of_item, visits_of_items, visiting, around, under as under_visits, in_row, in_arms, in_match, in_function, arms_behind, first_declared, is_let, has_let}
+use Rattle.lq_walk.specs.Fold.{fold_all, fold_cases}
+use Rattle.lq_walk.specs.Shape.{shape_of}
+use Rattle.lq_walk.specs.Visits.{Visit, leave_item, leave, leave_function, declare, show, hide, show_name, hide_name, visits_of, visits_of_item, visits_of_items, visiting, around, under as under_visits, in_row, in_arms, in_match, in_function, is_let}
 use Rattle.lq_scope.specs.Complaints.{Complaint, least_with}
 use Rattle.lq_scope.specs.Known.{Known, known_with, named, under}
 use Rattle.lq_scope.specs.Passing.{passed, without, open_behind}
 use Rattle.lq_scope.specs.Patterns.{of_pattern}
-use Rattle.lq_scope.specs.Uses.{Complaining, complaints_of, complaining, of_shape, own, of_all, of_arms, of_match, of_item, of_items, behind, handed_on}
+use Rattle.lq_scope.specs.Uses.{complaints_of, complaining, own, of_all, of_arms, of_match, of_item, of_items, behind}
 use Rattle.lq_scope.proofs.Rows.{least_acts}
 
 -- what was made visible is hidden again

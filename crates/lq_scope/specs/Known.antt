@@ -1,5 +1,5 @@
 -- What is known at a place of a text: the variables that are visible there, and the constructors and types that are defined.
-use Rattle.std.specs.Prelude.{ℕ, Bool, true, false, ◌||◌, ◌==◌, ◌++◌, List, [], ◌∷◌, Option, Some, None, if◌then◌else◌, codes, slice_get, unwrap_or, length, reverse, drop}
+use Rattle.std.specs.Prelude.{ℕ, Bool, false, ◌||◌, ◌==◌, ◌++◌, List, [], ◌∷◌, Option, Some, None, if◌then◌else◌, codes, slice_get, unwrap_or, reverse}
 use Rattle.std.specs.Str.{bytes_eq}
 use Rattle.lq_name.specs.declared.place.Place.{Place}
 use Rattle.lq_name.specs.NameTable.{nil_name, cons_name}

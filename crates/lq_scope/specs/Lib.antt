@@ -2,6 +2,7 @@
 pub mod Complaints
 pub mod Datatypes
 pub mod Known
+pub mod Least
 pub mod Passing
 pub mod Patterns
 pub mod Spots

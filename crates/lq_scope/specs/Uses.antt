@@ -1,16 +1,14 @@
 -- What is wrong with the names of a program: each complaint that there is, in the order of the text.
-use Rattle.std.specs.Prelude.{ℕ, suc, Bool, true, false, ◌==◌, List, [], ◌∷◌, ◌++◌, Option, Some, None, length, if◌then◌else◌, nat_lt}
+use Rattle.std.specs.Prelude.{ℕ, suc, Bool, true, false, List, [], ◌∷◌, ◌++◌, Option, Some, None, length, if◌then◌else◌, nat_lt}
 use Rattle.lq_name.specs.declared.place.Place.{Place}
 use Rattle.lq_tree.specs.declared.expr.Arguments.{Arguments}
 use Rattle.lq_tree.specs.declared.expr.Arguments.TheVariants.{Apart, Listed}
 use Rattle.lq_tree.specs.Items.{ItemTree, ItemForm, type_of, let_of, let_rec_of}
-use Rattle.lq_tree.specs.Pattern.{Pattern}
 use Rattle.lq_tree.specs.Tree.{Tree, tree}
-use Rattle.lq_tree.specs.TreeView.{Recursive}
 use Rattle.lq_walk.specs.Fold.{Arm, Algebra, fold}
 use Rattle.lq_walk.specs.Shape as shape
 use Rattle.lq_walk.specs.Shape.{Leaf, Row, Two, Shape, shape_of, listed}
-use Rattle.lq_walk.specs.Visits.{place_of, is_let}
+use Rattle.lq_walk.specs.Visits.{is_let}
 use Rattle.lq_scope.specs.Complaints.{Complaint, at, unknown, unknown_in}
 use Rattle.lq_scope.specs.Datatypes.{of_datatype, with_datatype}
 use Rattle.lq_scope.specs.Known.{Known, arity_in, counted, has, named, predeclared_known, primitive, primitive_in, text_of, under}

@@ -5,9 +5,11 @@ mod binders;
 mod checker;
 mod complaint;
 mod datatypes;
+mod laws;
 mod patterns;
 mod primitives;
 mod scope;
 
 pub use checker::first_complaint;
 pub use complaint::{Cause, Complaint};
+pub use laws::least_is_least;

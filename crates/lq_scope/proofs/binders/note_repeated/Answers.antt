@@ -1,4 +1,3 @@
-use Rattle.std.proofs.Common.{refl}
 use Rattle.std.proofs.lemmas.List.{take_more}
 use Rattle.lq_scope.proofs.Naming.{repeats}
 use Rattle.lq_scope.proofs.binders.note_repeated.Goals as goal

@@ -1,4 +1,4 @@
-use Rattle.std.proofs.Common.{[], ◌∷◌, ◌+◌, map, drop, sym, ap, ◌∙◌}
+use Rattle.std.proofs.Common.{◌∷◌, ◌+◌, map, drop, sym, ap, ◌∙◌}
 use Rattle.lq_tree.specs.Items.{constructor_view}
 use Rattle.lq_scope.specs.Complaints.{least_with}
 use Rattle.lq_scope.specs.Datatypes.{of_constructors, with_constructors}

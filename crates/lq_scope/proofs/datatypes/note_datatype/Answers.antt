@@ -1,11 +1,10 @@
-use Rattle.std.proofs.Common.{◌≡◌, length, [], ◌∷◌, ◌++◌, map, reverse, refl, sym, ap, ◌∙◌}
+use Rattle.std.proofs.Common.{◌≡◌, length, [], ◌∷◌, ◌++◌, map, reverse, ap, ◌∙◌}
 use Rattle.std.proofs.lemmas.List.{append-nil, length-map}
 use Rattle.lq_tree.specs.Items.{constructor_view, definition_view, parameter_view}
 use Rattle.lq_scope.specs.Complaints.{least_with}
 use Rattle.lq_scope.specs.Datatypes.{name_of, of_constructors, parameter_name}
 use Rattle.lq_scope.specs.Known.{Known, defined}
 use Rattle.lq_scope.specs.Patterns.{repeated, shown_names}
-use Rattle.lq_scope.specs.Spots.{frame_view}
 use Rattle.lq_scope.specs.Views.{binding_view, found_view}
 use Rattle.lq_scope.proofs.Constructing.{framed, shown_known, whole_datatype}
 use Rattle.lq_scope.proofs.datatypes.note_datatype.Goals as goal

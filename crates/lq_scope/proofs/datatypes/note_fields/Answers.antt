@@ -1,4 +1,4 @@
-use Rattle.std.proofs.Common.{[], ◌++◌, sym, ap, ◌∙◌, false, arith}
+use Rattle.std.proofs.Common.{◌++◌, sym, ap, ◌∙◌, false, arith}
 use Rattle.lq_tree.specs.TypeView.{type_view, types_view}
 use Rattle.lq_scope.specs.Complaints.{least_with}
 use Rattle.lq_scope.specs.Spots.{frame_view, pending, spots_in, of_spots, total}

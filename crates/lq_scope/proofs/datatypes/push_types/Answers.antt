@@ -1,7 +1,7 @@
-use Rattle.std.proofs.Common.{map, drop, sym, ap, ◌∙◌, ◌++◌, ◌-◌, arith}
+use Rattle.std.proofs.Common.{sym, ap, ◌∙◌, ◌++◌, arith}
 use Rattle.lq_tree.specs.TypeView.{type_exprs_items}
 use Rattle.lq_scope.specs.Spots.{pending}
-use Rattle.lq_scope.proofs.TypeRows.{typed, pushed_before, pending_more, row_spots, all_pushed, none_left}
+use Rattle.lq_scope.proofs.TypeRows.{pushed_before, pending_more, row_spots, all_pushed, none_left}
 use Rattle.lq_scope.proofs.datatypes.push_types.Goals as goal
 use Rattle.lq_scope.proofs.datatypes.push_types.Goals.{in-Some+in_ok-push, in_default}
 

@@ -1,4 +1,4 @@
-use Rattle.std.proofs.Common.{◌≡◌, ◌-◌, ◌++◌, map, drop, length}
+use Rattle.std.proofs.Common.{◌≡◌, ◌-◌, ◌++◌, map, drop}
 use Rattle.lq_tree.specs.TypeView.{type_exprs_items}
 use Rattle.lq_scope.specs.Spots.{pending}
 use Rattle.lq_scope.proofs.TypeRows.{typed}

@@ -1,4 +1,4 @@
-use Rattle.std.proofs.Common.{map, sym, ap, ◌∙◌, ◌++◌, arith}
+use Rattle.std.proofs.Common.{map, sym, ap, ◌∙◌, arith}
 use Rattle.lq_name.specs.declared.name.Name.{Name}
 use Rattle.lq_tree.specs.PatternView.{patterns_of, pat_form_view, pats_view}
 use Rattle.lq_scope.specs.Complaints.{least_with, unknown}

@@ -1,7 +1,7 @@
-use Rattle.std.proofs.Common.{◌≡◌, [], ◌∷◌, ◌++◌, map, length, refl, sym, ap, ◌∙◌}
+use Rattle.std.proofs.Common.{◌++◌, map, refl, ap, ◌∙◌}
 use Rattle.lq_name.specs.declared.name.Name.{Name}
 use Rattle.lq_tree.specs.PatternView.{pat_view}
-use Rattle.lq_scope.specs.Views.{binding_view, found_view}
+use Rattle.lq_scope.specs.Views.{binding_view}
 use Rattle.lq_scope.proofs.Steps.{shown, known_same}
 use Rattle.lq_scope.proofs.checker.Checker.show.Goals as goal
 

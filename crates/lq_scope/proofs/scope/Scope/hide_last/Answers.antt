@@ -1,6 +1,6 @@
-use Rattle.std.proofs.Common.{arith, subst, sym, ap, ◌∙◌, drop, ◌++◌, [], ◌∷◌}
-use Rattle.lq_scope.specs.Views.{IsScope, entries_view}
-use Rattle.lq_scope.proofs.Scopes.{within, popped, dropped_one}
+use Rattle.std.proofs.Common.{arith, subst}
+use Rattle.lq_scope.specs.Views.{IsScope}
+use Rattle.lq_scope.proofs.Scopes.{within}
 use Rattle.lq_scope.proofs.scope.Scope.hide_last.Goals as goal
 
 pub index_mut-requires : goal.index_mut-requires

@@ -1,5 +1,5 @@
-use Rattle.std.proofs.Common.{subst, sym, ap, ◌∙◌, ◌+◌, ◌-◌, ◌<◌, ◌++◌, length, replicate, [], ◌∷◌, None, Some, slice_set}
-use Rattle.lq_scope.specs.Views.{IsScope, entries_view}
+use Rattle.std.proofs.Common.{subst, sym, ap, ◌∙◌, ◌+◌, ◌-◌, ◌<◌, ◌++◌, length, replicate, None, Some, slice_set}
+use Rattle.lq_scope.specs.Views.{IsScope}
 use Rattle.lq_scope.specs.declared.scope.Entry.{Entry}
 use Rattle.lq_scope.proofs.Scopes.{pushed}
 use Rattle.lq_scope.proofs.scope.Scope.show.Goals as goal
