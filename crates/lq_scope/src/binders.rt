@@ -12,9 +12,9 @@ use std::alloc::AllocError;
 
 /// A name where it is defined.
 #[derive(Clone, Copy, Debug)]
-pub(crate) struct Binding {
-    pub(crate) name: Name,
-    pub(crate) place: Place,
+pub struct Binding {
+    pub name: Name,
+    pub place: Place,
 }
 
 /// What there is to say of a name that may be defined already.

@@ -43,8 +43,8 @@ pub(crate) struct Checker<'a> {
     least: Least,
 }
 
-// The constructors that are defined before a text begins.
-fn first_constructors(alloc: Global) -> Result<Scope, AllocError>
+/// The constructors that are defined before a text begins, each with the number of its fields.
+pub fn first_constructors(alloc: Global) -> Result<Scope, AllocError>
     ensures { IfOk result (λ s. s ≡ predeclared_constructors) }
 {
     let mut scope = Scope::new(alloc);

@@ -142,6 +142,16 @@ fn note_fields(
     Ok(())
 }
 
+/// The constructors of a datatype become known, each with the number of its fields.
+pub fn show_constructors(known: &mut Scope, constructors: &[Constructor]) -> Result<(), AllocError>
+    ensures { OnOk result (known.new ≡ with_constructors known.old (map constructor_view constructors.now)) }
+{
+    for constructor in constructors {
+        known.show(constructor.name, constructor.fields.len())?;
+    }
+    Ok(())
+}
+
 // The constructors of a datatype.
 fn note_constructors(
     alloc: Global,

@@ -10,6 +10,11 @@ mod patterns;
 mod primitives;
 mod scope;
 
-pub use checker::first_complaint;
+pub use binders::Binding;
+pub use checker::{first_complaint, first_constructors};
 pub use complaint::{Cause, Complaint};
+pub use datatypes::show_constructors;
 pub use laws::least_is_least;
+pub use patterns::push_binders;
+pub use primitives::text_of;
+pub use scope::Scope;

@@ -15,7 +15,7 @@ use std::alloc::AllocError;
 
 /// The names that a pattern binds, behind these.
 #[cycle(binders)]
-pub(crate) fn push_binders(found: &mut Vec<Binding>, pattern: &Pat<Name>) -> Result<(), AllocError>
+pub fn push_binders(found: &mut Vec<Binding>, pattern: &Pat<Name>) -> Result<(), AllocError>
     ensures { OnOk result (map binding_view found.new.items ≡ map binding_view found.old.items
         ++ binders_in (pat_view Name (λ n. n.0) pattern.now)) }
 {

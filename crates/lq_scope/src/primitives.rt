@@ -5,7 +5,7 @@ ghost use Rattle.lq_scope.specs.Known.{primitive, array_primitive, map_primitive
 use lq_name::{Name, NameTable};
 
 /// The text of a name; a name that isn't in the table has none.
-pub(crate) fn text_of(names: &NameTable, name: Name) -> &[u8]
+pub fn text_of(names: &NameTable, name: Name) -> &[u8]
     ensures { result.now ≡ text_of names.now name.0 }
 {
     if name.0 < names.len() {

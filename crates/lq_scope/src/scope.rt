@@ -18,7 +18,7 @@ pub(crate) struct Entry {
 
 /// Names with a number each. The last one of a name is found by the name's own number, so in constant time.
 #[derive(Drop)]
-pub(crate) struct Scope {
+pub struct Scope {
     last: Vec<Option<usize>>,
     entries: Vec<Entry>,
 }
@@ -51,7 +51,7 @@ fn reach(last: &mut Vec<Option<usize>>, number: usize) -> Result<(), AllocError>
 
 impl Scope {
     /// No names.
-    pub(crate) fn new(alloc: Global) -> Self
+    pub fn new(alloc: Global) -> Self
         ensures { result ≡ [] }
     {
         Scope {
@@ -61,7 +61,7 @@ impl Scope {
     }
 
     /// The last number of a name.
-    pub(crate) fn find(&self, name: Name) -> Option<usize>
+    pub fn find(&self, name: Name) -> Option<usize>
         ensures { result ≡ arity_in self.now name.0 }
     {
         match self.last.get(name.0 as usize) {
@@ -71,14 +71,14 @@ impl Scope {
     }
 
     /// Whether a name is among these.
-    pub(crate) fn has(&self, name: Name) -> bool
+    pub fn has(&self, name: Name) -> bool
         ensures { result ≡ has (map name_of self.now) name.0 }
     {
         self.find(name).is_some()
     }
 
     /// One name more.
-    pub(crate) fn show(&mut self, name: Name, count: usize) -> Result<(), AllocError>
+    pub fn show(&mut self, name: Name, count: usize) -> Result<(), AllocError>
         ensures { OnOk result (self.new ≡ defined name.0 count ∷ self.old) }
     {
         let former = self.find(name);
@@ -103,7 +103,7 @@ impl Scope {
     }
 
     /// The last names are gone, so many or all.
-    pub(crate) fn hide(&mut self, count: usize)
+    pub fn hide(&mut self, count: usize)
         ensures { self.new ≡ drop count self.old }
     {
         for _ in 0..count {
