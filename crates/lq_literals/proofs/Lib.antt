@@ -1,0 +1,4 @@
+pub mod Fits
+pub mod Leading
+pub mod Waiting
+pub mod Adding

@@ -1,0 +1,33 @@
+-- Which implications can be gathered, the first predicate that can't, and the sizes of constants.
+use Rattle.std.specs.Prelude.{◌≡◌, ◌+◌, ℕ, List, [], ◌∷◌, ◌++◌, All, unsigned_abs}
+use Rattle.lq_pred.specs.Comparison.{Comparison, CanGather, row_constant}
+use Rattle.lq_pred.specs.ClosedImplication.{ClosedImplication}
+use Rattle.lq_pred.specs.Formula.{Formula}
+use Rattle.lq_pred.specs.Literals.{implication_literals}
+use Rattle.lq_literals.specs.Sources.{Source}
+
+-- each literal of the implication can be gathered
+abbrev pub CanBeGathered : ClosedImplication → Type 0
+CanBeGathered i = All CanGather (implication_literals i)
+
+-- each literal of each of these predicates can be gathered
+abbrev pub AllGathered : List Source → Type 0
+AllGathered ss = All (λ s. All CanGather s.literals) ss
+
+-- The first of these predicates with a literal that can't be gathered.
+pub record IsFirstPast (ss : List Source) (p : Formula) : Type 0 where
+  pub earlier : List Source
+  pub literals : List Comparison
+  pub later : List Source
+  pub at : ss ≡ earlier ++ (record { formula = p; literals = literals } ∷ later)
+  pub gathered : AllGathered earlier
+  pub past : All CanGather literals → ⊥
+
+-- the sizes of the constants of the rows, in all
+abbrev pub sizes : List Comparison → ℕ
+sizes [] = 0
+sizes (c ∷ cs) = unsigned_abs (row_constant c) + sizes cs
+
+-- the sizes of the constants of the implication's literals, in all
+abbrev pub sizes_of : ClosedImplication → ℕ
+sizes_of i = sizes (implication_literals i)

@@ -1,0 +1,94 @@
+// A case and its answer.
+use crate::error::CaseError;
+use crate::printing::{push_pred, push_symbol, push_term};
+use crate::reading::implication_of;
+use lq_literals::{applications, copy_implication, first_past, flags, objects};
+use lq_pred::Closed;
+use std::alloc::{AllocError, Global};
+
+// What stands before an item of a list.
+fn push_gap(out: &mut String) -> Result<(), AllocError> {
+    if out.is_empty() {
+        Ok(())
+    } else {
+        out.push_str("; ")
+    }
+}
+
+// A list, or that it is empty.
+fn listed(alloc: Global, out: String) -> Result<String, AllocError> {
+    if out.is_empty() {
+        return String::from_str(alloc, "none");
+    }
+    Ok(out)
+}
+
+fn past_text(alloc: Global, implication: &Closed) -> Result<String, AllocError> {
+    let mut out = String::new(alloc);
+    match first_past(alloc, implication)? {
+        Some(pred) => push_pred(&mut out, &pred)?,
+        None => out.push_str("none")?,
+    }
+    Ok(out)
+}
+
+fn flags_text(alloc: Global, implication: &Closed) -> Result<String, AllocError> {
+    let mut out = String::new(alloc);
+    let found = flags(alloc, implication)?;
+    for symbol in found.iter() {
+        push_gap(&mut out)?;
+        push_symbol(&mut out, *symbol)?;
+    }
+    listed(alloc, out)
+}
+
+fn objects_text(alloc: Global, implication: &Closed) -> Result<String, AllocError> {
+    let mut out = String::new(alloc);
+    let found = objects(alloc, implication)?;
+    for object in found.iter() {
+        push_gap(&mut out)?;
+        push_term(&mut out, object)?;
+    }
+    listed(alloc, out)
+}
+
+fn applications_text(alloc: Global, implication: &Closed) -> Result<String, AllocError> {
+    let mut out = String::new(alloc);
+    let terms = implication.terms(alloc)?;
+    for number in &applications(alloc, &terms)? {
+        if *number < terms.len() {
+            push_gap(&mut out)?;
+            push_term(&mut out, terms.term(*number))?;
+        }
+    }
+    listed(alloc, out)
+}
+
+// The answer of the kind of case that a word names.
+fn by_kind(alloc: Global, kind: &str, implication: &Closed) -> Result<String, CaseError> {
+    match kind {
+        "past" => Ok(past_text(alloc, implication)?),
+        "flags" => Ok(flags_text(alloc, implication)?),
+        "objects" => Ok(objects_text(alloc, implication)?),
+        "applications" => Ok(applications_text(alloc, implication)?),
+        _ => Err(CaseError::NotACase),
+    }
+}
+
+fn found(alloc: Global, line: &str) -> Result<String, CaseError> {
+    let Some((kind, rest)) = line.split_once(' ') else {
+        return Err(CaseError::NotACase);
+    };
+    let implication = implication_of(alloc, rest)?;
+    let copied = copy_implication(alloc, &implication)?;
+    by_kind(alloc, kind, &copied)
+}
+
+/// The answer of a case.
+pub(crate) fn answer(alloc: Global, line: &str) -> Result<String, AllocError> {
+    match found(alloc, line) {
+        Ok(answer) => Ok(answer),
+        Err(CaseError::NotACase) => String::from_str(alloc, "not a case"),
+        Err(CaseError::Memory) => Err(AllocError),
+    }
+}
