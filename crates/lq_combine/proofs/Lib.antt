@@ -1,0 +1,4 @@
+pub mod Meeting
+pub mod Comparing
+pub mod Refuting
+pub mod Opening

@@ -1,0 +1,5 @@
+pub mod Tree
+pub mod TreeView
+pub mod Path
+pub mod Met
+pub mod Proves

@@ -1,0 +1,8 @@
+//! Proof trees: what they prove of an implication, and why that is so.
+#![tactic(auto)]
+
+mod laws;
+mod tree;
+
+pub use laws::{proved_implications_are_valid, proved_paths_have_no_point};
+pub use tree::{CaseProof, Multipliers, ProofTree, Tags, Trees};
