@@ -15,3 +15,5 @@ pub mod ArmGoals
 pub mod Forming
 pub mod RuleGoals
 pub mod Reading
+pub mod Prefixes
+pub mod Widening

@@ -5,3 +5,4 @@ pub mod Rows
 pub mod Solved
 pub mod Within
 pub mod Templates
+pub mod Gathered

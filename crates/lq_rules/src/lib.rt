@@ -1,6 +1,7 @@
 //! The rules of types, node by node, as equations between the types of nodes and binders.
 #![tactic(auto)]
 
+mod gathering;
 mod node;
 mod pattern;
 mod row;
@@ -10,5 +11,6 @@ mod solving;
 mod system;
 mod template;
 
+pub use gathering::{Rules, gather};
 pub use system::System;
 pub use template::{Constructors, Template};

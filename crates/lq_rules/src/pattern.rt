@@ -55,7 +55,8 @@ impl System {
         requires slot { slot < length self.old.arena.nodes.items }
         ensures grows { OnOk result (IsLonger self.old self.new) }
         ensures adds { OnOk result ((g : Signature) → HasSignature constructors.now g → Adds self.old self.new
-            (λ t. PatternFormIs g (annotation_of nodes t) (pat_form_view Binder (λ b. b.0) form.now) (t slot))) }
+            (λ t. PatternFormIs g (annotation_of nodes t) (pat_form_view Binder (λ b. b.0) form.now)
+            (t slot))) }
     {
         match form {
             PatNode::Any => Ok(()),

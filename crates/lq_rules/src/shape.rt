@@ -130,7 +130,8 @@ impl System {
     ) -> Result<(), AllocError>
         requires system { IsSystem self.old }
         requires whole { AreWhole constructors.now }
-        requires arm { CaseIn nodes (length self.old.arena.nodes.items) (case_view Binder (λ b. b.0) arm.now) }
+        requires arm { CaseIn nodes (length self.old.arena.nodes.items)
+            (case_view Binder (λ b. b.0) arm.now) }
         requires matched { matched < length self.old.arena.nodes.items }
         requires at { at < length self.old.arena.nodes.items }
         ensures grows { OnOk result (IsLonger self.old self.new) }
@@ -181,7 +182,8 @@ impl System {
         requires system { IsSystem self.old }
         requires whole { AreWhole constructors.now }
         requires at { at < length self.old.arena.nodes.items }
-        requires within { ShapeIn nodes (length self.old.arena.nodes.items) (shape_view Binder (λ b. b.0) shape) }
+        requires within { ShapeIn nodes (length self.old.arena.nodes.items)
+            (shape_view Binder (λ b. b.0) shape) }
         ensures grows { OnOk result (IsLonger self.old self.new) }
         ensures adds { OnOk result ((g : Signature) → HasSignature constructors.now g → Adds self.old self.new
             (ShapeIs g nodes (shape_view Binder (λ b. b.0) shape.entry) at)) }

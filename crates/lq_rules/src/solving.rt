@@ -12,7 +12,8 @@ impl System {
     /// The most general types of all nodes, or None where no types meet the equations.
     pub fn solved(&self, alloc: Global) -> Result<Option<Solution>, AllocError>
         requires { IsSystem self.now }
-        ensures principal { IfOk result (λ found. IfSome found (λ s. IsPrincipal self.now (types_in self.now s))) }
+        ensures principal { IfOk result (λ found. IfSome found (λ s. IsPrincipal self.now
+            (types_in self.now s))) }
         ensures none { IfOk result (λ found. IfNone found ((types : ℕ → MlType)
             → Solves self.now self.now.equations.items types → ⊥)) }
     {

@@ -97,7 +97,8 @@ impl System {
     fn copied(&mut self, alloc: Global, types: &Arena) -> Result<u32, AllocError>
         requires system { IsSystem self.old }
         requires store { IsStore types.now }
-        ensures { IfOk result (λ base. IsCopied self.old self.new types.now base (length types.now.nodes.items)) }
+        ensures { IfOk result (λ base. IsCopied self.old self.new types.now base
+            (length types.now.nodes.items)) }
     {
         let base = self.arena.nodes.len() as u32;
         for at in 0..types.nodes.len() {
@@ -157,7 +158,8 @@ impl System {
             self.new.arena.nodes.items) roots.items)) }
         ensures count { IfOk result (λ found. IfSome found (λ roots. length roots.items ≡ count)) }
         ensures offers { IfOk result (λ found. IfSome found (λ roots. (g : Signature) → HasSignature
-            constructors.now g → Offers self.old self.new roots.items (λ t ts. Builds g name.0 ts (t slot)))) }
+            constructors.now g → Offers self.old self.new roots.items
+            (λ t ts. Builds g name.0 ts (t slot)))) }
         ensures never { IfOk result (λ found. IfNone found (Adds self.old self.new (λ t. ⊥))) }
         ensures none { IfOk result (λ found. IfNone found ((g : Signature) → HasSignature constructors.now g
             → (ts : MlTypes) (a : MlType) → count_types ts ≡ count → Builds g name.0 ts a → ⊥)) }
