@@ -1,5 +1,5 @@
 -- The rules of a program, one more at a time.
-use Rattle.std.proofs.Common.{◌≡◌, inl, inr, ℕ, zero, suc, ◌+◌, ◌-◌, ◌<◌, ◌≤◌, List, [], ◌∷◌, ◌++◌, All, take, length, get_or, refl, sym, ap, subst, ◌∙◌, arith, length-append, length-take-le}
+use Rattle.std.proofs.Common.{◌≡◌, inl, inr, ℕ, zero, suc, ◌+◌, ◌<◌, ◌≤◌, List, [], ◌∷◌, ◌++◌, All, take, length, get_or, refl, sym, ap, subst, ◌∙◌, arith, length-append}
 use Rattle.std.proofs.lemmas.Bool.{cases_lt}
 use Rattle.std.proofs.lemmas.List.{take-append-le, take_all, get_or_append_left}
 use Rattle.std.proofs.lemmas.List.Elements.{All-append}
@@ -18,7 +18,7 @@ use Rattle.lq_walk.specs.Shape.{shape_of}
 use Rattle.lq_walk.specs.Visits.{Visit, enter_item, leave_item, enter, leave, leave_function, declare, show, hide, show_name, hide_name}
 use Rattle.lq_rules.specs.declared.system.System.{System}
 use Rattle.lq_rules.specs.Solutions.{Meets}
-use Rattle.lq_rules.specs.Adding.{IsSystem, IsFresh, Agree, Depends, Adds, count_of, forms_of}
+use Rattle.lq_rules.specs.Adding.{IsFresh, Agree, Depends, Adds, count_of}
 use Rattle.lq_rules.specs.Rows.{annotation_of, number_of, TreeRule, FunctionRule, ItemRule}
 use Rattle.lq_rules.specs.Solved.{Solves}
 use Rattle.lq_rules.specs.Within.{PatternIn, TreeIn, FunctionIn, ItemIn}

@@ -1,9 +1,8 @@
 -- What is in range stays so, and the rules of the visits of a walk, one more at a time.
-use Rattle.std.proofs.Common.{◌≡◌, ℕ, zero, suc, ◌+◌, ◌<◌, ◌≤◌, List, [], ◌∷◌, ◌++◌, All, length, refl, sym, ap, subst, ◌∙◌, arith, append_assoc, append-nil}
+use Rattle.std.proofs.Common.{◌≡◌, ℕ, ◌≤◌, List, [], ◌∷◌, ◌++◌, All, length, sym, ap, subst, ◌∙◌, arith, append_assoc, append-nil}
 use Rattle.lq_tree.specs.Items.{ItemForm, type_of, let_of, let_rec_of}
 use Rattle.lq_tree.specs.Pattern.{Pattern}
 use Rattle.lq_tree.specs.Tree.{Tree, tree}
-use Rattle.lq_tree.specs.TreeView.{Case}
 use Rattle.lq_tree.specs.Types.{Signature}
 use Rattle.lq_walk.specs.Shape as shape
 use Rattle.lq_walk.specs.Shape.{Leaf, Shape, shape_of}
@@ -11,7 +10,7 @@ use Rattle.lq_walk.specs.Visits.{Visit, enter_item, leave_item, enter, leave, le
 use Rattle.lq_rules.specs.declared.system.System.{System}
 use Rattle.lq_rules.specs.declared.template.Constructors.{Constructors}
 use Rattle.lq_rules.specs.Adding.{IsSystem, IsFresh, IsLonger, Adds, count_of}
-use Rattle.lq_rules.specs.Within.{PatternIn, LeafIn, CaseIn, ShapeIn, TreeIn, FunctionIn, ItemIn}
+use Rattle.lq_rules.specs.Within.{PatternIn, LeafIn, ShapeIn, TreeIn, ItemIn}
 use Rattle.lq_rules.specs.Templates.{HasSignature}
 use Rattle.lq_rules.specs.Gathered.{VisitRule, VisitIn, IsGathered}
 use Rattle.lq_rules.proofs.Growing.{all_right}

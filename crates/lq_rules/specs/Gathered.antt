@@ -1,5 +1,5 @@
 -- The rules of a program, one after another, as a walk leaves its nodes, functions and items.
-use Rattle.std.specs.Prelude.{◌≡◌, ℕ, zero, suc, ◌<◌, ◌≤◌, List, take, All, length, slice_index_or}
+use Rattle.std.specs.Prelude.{◌≡◌, ℕ, zero, suc, ◌≤◌, List, take, All, length, slice_index_or}
 use Rattle.lq_tree.specs.MlType.{MlType}
 use Rattle.lq_tree.specs.Types.{Signature}
 use Rattle.lq_walk.specs.Visits.{Visit, enter_item, leave_item, enter, leave, leave_function, declare, show, hide, show_name, hide_name}
