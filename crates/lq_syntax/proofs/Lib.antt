@@ -21,3 +21,4 @@ pub mod CanPredicates
 pub mod CanItems
 pub mod CanEntries
 pub mod Complete
+pub mod Samples

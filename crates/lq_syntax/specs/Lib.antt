@@ -6,3 +6,4 @@ pub mod Expressions
 pub mod Items
 pub mod Predicates
 pub mod Texts
+pub mod Examples

@@ -31,3 +31,13 @@ QualifiersAreSame = (ts : List Token) (v : Value) → Makes Quals (map kind_of t
 
 abbrev pub MeasuresAreSame : Type 0
 MeasuresAreSame = (ts : List Token) (v : Value) → Makes Measures (map kind_of ts) (map lexeme_of ts) v ↔ ((ms : List MeasureTree) × (v ≡ measures ms) × IsMeasures ts ms)
+
+-- The lines give tokens one text of a kind at most.
+abbrev pub ProgramsAreOne : Type 0
+ProgramsAreOne = (ts : List Token) (is js : List ItemTree) → IsProgram ts is → IsProgram ts js → is ≡ js
+
+abbrev pub QualifiersAreOne : Type 0
+QualifiersAreOne = (ts : List Token) (qs rs : List QualifierTree) → IsQualifiers ts qs → IsQualifiers ts rs → qs ≡ rs
+
+abbrev pub MeasuresAreOne : Type 0
+MeasuresAreOne = (ts : List Token) (ms ns : List MeasureTree) → IsMeasures ts ms → IsMeasures ts ns → ms ≡ ns

@@ -3,4 +3,4 @@
 
 mod laws;
 
-pub use laws::same_trees;
+pub use laws::{examples, one_tree, same_trees};
