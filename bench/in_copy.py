@@ -19,14 +19,23 @@ def with_deep_stack():
 
 
 @contextlib.contextmanager
-def built(crates, source, proofs=None):
-    """Builds the program with this main.rt, over these crates, and gives its path and what it printed. `proofs` has the texts of
-    the files of its proof by their names."""
+def of_revision(revision):
+    """Gives a folder with the repository as it was at a revision."""
+    with tempfile.TemporaryDirectory() as folder:
+        packed = subprocess.run(["git", "archive", revision], cwd=TOP, check=True, capture_output=True).stdout
+        subprocess.run(["tar", "-x", "-C", folder], input=packed, check=True)
+        yield folder
+
+
+@contextlib.contextmanager
+def built(crates, source, proofs=None, top=TOP):
+    """Builds the program with this main.rt, over these crates of the repository in `top`, and gives its path and what it printed.
+    `proofs` has the texts of the files of its proof by their names."""
     with tempfile.TemporaryDirectory() as folder:
         copy = os.path.join(folder, "copy")
         os.mkdir(copy)
         for name in ("crates", "crates.txt", "HANDLES"):
-            there = os.path.join(TOP, name)
+            there = os.path.join(top, name)
             if os.path.isdir(there):
                 shutil.copytree(there, os.path.join(copy, name), symlinks=True)
             else:

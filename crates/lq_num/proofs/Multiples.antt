@@ -54,7 +54,7 @@ pub fits_read : (a : ℤ) (m : ℕ) → FitsSigned w128 a → FitsSigned w128 (a
 fits_read a m f = subst (λ x. FitsSigned w128 (x *ℤ pos m)) (sym (to_z-of_z w128 a f))
 
 -- ---- what `op` makes of the two numerators
-both_read : (op : ℤ → ℤ → ℤ) (a c : ℤ) (b d : ℕ) (n k : ℤ) (m : ℕ) → IsOver a c b d n k m → op (read n) (read k) ≡ op (a *ℤ pos (m / b)) (c *ℤ pos (m / d))
+pub both_read : (op : ℤ → ℤ → ℤ) (a c : ℤ) (b d : ℕ) (n k : ℤ) (m : ℕ) → IsOver a c b d n k m → op (read n) (read k) ≡ op (a *ℤ pos (m / b)) (c *ℤ pos (m / d))
 both_read op a c b d n k m o =
     ap₂ op (ap read o.first ∙ to_z-of_z w128 (a *ℤ pos (m / b)) o.first_fits) (ap read o.second ∙ to_z-of_z w128 (c *ℤ pos (m / d)) o.second_fits)
 

@@ -96,7 +96,7 @@ reduced_read n d g o e f k p gcd is is_e =
     subst (λ x. IsReduced n d (read o) x) (sym is_e) (subst (λ x. IsReduced n d x (d / g)) (sym same) r)
 
 -- ---- negation
-size_of_negation : (n : ℤ) → unsigned_abs (neg_ℤ n) ≡ unsigned_abs n
+pub size_of_negation : (n : ℤ) → unsigned_abs (neg_ℤ n) ≡ unsigned_abs n
 size_of_negation (pos zero) = refl
 size_of_negation (pos (suc n)) = refl
 size_of_negation (negsuc n) = refl

@@ -1,10 +1,11 @@
 // Exact fractions in lowest terms, and their operations.
-ghost use Rattle.std.specs.Prelude.{◌≡◌, ℤ, ◌<◌, ◌^◌, ◌*◌, unsigned_abs, IfOk, IfErr, pos, IsTrue, ◌↔◌, IfNone, IfSome};
+ghost use Rattle.std.specs.Prelude.{◌≡◌, ℕ, ℤ, ◌<◌, ◌^◌, ◌*◌, unsigned_abs, IfOk, IfErr, pos, IsTrue, ◌↔◌, IfNone, IfSome};
+ghost use Rattle.std.specs.Int.{IsGcd, ◌∣◌};
 ghost use Rattle.lq_math.specs.Coprime.{Coprime};
 ghost use Rattle.lq_num.specs.Sign.{signed, signs_differ};
 
 use crate::divisor::{common, gcd, over, quotient, with_sign};
-use crate::multiple::{scaled, small_product};
+use crate::multiple::{scaled, size_product, small_product};
 use crate::order::compare;
 use crate::past::{NumOp, NumberPast};
 use std::cmp::Ordering;
@@ -25,6 +26,8 @@ struct OverMultiple {
     first: i128,
     second: i128,
     denom: u128,
+    /// The greatest common divisor of the two denominators.
+    shared: u128,
 }
 
 impl Frac {
@@ -95,7 +98,7 @@ impl Frac {
         let Some(numer) = parts.first.checked_add(parts.second) else {
             return Err(past);
         };
-        Ok(Frac::lowest(numer, parts.denom))
+        Ok(Frac::reduced(numer, parts.denom, parts.shared))
     }
 
     /// The difference, refused as a sum is.
@@ -122,7 +125,7 @@ impl Frac {
         let Some(numer) = parts.first.checked_sub(parts.second) else {
             return Err(past);
         };
-        Ok(Frac::lowest(numer, parts.denom))
+        Ok(Frac::reduced(numer, parts.denom, parts.shared))
     }
 
     /// The product, refused exactly where its lowest terms are past 128 bits.
@@ -210,6 +213,7 @@ impl Frac {
     fn over_multiple(&self, other: &Frac) -> Option<OverMultiple>
         ensures some { IfSome result (λ s. IsOver (numer_of self.now) (numer_of other.now)
             (denom_of self.now) (denom_of other.now) s.first s.second s.denom) }
+        ensures shared { IfSome result (λ s. IsGcd (denom_of self.now) (denom_of other.now) s.shared) }
         ensures none { IfNone result ((op : ℤ → ℤ → ℤ)
             → HasNoFormBy op (numer_of self.now) (numer_of other.now) (denom_of self.now)
             (denom_of other.now)) }
@@ -224,6 +228,7 @@ impl Frac {
             first,
             second,
             denom,
+            shared,
         })
     }
 
@@ -234,16 +239,21 @@ impl Frac {
         (self.numer < 0) != (other.numer < 0)
     }
 
-    /// A fraction in lowest terms.
-    fn lowest(numer: i128, denom: u128) -> Frac
+    /// A fraction in lowest terms, where all that its parts have in common divides `shared`.
+    fn reduced(numer: i128, denom: u128, shared: u128) -> Frac
         requires some { 0 < denom }
         requires small { denom < 2 ^ 127 }
+        requires part { shared ∣ denom }
+        requires within { (k : ℕ) → k ∣ unsigned_abs numer → k ∣ denom → k ∣ shared }
         ensures { value_of result ≡ ratio numer denom }
     {
-        let shared = common(numer, denom);
+        if shared == 1 {
+            return Frac { numer, denom };
+        }
+        let divisor = common(numer, shared);
         Frac {
-            numer: over(numer, shared),
-            denom: quotient(denom, shared),
+            numer: over(numer, divisor),
+            denom: quotient(denom, divisor),
         }
     }
 
@@ -262,7 +272,7 @@ impl Frac {
         let second_numer = quotient(c, right);
         let first_denom = quotient(b, right);
         let second_denom = quotient(d, left);
-        let size = first_numer.checked_mul(second_numer)?;
+        let size = size_product(first_numer, second_numer)?;
         let numer = with_sign(negative, size)?;
         let denom = small_product(first_denom, second_denom)?;
         Some(Frac { numer, denom })
