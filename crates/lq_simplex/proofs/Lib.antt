@@ -1,3 +1,4 @@
+pub mod Keeping
 pub mod Combinations
 pub mod Merging
 pub mod Multiples

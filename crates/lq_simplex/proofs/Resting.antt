@@ -17,7 +17,7 @@ use Rattle.lq_simplex.specs.Systems.{System, form_at, line_at, Meets, IsFree, Ar
 use Rattle.lq_simplex.specs.Standing.{AllRead}
 use Rattle.lq_simplex.specs.Bounds.{Tightest, limit_at, bound_value, IsLimit, Breaks}
 use Rattle.lq_simplex.specs.Conflicts.{AllGiven}
-use Rattle.lq_simplex.specs.Configurations.{IsConfiguration, IsGiven, Rests, AllAmong, StandsIn, AllStay, Brings, IsAtLimit, Settles}
+use Rattle.lq_simplex.specs.Configurations.{IsConfiguration, IsGiven, Rests, AllAmong, AllStay, Brings, IsAtLimit, Settles}
 use Rattle.lq_simplex.proofs.Combinations.{eq_or, combine-same, unit_here, unit_elsewhere, own_combination}
 use Rattle.lq_simplex.proofs.Systems.{IsPivot, entry_free, pivot_free_before}
 use Rattle.lq_simplex.proofs.Forms.{form_is_line}
@@ -63,7 +63,7 @@ settle_step limits a b c k x broken before e breaks brings =
     settle_more limits a b c before (λ j f.
     elim (brings j f) [
       | inl at ↦ inl (record { side = broken.side; limit = broken.limit; is = ap (limit_at limits broken.side) (at.0 ∙ sym e) ∙ breaks.limit; at = at.1 })
-      | inr stay ↦ inr stay
+      | inr stay ↦ inr stay.1
     ])
 
 -- a free variable that isn't the one that moves
@@ -137,9 +137,6 @@ rests_settled rows standing limits old new read given same settles among r j f =
     ]
 
 -- ---- a shift
-pub stands_free : (s : System) (v : ℕ) → IsSystem s → StandsIn (line_at s.lines v) v → IsFree s.lines v
-stands_free s v i h = subst (IsFree s.lines) h.3 (entry_free s.forms s.lines v h.0 h.1 i.are_lines h.2)
-
 pub shift_brings : (s : System) (values : List Frac) (v : ℕ) (bound by : ℚ) → IsFree s.lines v → by ≡ bound -ℚ valuation_of s.values v → IsShifted s.lines s.values v by values
     → Brings s (record { terms = s.terms; forms = s.forms; lines = s.lines; values = values }) v bound
 shift_brings s values v bound by f e h j free =
@@ -149,7 +146,7 @@ shift_brings s values v bound by f e h j free =
         ap (valuation_of values) q ∙ h.1 v f.inside ∙ ap₂ (λ t u. valuation_of s.values v +ℚ t *ℚ u) (f.own v ∙ unit_here v) e
             ∙ solve (valuation_of s.values v ∷ bound ∷ []) (var 0 ⊕ con (pos 1) ⊗ (var 1 ⊖ var 0)) (var 1) refl,
       )
-      | inr n ↦ inr (free, unmoved s.lines s.values values v by j h free (λ q. n (sym q)))
+      | inr n ↦ inr (n, (free, unmoved s.lines s.values values v by j h free (λ q. n (sym q))))
     ]
 
 -- ---- a pivot
@@ -168,5 +165,5 @@ pivot_brings s new values b k f nil bound by a p e h j free =
             ∙ ap (λ t. valuation_of s.values b +ℚ t) e ∙ solve (valuation_of s.values b ∷ bound ∷ []) (var 0 ⊕ (var 1 ⊖ var 0)) (var 1) refl,
       )
       | inr n ↦ let before = pivot_free_before s.forms s.lines new b k f nil j a p free n in
-          inr (before.0, unmoved s.lines s.values values k by j h before.0 (λ q. before.1 (sym q)))
+          inr (n, (before.0, unmoved s.lines s.values values k by j h before.0 (λ q. before.1 (sym q))))
     ]

@@ -1,5 +1,5 @@
 -- The tightest bounds of variables.
-use Rattle.std.specs.Prelude.{◌≡◌, if◌then◌else◌, ℕ, pos, ◌⊎◌, Bool, true, false, List, [], ◌∷◌, Option, Some, None, slice_get, slice_index_or, IfSome}
+use Rattle.std.specs.Prelude.{◌≡◌, if◌then◌else◌, ℕ, pos, ◌<◌, ◌⊎◌, Bool, true, false, List, [], ◌∷◌, Option, Some, None, slice_get, slice_index_or, IfSome}
 use Rattle.lq_math.specs.Rational.{ℚ, whole}
 use Rattle.lq_math.specs.RationalOrder.{◌≤ℚ◌, ◌<ℚ◌}
 use Rattle.lq_math.specs.OrderLaws.{is_at_most}
@@ -77,6 +77,13 @@ pub record AreTightest (rows : List Standing) (side : Side) (limits : List (Opti
 abbrev pub Keeps : Side → ℚ → Option Limit → Type 0
 Keeps side value None = Unit {0}
 Keeps side value (Some l) = Within side value (bound_value l)
+
+-- the lower bound of the variable isn't above its upper one
+abbrev pub IsUncrossed : Tightest → ℕ → Type 0
+IsUncrossed limits k = (lower upper : Limit) → limit_at limits Lower k ≡ Some lower → limit_at limits Upper k ≡ Some upper → bound_value lower ≤ℚ bound_value upper
+
+abbrev pub AreUncrossed : Tightest → ℕ → Type 0
+AreUncrossed limits n = (k : ℕ) → k < n → IsUncrossed limits k
 
 -- the variable breaks its limit
 pub record Breaks (limits : Tightest) (value : ℚ) (b : Broken) : Type 0 where

@@ -1,5 +1,5 @@
 -- Which variables are free, and what each of these rests on.
-use Rattle.std.specs.Prelude.{◌≡◌, ℕ, pos, ◌<◌, ◌⊎◌, List, Some, All, Contains, length, slice_get}
+use Rattle.std.specs.Prelude.{◌≡◌, ◌≢◌, ℕ, pos, ◌<◌, ◌⊎◌, List, Some, All, Contains, length, slice_get}
 use Rattle.lq_math.specs.Rational.{ℚ, whole}
 use Rattle.lq_num.specs.Value.{value_of}
 use Rattle.lq_linear.specs.Row.{Row, Valuation}
@@ -13,7 +13,7 @@ use Rattle.lq_simplex.specs.Lines.{combine}
 use Rattle.lq_linear.specs.Forms.{Parts, IsNormal, AreMultiples}
 use Rattle.lq_simplex.specs.Systems.{System, form_at, line_at, form_values, IsFree}
 use Rattle.lq_simplex.specs.Standing.{ReadsAs}
-use Rattle.lq_simplex.specs.Bounds.{Tightest, limit_at, bound_value}
+use Rattle.lq_simplex.specs.Bounds.{Tightest, limit_at, bound_value, Keeps}
 
 -- a point at which the free variables have the values that were chosen
 pub record IsChosen (s : System) (choice : Valuation) : Type 0 where
@@ -52,10 +52,6 @@ Rests rows s = (j : ℕ) → IsFree s.lines j → (valuation_of s.values j ≡ w
 abbrev pub AllAmong : List Row → List Standing → Type 0
 AllAmong rows standing = All (λ s. Contains rows s.row) standing
 
--- the variable stands in its own line, which says that it is free
-abbrev pub StandsIn : List Entry → ℕ → Type 0
-StandsIn line variable = (at : ℕ) × (e : Entry) × (slice_get line at ≡ Some e) × (e.variable ≡ variable)
-
 -- the variable was free before, with the value that it has now
 abbrev pub Stays : System → System → ℕ → Type 0
 Stays old new j = IsFree old.lines j × (valuation_of new.values j ≡ valuation_of old.values j)
@@ -64,9 +60,9 @@ Stays old new j = IsFree old.lines j × (valuation_of new.values j ≡ valuation
 abbrev pub AllStay : System → System → Type 0
 AllStay old new = (j : ℕ) → IsFree new.lines j → Stays old new j
 
--- what is free now is the variable, with this value, or was free before, with the same value
+-- what is free now is the variable, with this value, or another that was free before, with the same value
 abbrev pub Brings : System → System → ℕ → ℚ → Type 0
-Brings old new variable x = (j : ℕ) → IsFree new.lines j → ((j ≡ variable) × (valuation_of new.values j ≡ x)) ⊎ Stays old new j
+Brings old new variable x = (j : ℕ) → IsFree new.lines j → ((j ≡ variable) × (valuation_of new.values j ≡ x)) ⊎ ((j ≢ variable) × Stays old new j)
 
 -- the value is a bound of the variable
 pub record IsAtLimit (limits : Tightest) (variable : ℕ) (x : ℚ) : Type 0 where
@@ -74,6 +70,10 @@ pub record IsAtLimit (limits : Tightest) (variable : ℕ) (x : ℚ) : Type 0 whe
   pub limit : Limit
   pub is : limit_at limits side variable ≡ Some limit
   pub at : x ≡ bound_value limit
+
+-- no free variable breaks a bound
+abbrev pub FreeKeep : Tightest → System → Type 0
+FreeKeep limits s = (j : ℕ) → j < length s.forms → IsFree s.lines j → (side : Side) → Keeps side (valuation_of s.values j) (limit_at limits side j)
 
 -- what is free now is at a bound, or was free before, with the same value
 abbrev pub Settles : Tightest → System → System → Type 0

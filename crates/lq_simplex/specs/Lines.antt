@@ -1,5 +1,5 @@
 -- Linear combinations of variables.
-use Rattle.std.specs.Prelude.{◌≡◌, ◌==◌, if◌then◌else◌, ℕ, zero, suc, pos, ◌≤◌, ◌<◌, List, [], ◌∷◌, ◌++◌, Option, Some, None, length, ◌≢◌, ◌+◌, slice_get}
+use Rattle.std.specs.Prelude.{◌≡◌, ◌==◌, if◌then◌else◌, ℕ, zero, suc, pos, ◌≤◌, ◌<◌, Bool, false, List, [], ◌∷◌, ◌++◌, Option, Some, None, length, ◌≢◌, ◌+◌, slice_get}
 use Rattle.lq_math.specs.Rational.{ℚ, whole, ◌+ℚ◌, ◌*ℚ◌}
 use Rattle.lq_num.specs.declared.frac.Frac.{Frac}
 use Rattle.lq_num.specs.Past.{IsPast}
@@ -44,6 +44,12 @@ pub record IsOwnLine (variable : ℕ) (line : List Entry) : Type 0 where
   pub factor : Frac
   pub is : line ≡ (record { variable = variable; factor = factor }) ∷ []
   pub one : value_of factor ≡ whole (pos 1)
+
+-- one variable alone stands in the line, and it is this one
+abbrev pub owns : List Entry → ℕ → Bool
+owns [] variable = false
+owns (e ∷ []) variable = e.variable == variable
+owns (e ∷ f ∷ es) variable = false
 
 abbrev pub VariablesBelow : ℕ → List Entry → Type 0
 VariablesBelow n [] = Unit {0}

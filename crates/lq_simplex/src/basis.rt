@@ -5,11 +5,11 @@ ghost use Rattle.lq_linear.specs.Row.{Valuation, sum_at};
 ghost use Rattle.lq_linear.specs.Steps.{valuation_of};
 ghost use Rattle.lq_num.specs.Past.{IsPast};
 ghost use Rattle.lq_num.specs.Value.{value_of};
-ghost use Rattle.lq_simplex.specs.Lines.{combine, factor_of, IsLine, IsOwnLine, IsTableauError};
+ghost use Rattle.lq_simplex.specs.Lines.{combine, factor_of, owns, IsLine, IsOwnLine, IsTableauError};
 ghost use Rattle.lq_linear.specs.Forms.{IsNormal};
 ghost use Rattle.lq_linear.specs.Difference.{TermsBelow};
-ghost use Rattle.lq_simplex.specs.Systems.{form_at, line_at, change_at, after, IsChange, IsAdded, IsShifted, IsSystem, GoesOn};
-ghost use Rattle.lq_simplex.specs.Configurations.{StandsIn, AllStay, Brings};
+ghost use Rattle.lq_simplex.specs.Systems.{form_at, line_at, change_at, after, IsChange, IsAdded, IsShifted, IsFree, IsSystem, GoesOn};
+ghost use Rattle.lq_simplex.specs.Configurations.{AllStay, Brings};
 
 use crate::error::TableauError;
 use crate::line::{Entry, Line, factor, sum};
@@ -219,6 +219,16 @@ fn find(forms: &[Form], parts: &[(u64, i128)]) -> Option<usize>
     None
 }
 
+/// Whether a combination is one variable alone.
+fn owns(entries: &[Entry], variable: usize) -> bool
+    ensures { result ≡ owns entries.now variable }
+{
+    match entries {
+        [entry] => entry.variable == variable,
+        _ => false,
+    }
+}
+
 /// The form of a term.
 fn single(alloc: Global, term: u64) -> Result<Form, AllocError>
     ensures { IfOk result (λ form. form ≡ (term, pos 1) ∷ []) }
@@ -327,12 +337,10 @@ impl Basis {
     /// Whether a variable is free: its combination is itself.
     pub(crate) fn is_free(&self, variable: usize) -> bool
         requires { variable < length self.now.forms }
-        ensures { result ≡ true → StandsIn (line_at self.now.lines variable) variable }
+        ensures yes { result ≡ true → IsFree self.now.lines variable }
+        ensures no { IsFree self.now.lines variable → result ≡ true }
     {
-        match self.lines[variable].entries() {
-            [entry] => entry.variable == variable,
-            _ => false,
-        }
+        owns(self.lines[variable].entries(), variable)
     }
 
     /// The number of a form, which is added where it isn't there yet.
@@ -386,7 +394,7 @@ impl Basis {
         variable: usize,
         bound: &Frac,
     ) -> Result<(), TableauError>
-        requires { StandsIn (line_at self.old.lines variable) variable }
+        requires { IsFree self.old.lines variable }
         ensures brought { OnOk result (Brings self.old self.new variable (value_of bound.now)) }
         ensures kept { OnErr result (self.new ≡ self.old) }
         ensures terms { self.new.terms ≡ self.old.terms }
@@ -399,7 +407,7 @@ impl Basis {
     }
 
     /// Brings a variable to a bound: it becomes free, and the entering one, which moves for that, a combination.
-    fn pivot(
+    pub(crate) fn pivot(
         &mut self,
         alloc: Global,
         leaving: usize,
@@ -428,28 +436,5 @@ impl Basis {
         install(&mut self.lines, changed);
         self.values = values;
         Ok(())
-    }
-
-    /// Brings a variable to a bound, by an entry of its line. A free variable moves by itself; any other leaves the basis.
-    pub(crate) fn bring(
-        &mut self,
-        alloc: Global,
-        variable: usize,
-        entry: Entry,
-        bound: &Frac,
-    ) -> Result<(), TableauError>
-        requires inside { variable < length self.old.forms }
-        requires entry { (at : ℕ) × (slice_get (line_at self.old.lines variable) at ≡ Some entry) }
-        ensures brought { OnOk result (Brings self.old self.new variable (value_of bound.now)) }
-        ensures kept { OnErr result (self.new ≡ self.old) }
-        ensures terms { self.new.terms ≡ self.old.terms }
-        ensures forms { self.new.forms ≡ self.old.forms }
-        ensures stop { IfErr result IsTableauError }
-    {
-        if entry.variable == variable {
-            self.shift(alloc, variable, bound)
-        } else {
-            self.pivot(alloc, variable, entry, bound)
-        }
     }
 }

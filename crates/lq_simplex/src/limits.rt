@@ -6,7 +6,7 @@ ghost use Rattle.lq_num.specs.Value.{value_of};
 ghost use Rattle.lq_linear.specs.Steps.{valuation_of};
 ghost use Rattle.lq_simplex.specs.Standing.{BoundsBelow};
 ghost use Rattle.lq_simplex.specs.Lines.{VariablesBelow};
-ghost use Rattle.lq_simplex.specs.Bounds.{other, Within, Beyond, IsOn, limit_in, limit_at, bound_value, AreTightest, IsAdmitted, Keeps, Breaks, blocking_of, IsBlocked, AllBlocked};
+ghost use Rattle.lq_simplex.specs.Bounds.{other, Within, Beyond, IsOn, limit_in, limit_at, bound_value, AreUncrossed, AreTightest, IsAdmitted, Keeps, Breaks, blocking_of, IsBlocked, AllBlocked};
 ghost use Rattle.lq_simplex.specs.declared.limits.Side.{Side};
 ghost use Rattle.lq_simplex.specs.declared.limits.Side.TheVariants.{Lower, Upper};
 ghost use Rattle.lq_simplex.specs.declared.limits.Limit.{Limit};
@@ -217,8 +217,9 @@ impl Limits {
 
     /// The variable of least number whose lower bound is above its upper one, with its lower bound.
     pub(crate) fn crossed(&self, variables: usize) -> Option<Broken>
-        ensures { IfSome result (λ b. (upper : Limit) × (b.side ≡ Lower)
+        ensures some { IfSome result (λ b. (upper : Limit) × (b.side ≡ Lower)
             × (limit_at self.now Upper b.variable ≡ Some upper) × Breaks self.now (bound_value upper) b) }
+        ensures none { IfNone result (AreUncrossed self.now variables) }
     {
         for variable in 0..variables {
             if let Some(upper) = self.at(Side::Upper, variable) {

@@ -1,5 +1,5 @@
 // The tableau: an engine of all rows.
-ghost use Rattle.std.specs.Prelude.{◌≡◌, List, [], ◌∷◌, ◌++◌, pos, MatchBool, true, false, IfOk, IfErr, IfSome, IfNone, IsNone, OnOk, OnErr};
+ghost use Rattle.std.specs.Prelude.{◌≡◌, List, [], ◌∷◌, ◌++◌, length, pos, MatchBool, true, false, IfOk, IfErr, IfSome, IfNone, IsNone, OnOk, OnErr};
 ghost use Rattle.lq_math.specs.Rational.{whole, ◌*ℚ◌};
 ghost use Rattle.lq_math.specs.RationalOrder.{◌≤ℚ◌, ◌<ℚ◌, NotNegative};
 ghost use Rattle.lq_num.specs.Value.{value_of};
@@ -11,7 +11,8 @@ ghost use Rattle.lq_linear.specs.Forms.{Parts};
 ghost use Rattle.lq_linear.specs.Difference.{TermsBelow};
 ghost use Rattle.lq_simplex.specs.Standing.{standing_of, multipliers_of, AllRead, TagsApart, AllBare};
 ghost use Rattle.lq_simplex.specs.Conflicts.{AllGiven, AllKeep};
-ghost use Rattle.lq_simplex.specs.Configurations.{AllAmong, Rests, Settles};
+ghost use Rattle.lq_simplex.specs.Configurations.{AllAmong, Rests, FreeKeep, Settles};
+ghost use Rattle.lq_simplex.specs.Bounds.{AreUncrossed};
 ghost use Rattle.lq_simplex.specs.Table.{StopsAt};
 
 use crate::basis::Basis;
@@ -92,6 +93,8 @@ fn refuted(alloc: Global, rows: &[Standing]) -> Result<Option<Vec<(u64, Frac)>>,
 
 /// Brings the free variables to the bounds that they break.
 fn settle(alloc: Global, basis: &mut Basis, limits: &Limits) -> Result<(), TableauError>
+    requires { AreUncrossed limits.now (length basis.old.forms) }
+    ensures keeps { OnOk result (FreeKeep limits.now basis.new) }
     ensures settles { Settles limits.now basis.old basis.new }
     ensures terms { basis.new.terms ≡ basis.old.terms }
     ensures forms { basis.new.forms ≡ basis.old.forms }
@@ -120,6 +123,8 @@ fn pivots(
     requires read { AllRead basis.old.forms rows.now }
     requires apart { TagsApart rows.now }
     requires given { AllGiven rows.now limits.now }
+    requires uncrossed { AreUncrossed limits.now (length basis.old.forms) }
+    requires keeps { FreeKeep limits.now basis.old }
     ensures solved { IfOk result (λ found. IfNone found (AllKeep limits.now basis.new)) }
     ensures settles { Settles limits.now basis.old basis.new }
     ensures contradicted { IfOk result (λ found. IfSome found (λ ms. IsContradiction (standing_of rows.now)
@@ -141,7 +146,7 @@ fn pivots(
             return Err(TableauError::Spent);
         }
         left -= 1;
-        basis.bring(alloc, broken.variable, entry, &broken.limit.bound.value)?;
+        basis.pivot(alloc, broken.variable, entry, &broken.limit.bound.value)?;
     }
 }
 

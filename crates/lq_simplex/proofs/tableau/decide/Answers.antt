@@ -1,4 +1,4 @@
-use Rattle.std.proofs.Common.{◌≡◌, ◌∙◌, sym, subst, List}
+use Rattle.std.proofs.Common.{◌≡◌, ◌<◌, length, arith, ◌∙◌, sym, subst, List}
 use Rattle.std.proofs.lemmas.Result.{IfOk-weaker}
 use Rattle.lq_linear.specs.Forms.{Parts}
 use Rattle.lq_simplex.specs.Systems.{System}
@@ -13,7 +13,7 @@ new-requires c = rw c.len.ensures (bounds_below c.args.basis.now.forms c.args.ro
 pub explain-requires : goal.explain-requires
 explain-requires c =
     let tight : BothTight c.args.rows.now c.in_ok-limits.limits = record { lower = c.in_ok-limits.ensures.lower; upper = c.in_ok-limits.ensures.upper } in
-    let e = c.in-Some-crossed.ensures in
+    let e = c.in-Some-crossed.ensures.some in
     crossed_kept c.args.basis.now.forms c.args.rows.now c.in_ok-limits.limits c.in-Some-crossed.broken c.whole.result e.0 c.requires.read c.requires.apart (both_given c.args.rows.now c.in_ok-limits.limits tight)
     c.whole.ensures.value e.1 e.2 e.3
 
@@ -42,3 +42,10 @@ returns-clause-rests c = λ ever among rests.
     rests_settled ever rows limits c.settle.new.basis c.pivots.new.basis (subst (λ (f : List Parts). AllRead f rows) (sym forms) c.requires.read) given
     c.pivots.ensures.forms c.pivots.ensures.settles among
     (rests_settled ever rows limits c.args.basis.now c.settle.new.basis c.requires.read given forms c.in_ok-settle.ensures.settles among rests)
+
+pub settle-requires : goal.settle-requires
+settle-requires c k h = c.in_default-crossed.ensures.none k (let n = c.len-2.ensures in omega arith)
+
+pub pivots-requires-clause-uncrossed : goal.pivots-requires-clause-uncrossed
+pivots-requires-clause-uncrossed c k h =
+    c.in_default-crossed.ensures.none k (rw c.len-2.ensures (subst (λ (f : List Parts). k < length f) c.in_ok-settle.ensures.forms h))

@@ -1,5 +1,5 @@
 use Rattle.std.proofs.Common.{◌≡◌}
-use Rattle.lq_simplex.specs.Configurations.{Settles}
+use Rattle.lq_simplex.specs.Configurations.{FreeKeep, Settles}
 use Rattle.lq_simplex.proofs.tableau.pivots.Given as goal
 
 abbrev pub invariant-loop-broken : goal.invariant-loop-broken
@@ -7,6 +7,7 @@ invariant-loop-broken l = record {
   terms : l.basis.terms ≡ l.fn.basis.terms;
   forms : l.basis.forms ≡ l.fn.basis.forms;
   settles : Settles l.limits l.fn.basis l.basis;
+  keeps : FreeKeep l.limits l.basis;
 }
 
 abbrev pub decreases-loop-broken : goal.decreases-loop-broken

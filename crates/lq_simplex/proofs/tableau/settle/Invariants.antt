@@ -1,5 +1,6 @@
 use Rattle.std.proofs.Common.{◌≡◌}
 use Rattle.lq_simplex.specs.Configurations.{Settles}
+use Rattle.lq_simplex.proofs.Keeping.{KeepBelow}
 use Rattle.lq_simplex.proofs.tableau.settle.Given as goal
 
 abbrev pub invariant-loop-variable : goal.invariant-loop-variable
@@ -7,4 +8,5 @@ invariant-loop-variable l = record {
   terms : l.basis.terms ≡ l.fn.basis.terms;
   forms : l.basis.forms ≡ l.fn.basis.forms;
   settles : Settles l.limits l.fn.basis l.basis;
+  keeps : KeepBelow l.variable l.limits l.basis;
 }

@@ -1,10 +1,10 @@
 use Rattle.std.proofs.Common.{◌≡◌, ◌∙◌, ◌<◌, sym, ap, subst, length, arith}
 use Rattle.lq_math.specs.Rational.{◌-ℚ◌}
 use Rattle.lq_num.specs.Value.{value_of}
-use Rattle.lq_simplex.specs.Systems.{System, line_at, IsFree}
-use Rattle.lq_simplex.specs.Configurations.{StandsIn, Brings}
+use Rattle.lq_simplex.specs.Systems.{System, IsFree}
+use Rattle.lq_simplex.specs.Configurations.{Brings}
 use Rattle.lq_simplex.proofs.Systems.{shifted_system}
-use Rattle.lq_simplex.proofs.Resting.{stands_free, shift_brings}
+use Rattle.lq_simplex.proofs.Resting.{shift_brings}
 use Rattle.lq_simplex.proofs.Values.{value_there}
 use Rattle.lq_simplex.proofs.basis.Basis.shift.Goals as goal
 
@@ -19,7 +19,7 @@ returns-clause-brought c =
     let s : System = record { terms = c.self.inside.terms; forms = c.self.inside.forms.items; lines = c.self.inside.lines.items; values = c.self.inside.values.items } in
     let is : s ≡ c.args.self.now = c.self.view_is in
     let values = c.in_ok-self-inside.field-0.items in
-    let free : IsFree s.lines c.args.variable = stands_free s c.args.variable c.self.invariant (subst (λ (t : System). StandsIn (line_at t.lines c.args.variable) c.args.variable) (sym is) c.requires) in
+    let free : IsFree s.lines c.args.variable = subst (λ (t : System). IsFree t.lines c.args.variable) (sym is) c.requires in
     let within : c.args.variable < length s.values = (let f = free.inside in let e = c.self.invariant.are_lines.same in let v = c.self.invariant.valued in omega arith) in
     subst (λ (t : System). Brings t (record { terms = s.terms; forms = s.forms; lines = s.lines; values = values }) c.args.variable (value_of c.args.bound.now)) is
     (shift_brings s values c.args.variable (value_of c.args.bound.now) (value_of c.in_ok-by.by) free

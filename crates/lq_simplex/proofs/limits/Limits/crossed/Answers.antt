@@ -3,7 +3,7 @@ use Rattle.lq_simplex.specs.declared.limits.Side.TheVariants.{Upper}
 use Rattle.lq_simplex.specs.Bounds.{limit_at}
 use Rattle.lq_simplex.proofs.limits.Limits.crossed.Goals as goal
 
-pub returns-in-Some-broken_on : goal.returns-in-Some-broken_on
-returns-in-Some-broken_on c =
+pub returns-in-Some-broken_on-clause-some : goal.returns-in-Some-broken_on-clause-some
+returns-in-Some-broken_on-clause-some c =
     let e = c.in-Some-broken_on.ensures.some in
     (c.in-Some.upper, e.1, ap (limit_at c.args.self.now Upper) e.0 ∙ sym c.in-Some.ensures, e.2)
