@@ -25,7 +25,7 @@ pub combine-more : (x : Valuation) (es : List Entry) (i : ℕ) (d : Entry) → i
 combine-more x es i d h = ap (combine x) (take_more es i d h) ∙ combine-push x (take i es) (get_or es i d)
 
 -- ---- units
-eqb_by : (m n : ℕ) {P : Type 0} → (m == n ≡ true → m ≡ n → P) → (m == n ≡ false → m ≢ n → P) → P
+pub eqb_by : (m n : ℕ) {P : Type 0} → (m == n ≡ true → m ≡ n → P) → (m == n ≡ false → m ≢ n → P) → P
 eqb_by m n {P} f g = by (m == n) refl
   where
     by : (b : Bool) → m == n ≡ b → P

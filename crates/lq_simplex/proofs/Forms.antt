@@ -19,7 +19,7 @@ use Rattle.lq_simplex.specs.declared.line.Entry.{Entry}
 use Rattle.lq_simplex.specs.Lines.{combine, unit, factor_of, IsLine, IsOwnLine}
 use Rattle.lq_linear.specs.Forms.{Parts, IsNormal}
 use Rattle.lq_linear.specs.Difference.{TermsBelow}
-use Rattle.lq_simplex.specs.Systems.{System, form_at, line_at, Fits, Meets, IsFree, form_values, AreForms, AreLines, IsSystem, GoesOn}
+use Rattle.lq_simplex.specs.Systems.{System, form_at, line_at, Fits, Meets, IsFree, form_values, AreForms, AreCounted, AreLines, IsSystem, GoesOn}
 use Rattle.lq_simplex.specs.Configurations.{AllStay}
 use Rattle.lq_simplex.proofs.Combinations.{one_apart, unit_here, unit_elsewhere, eq_or}
 use Rattle.lq_simplex.proofs.Values.{get_push_old, get_push_here, last_or_before}
@@ -193,6 +193,28 @@ further_values terms forms form values f a b n fit e k h = by (place k (length f
         ∙ sym (ap (sum_at (valuation_of (values ++ f ∷ []))) (at_last forms form [] k q))
     by (past l) = absurd (let p = length_push forms form in omega arith)
 
+-- the further variable isn't free, and the others stay as they are
+further_free : (s : System) (form : Parts) (line : List Entry) (j : ℕ) → IsSystem s → ((y : Valuation) → combine y line ≡ sum_at (λ t. combine y (line_at s.lines t)) form)
+    → IsFree (s.lines ++ line ∷ []) j → IsFree s.lines j
+further_free s form line j i sum free = by (place j (length s.lines))
+  where
+    by : Place j (length s.lines) → IsFree s.lines j
+    by (old h) = record { inside = h; own = λ k. sym (ap (λ es. factor_of es k) (at_old s.lines line [] j h)) ∙ free.own k }
+    by (last e) = elim (sum_free s.lines form j (λ t. i.are_lines.free t j)) [
+      | inl z ↦ absurd (one_apart (sym (ap (λ es. factor_of es j) (at_last s.lines line [] j e) ∙ sum (unit j) ∙ z) ∙ free.own j ∙ unit_here j))
+      | inr g ↦ absurd (let h = g.inside in omega arith)
+    ]
+    by (past h) = absurd (let e = length_push s.lines line in let g = free.inside in omega arith)
+
+further_counted : (s : System) (form : Parts) (line : List Entry) → IsSystem s → ((y : Valuation) → combine y line ≡ sum_at (λ t. combine y (line_at s.lines t)) form)
+    → AreCounted s.terms (s.lines ++ line ∷ [])
+further_counted s form line i sum = record {
+  free_at = i.counted.free_at;
+  free = λ t h. still_free s.lines line (i.counted.free_at t) (i.counted.free t h);
+  all = λ j free. i.counted.all j (further_free s form line j i sum free);
+  once = i.counted.once;
+}
+
 pub further_system : (s : System) (form : Parts) (line : List Entry) (f : Frac) → IsSystem s → TermsBelow s.terms form → IsNormal form
     → ((k : ℕ) → k < length s.forms → form_at s.forms k ≢ form) → IsLine line
     → ((y : Valuation) → combine y line ≡ sum_at (λ t. combine y (line_at s.lines t)) form) → value_of f ≡ sum_at (valuation_of s.values) form
@@ -202,26 +224,17 @@ further_system s form line f i b n absent il sum e =
     record {
       are_forms = further_forms s.terms s.forms form i.are_forms b n absent;
       are_lines = lines;
+      counted = further_counted s form line i sum;
       valued = length_push s.values f ∙ ap (λ n. n + 1) i.valued ∙ sym (length_push s.forms form);
       values = lines.meets (valuation_of (s.values ++ f ∷ []))
           (further_values s.terms s.forms form s.values f i.are_forms b i.valued (i.are_lines.fits (valuation_of s.values) i.values) e);
     }
 
--- the further variable isn't free
 pub further_stays : (s : System) (form : Parts) (line : List Entry) (f : Frac) → IsSystem s → ((y : Valuation) → combine y line ≡ sum_at (λ t. combine y (line_at s.lines t)) form)
     → AllStay s (record { terms = s.terms; forms = s.forms ++ form ∷ []; lines = s.lines ++ line ∷ []; values = s.values ++ f ∷ [] })
-further_stays s form line f i sum j free = by (place j (length s.lines))
-  where
-    by : Place j (length s.lines) → IsFree s.lines j × (valuation_of (s.values ++ f ∷ []) j ≡ valuation_of s.values j)
-    by (old h) = (
-      record { inside = h; own = λ k. sym (ap (λ es. factor_of es k) (at_old s.lines line [] j h)) ∙ free.own k },
-      ap value_or_zero (get_push_old s.values f j (let e = i.valued in let g = i.are_lines.same in omega arith)),
-    )
-    by (last e) = elim (sum_free s.lines form j (λ t. i.are_lines.free t j)) [
-      | inl z ↦ absurd (one_apart (sym (ap (λ es. factor_of es j) (at_last s.lines line [] j e) ∙ sum (unit j) ∙ z) ∙ free.own j ∙ unit_here j))
-      | inr g ↦ absurd (let h = g.inside in omega arith)
-    ]
-    by (past h) = absurd (let e = length_push s.lines line in let g = free.inside in omega arith)
+further_stays s form line f i sum j free =
+    let before = further_free s form line j i sum free in
+    let h = before.inside in (before, ap value_or_zero (get_push_old s.values f j (let e = i.valued in let g = i.are_lines.same in omega arith)))
 
 pub goes_on_further : (forms : List Parts) (form : Parts) → GoesOn forms (forms ++ form ∷ [])
 goes_on_further forms form k h = (let e = length_push forms form in omega arith, at_old forms form [] k h)
@@ -329,6 +342,12 @@ start_system n forms lines values s = record {
     meets = λ x f k h. meet x k (let e = s.lines_count in omega arith);
     fits = λ x m k h. let l : k < n = (let e = s.forms_count in omega arith) in sym (ap (sum_at x) (s.form k l) ∙ solve (x k ∷ []) (con (pos 1) ⊗ var 0 ⊕ con (pos 0)) (var 0) refl);
   };
+  counted = record {
+    free_at = λ t. t;
+    free = λ t h. own_free t h;
+    all = λ j f. (j, (let g = f.inside in let e = s.lines_count in omega arith), refl);
+    once = λ t u h g e. e;
+  };
   valued = s.values_count ∙ sym s.forms_count;
   values = λ k h. meet (valuation_of values) k (let e = s.lines_count in omega arith);
 }
@@ -344,9 +363,12 @@ start_system n forms lines values s = record {
     is_line k (inl h) = own_is_line k (line_at lines k) (s.line k h)
     is_line k (inr h) = subst IsLine (sym (get_or_past lines k [] (let e = s.lines_count in omega arith))) tt
 
+    own_free : (k : ℕ) → k < n → IsFree lines k
+    own_free k h = record { inside = let q = s.lines_count in omega arith; own = λ i. own_combine (unit i) k (line_at lines k) (s.line k h) }
+
     free : (k j : ℕ) → (k < n) ⊎ (n ≤ k) → (factor_of (line_at lines k) j ≡ whole (pos 0)) ⊎ IsFree lines j
     free k j (inl h) = elim (eq_or j k) [
-      | inl e ↦ inr (record { inside = let q = s.lines_count in omega arith; own = λ i. ap (λ m. factor_of (line_at lines m) i) e ∙ own_combine (unit i) k (line_at lines k) (s.line k h) ∙ ap (unit i) (sym e) })
+      | inl e ↦ inr (subst (IsFree lines) (sym e) (own_free k h))
       | inr m ↦ inl (own_combine (unit j) k (line_at lines k) (s.line k h) ∙ unit_elsewhere j k m)
     ]
     free k j (inr h) = inl (ap (λ es. factor_of es j) (get_or_past lines k [] (let e = s.lines_count in omega arith)))

@@ -1,4 +1,5 @@
 pub mod Keeping
+pub mod Appearing
 pub mod Combinations
 pub mod Merging
 pub mod Multiples

@@ -28,6 +28,9 @@ use Rattle.lq_simplex.proofs.Multiples.{multiples_once}
 -- ---- the free ones can be chosen freely, and the others follow
 pub configured : (s : System) → IsSystem s → IsConfiguration s
 configured s i = record {
+  terms_in = i.are_forms.terms_in;
+  named = i.are_forms.named;
+  counted = i.counted;
   normal = i.are_forms.normal;
   once = i.are_forms.once;
   shared = λ row other b c p q m.

@@ -1,5 +1,5 @@
 -- What keeps a system one: a shift, a pivot and a further form.
-use Rattle.std.proofs.Common.{◌≡◌, ◌≢◌, ℕ, pos, ◌+◌, ◌<◌, ◌≤◌, ◌⊎◌, inl, inr, arith, refl, sym, ap, ap₂, subst, ◌∙◌, List, [], ◌∷◌, ◌++◌, Option, Some, None, length, slice_get}
+use Rattle.std.proofs.Common.{◌≡◌, ◌≢◌, ℕ, pos, ◌+◌, ◌<◌, ◌≤◌, ◌⊎◌, inl, inr, arith, refl, sym, ap, ap₂, subst, ◌∙◌, List, [], ◌∷◌, ◌++◌, Option, Some, None, length, slice_get, ◌==◌, if◌then◌else◌}
 use Rattle.std.proofs.lemmas.Bool.{cases_lt}
 use Rattle.std.proofs.lemmas.List.{get_or_past, get_or_push, get_or_append_left, length_push}
 use Rattle.lq_math.specs.Rational.{ℚ, whole, ◌+ℚ◌, ◌-ℚ◌, ◌*ℚ◌, neg_ℚ}
@@ -12,9 +12,9 @@ use Rattle.lq_linear.specs.Steps.{valuation_of}
 use Rattle.lq_simplex.specs.declared.line.Entry.{Entry}
 use Rattle.lq_simplex.specs.Lines.{combine, unit, factor_of, IsLine}
 use Rattle.lq_linear.specs.Forms.{Parts}
-use Rattle.lq_simplex.specs.Systems.{System, line_at, Meets, IsFree, AreLines, IsSystem, after, change_at, IsChange, IsAdded, IsShifted}
+use Rattle.lq_simplex.specs.Systems.{System, line_at, Meets, IsFree, AreCounted, AreLines, IsSystem, after, change_at, IsChange, IsAdded, IsShifted}
 use Rattle.lq_simplex.proofs.Values.{last_or_before}
-use Rattle.lq_simplex.proofs.Combinations.{one_apart, eq_or, combine-same, combine-plus, entry_is, entry_apart, unit_here, unit_elsewhere, own_combination}
+use Rattle.lq_simplex.proofs.Combinations.{one_apart, eq_or, eqb_by, combine-same, combine-plus, entry_is, entry_apart, unit_here, unit_elsewhere, own_combination}
 
 -- ---- entries are of free variables
 pub entry_free : (forms : List Parts) (lines : List (List Entry)) (k i : ℕ) (e : Entry) → AreLines forms lines → slice_get (line_at lines k) i ≡ Some e → IsFree lines e.variable
@@ -38,6 +38,7 @@ pub shifted_system : (s : System) (values : List Frac) (v : ℕ) (d : ℚ) → I
 shifted_system s values v d i h = record {
   are_forms = i.are_forms;
   are_lines = i.are_lines;
+  counted = i.counted;
   valued = h.0 ∙ i.are_lines.same;
   values = shift_meets s.forms s.lines (valuation_of s.values) (valuation_of values) v d i.are_lines i.values h.1;
 }
@@ -170,6 +171,49 @@ pivot_lines forms lines new b k f zero a p = record {
   fits = λ x m. a.fits x (pivot_back forms lines new b k f zero x a p m);
 }
 
+-- ---- the leaving variable takes the entering one's place among the free ones
+in_place : ℕ → ℕ → ℕ → ℕ
+in_place k b j = if j == k then b else j
+
+in_place_here : (k b j : ℕ) → j ≡ k → in_place k b j ≡ b
+unfolding in_place
+in_place_here k b j e = eqb_by j k (λ q r. ap (λ t. if t then b else j) q) (λ q n. absurd (n e))
+
+in_place_else : (k b j : ℕ) → j ≢ k → in_place k b j ≡ j
+unfolding in_place
+in_place_else k b j n = eqb_by j k (λ q r. absurd (n r)) (λ q r. ap (λ t. if t then b else j) q)
+
+pivot_bound : (lines new : List (List Entry)) (b k : ℕ) (f : ℚ) (zero : List Entry) → IsPivot lines new b k f zero → ¬ (IsFree lines b)
+pivot_bound lines new b k f zero p free = p.some (sym p.factor ∙ free.own k ∙ unit_elsewhere k b p.apart)
+
+pub pivot_counted : (n : ℕ) (forms : List Parts) (lines new : List (List Entry)) (b k : ℕ) (f : ℚ) (zero : List Entry) → AreLines forms lines → IsPivot lines new b k f zero
+    → AreCounted n lines → AreCounted n new
+pivot_counted n forms lines new b k f zero a p c = record {
+  free_at = λ t. in_place k b (c.free_at t);
+  free = λ t h. elim (eq_or (c.free_at t) k) [
+    | inl e ↦ subst (IsFree new) (sym (in_place_here k b (c.free_at t) e)) (pivot_leaving lines new b k f zero p)
+    | inr m ↦ subst (IsFree new) (sym (in_place_else k b (c.free_at t) m)) (pivot_others lines new b k f zero (c.free_at t) p (c.free t h) m)
+  ];
+  all = λ j free. elim (eq_or j b) [
+    | inl e ↦ let t = c.all k p.free in (t.0, t.1, in_place_here k b (c.free_at t.0) t.2 ∙ sym e)
+    | inr m ↦
+        let before = pivot_free_before forms lines new b k f zero j a p free m in
+        let t = c.all j before.0 in (t.0, t.1, in_place_else k b (c.free_at t.0) (λ e. before.1 (sym t.2 ∙ e)) ∙ t.2)
+  ];
+  once = λ t u h g e. elim (eq_or (c.free_at t) k) [
+    | inl q ↦ elim (eq_or (c.free_at u) k) [
+      | inl r ↦ c.once t u h g (q ∙ sym r)
+      | inr m ↦ absurd (pivot_bound lines new b k f zero p
+          (subst (IsFree lines) (sym (sym (in_place_here k b (c.free_at t) q) ∙ e ∙ in_place_else k b (c.free_at u) m)) (c.free u g)))
+    ]
+    | inr l ↦ elim (eq_or (c.free_at u) k) [
+      | inl r ↦ absurd (pivot_bound lines new b k f zero p
+          (subst (IsFree lines) (sym (in_place_else k b (c.free_at t) l) ∙ e ∙ in_place_here k b (c.free_at u) r) (c.free t h)))
+      | inr m ↦ c.once t u h g (sym (in_place_else k b (c.free_at t) l) ∙ e ∙ in_place_else k b (c.free_at u) m)
+    ]
+  ];
+}
+
 -- ---- how a pivot is made
 added_same : (lines : List (List Entry)) (changed : List (Option (List Entry))) (o : Option (List Entry)) (n k : ℕ) → n < length lines → length changed ≡ n → k < n
     → after (change_at (changed ++ o ∷ []) k) (line_at lines k) ≡ after (change_at changed k) (line_at lines k)
@@ -234,6 +278,7 @@ pub pivoted_system : (s : System) (new : List (List Entry)) (values : List Frac)
 pivoted_system s new values b k f d nil i pivot shifted = record {
   are_forms = i.are_forms;
   are_lines = pivot_lines s.forms s.lines new b k f nil i.are_lines pivot;
+  counted = pivot_counted s.terms s.forms s.lines new b k f nil i.are_lines pivot i.counted;
   valued = shifted.0 ∙ i.are_lines.same;
   values = pivot_meets s.lines new b k f nil (valuation_of values) pivot
       (shift_meets s.forms s.lines (valuation_of s.values) (valuation_of values) k d i.are_lines i.values shifted.1);

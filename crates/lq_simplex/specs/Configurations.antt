@@ -1,5 +1,5 @@
 -- Which variables are free, and what each of these rests on.
-use Rattle.std.specs.Prelude.{◌≡◌, ◌≢◌, ℕ, pos, ◌<◌, ◌⊎◌, List, Some, All, Contains, length, slice_get}
+use Rattle.std.specs.Prelude.{◌≡◌, ◌≢◌, ℕ, pos, ◌<◌, ◌≤◌, ◌⊎◌, List, [], ◌∷◌, Some, All, Contains, length, slice_get}
 use Rattle.lq_math.specs.Rational.{ℚ, whole}
 use Rattle.lq_num.specs.Value.{value_of}
 use Rattle.lq_linear.specs.Row.{Row, Valuation}
@@ -11,7 +11,7 @@ use Rattle.lq_simplex.specs.declared.limits.Side.{Side}
 use Rattle.lq_simplex.specs.declared.limits.Limit.{Limit}
 use Rattle.lq_simplex.specs.Lines.{combine}
 use Rattle.lq_linear.specs.Forms.{Parts, IsNormal, AreMultiples}
-use Rattle.lq_simplex.specs.Systems.{System, form_at, line_at, form_values, IsFree}
+use Rattle.lq_simplex.specs.Systems.{System, form_at, line_at, form_values, IsFree, AreCounted}
 use Rattle.lq_simplex.specs.Standing.{ReadsAs}
 use Rattle.lq_simplex.specs.Bounds.{Tightest, limit_at, bound_value, Keeps}
 
@@ -20,12 +20,16 @@ pub record IsChosen (s : System) (choice : Valuation) : Type 0 where
   pub point : Valuation
   pub meets : (j : ℕ) → IsFree s.lines j → form_values s.forms point j ≡ choice j
 
--- each form is normal, no two variables have one form, and rows that are multiples of one another bound one variable; each variable is
--- at every point the combination of free ones that its line says, the free ones can be chosen freely, and the values are those at a point
+-- the terms come first, each form is normal, no two variables have one form, and rows that are multiples of one another bound one variable;
+-- as many variables are free as there are terms, each variable is at every point the combination of free ones that its line says, the free
+-- ones can be chosen freely, and the values are those at a point
 pub record IsConfiguration (s : System) : Type 0 where
+  pub terms_in : s.terms ≤ length s.forms
+  pub named : (t : ℕ) → t < s.terms → form_at s.forms t ≡ (t, pos 1) ∷ []
   pub normal : (k : ℕ) → k < length s.forms → IsNormal (form_at s.forms k)
   pub once : (j k : ℕ) → j < length s.forms → k < length s.forms → form_at s.forms j ≡ form_at s.forms k → j ≡ k
   pub shared : (row other : Row) (b c : Bound) → ReadsAs s.forms row b → ReadsAs s.forms other c → AreMultiples row.parts other.parts → b.variable ≡ c.variable
+  pub counted : AreCounted s.terms s.lines
   pub over_free : (k at : ℕ) (e : Entry) → slice_get (line_at s.lines k) at ≡ Some e → IsFree s.lines e.variable
   pub combined : (point : Valuation) (k : ℕ) → k < length s.forms → form_values s.forms point k ≡ combine (form_values s.forms point) (line_at s.lines k)
   pub chosen : (choice : Valuation) → IsChosen s choice

@@ -5,4 +5,5 @@ pub mod RowParts
 pub mod Bounds
 pub mod Conflicts
 pub mod Configurations
+pub mod Appearing
 pub mod Table

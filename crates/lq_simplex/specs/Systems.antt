@@ -35,6 +35,13 @@ pub record IsFree (lines : List (List Entry)) (j : ℕ) : Type 0 where
   pub inside : j < length lines
   pub own : (i : ℕ) → factor_of (line_at lines j) i ≡ unit i j
 
+-- as many variables are free as there are terms: one for each number below that of the terms, each once
+pub record AreCounted (terms : ℕ) (lines : List (List Entry)) : Type 0 where
+  pub free_at : ℕ → ℕ
+  pub free : (t : ℕ) → t < terms → IsFree lines (free_at t)
+  pub all : (j : ℕ) → IsFree lines j → (t : ℕ) × (t < terms) × (free_at t ≡ j)
+  pub once : (t u : ℕ) → t < terms → u < terms → free_at t ≡ free_at u → t ≡ u
+
 -- what the forms are at a valuation of the terms
 abbrev pub form_values : List Parts → Valuation → Valuation
 form_values forms v k = sum_at v (form_at forms k)
@@ -58,6 +65,7 @@ pub record AreLines (forms : List Parts) (lines : List (List Entry)) : Type 0 wh
 pub record IsSystem (s : System) : Type 0 where
   pub are_forms : AreForms s.terms s.forms
   pub are_lines : AreLines s.forms s.lines
+  pub counted : AreCounted s.terms s.lines
   pub valued : length s.values ≡ length s.forms
   pub values : Meets s.lines (valuation_of s.values)
 

@@ -15,6 +15,7 @@ use Rattle.lq_simplex.specs.declared.row.Standing.{Standing}
 use Rattle.lq_linear.specs.Difference.{TermsBelow}
 use Rattle.lq_simplex.specs.Systems.{System}
 use Rattle.lq_simplex.specs.Standing.{standing_of, multipliers_of, AllRead, TagsApart}
+use Rattle.lq_simplex.specs.Appearing.{AreFormsOf}
 use Rattle.lq_simplex.specs.Configurations.{AllAmong, Rests}
 
 -- the variables with their values, the rows that stand, the multipliers of the last conflict, the last answer, and the limit on pivots
@@ -56,8 +57,10 @@ MayStop [] rows ever stop = ⊥
 MayStop (terms ∷ []) rows ever stop = ⊥
 MayStop (terms ∷ limit ∷ more) rows ever stop = StopsAt limit stop
 
--- the rows that stand are among these, and each free variable has the value 0 or a bound that one of these gives it
+-- the forms past the terms are those of these rows, by their first appearance; the rows that stand are among these, and each free
+-- variable has the value 0 or a bound that one of these gives it
 pub record Handed (t : Table) (rows : List Row) : Type 0 where
+  pub forms : AreFormsOf rows t.system.terms t.system.forms
   pub among : AllAmong rows t.rows
   pub rests : Rests rows t.system
 

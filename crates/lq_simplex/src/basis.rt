@@ -9,6 +9,7 @@ ghost use Rattle.lq_simplex.specs.Lines.{combine, factor_of, owns, IsLine, IsOwn
 ghost use Rattle.lq_linear.specs.Forms.{IsNormal};
 ghost use Rattle.lq_linear.specs.Difference.{TermsBelow};
 ghost use Rattle.lq_simplex.specs.Systems.{form_at, line_at, change_at, after, IsChange, IsAdded, IsShifted, IsFree, IsSystem, GoesOn};
+ghost use Rattle.lq_simplex.specs.Appearing.{IsExtended};
 ghost use Rattle.lq_simplex.specs.Configurations.{AllStay, Brings};
 
 use crate::error::TableauError;
@@ -286,6 +287,7 @@ impl Basis {
     /// The terms alone, each free and with the value 0.
     pub(crate) fn new(alloc: Global, terms: u64) -> Result<Basis, AllocError>
         ensures terms { IfOk result (λ basis. basis.terms ≡ terms) }
+        ensures count { IfOk result (λ basis. length basis.forms ≡ terms) }
         ensures zero { IfOk result (λ basis. (k : ℕ) → valuation_of basis.values k ≡ whole (pos 0)) }
     {
         let mut forms = Vec::new(alloc);
@@ -348,6 +350,8 @@ impl Basis {
         requires below { TermsBelow self.old.terms form }
         requires normal { IsNormal form }
         ensures found { IfOk result (λ k. (k < length self.new.forms) × (form_at self.new.forms k ≡ form)) }
+        ensures extended { OnOk result (IsExtended self.old.forms self.new.forms form) }
+        ensures kept { OnErr result (self.new ≡ self.old) }
         ensures terms { self.new.terms ≡ self.old.terms }
         ensures forms { GoesOn self.old.forms self.new.forms }
         ensures stays { AllStay self.old self.new }
@@ -372,7 +376,7 @@ impl Basis {
             ≡ sum_at (λ t. combine x (line_at self.old.lines t)) form }
         requires value { value_of value ≡ sum_at (valuation_of self.old.values) form }
         ensures added { OnOk result (self.new.forms ≡ self.old.forms ++ form ∷ []) }
-        ensures kept { OnErr result (self.new.forms ≡ self.old.forms) }
+        ensures kept { OnErr result (self.new ≡ self.old) }
         ensures terms { self.new.terms ≡ self.old.terms }
         ensures stays { AllStay self.old self.new }
     {

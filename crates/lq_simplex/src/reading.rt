@@ -1,5 +1,5 @@
 // Rows as bounds of forms in lowest terms.
-ghost use Rattle.std.specs.Prelude.{◌≡◌, ◌≢◌, pos, ◌<◌, ◌^◌, false, length, All, IfOk, IfErr};
+ghost use Rattle.std.specs.Prelude.{◌≡◌, ◌≢◌, pos, ◌<◌, ◌^◌, false, length, All, IfOk, IfErr, OnOk, OnErr};
 ghost use Rattle.lq_math.specs.Rational.{whole, ◌*ℚ◌, neg_ℚ};
 ghost use Rattle.lq_num.specs.Past.{IsPast};
 ghost use Rattle.lq_num.specs.Value.{value_of};
@@ -8,6 +8,7 @@ ghost use Rattle.lq_linear.specs.Forms.{DividesAll, FirstAbove};
 ghost use Rattle.lq_linear.specs.Difference.{TermsBelow};
 ghost use Rattle.lq_simplex.specs.Systems.{GoesOn};
 ghost use Rattle.lq_simplex.specs.Standing.{signed, ReadsBy};
+ghost use Rattle.lq_simplex.specs.Appearing.{HasGrown};
 ghost use Rattle.lq_simplex.specs.Configurations.{AllStay};
 ghost use Rattle.lq_simplex.specs.RowParts.{IsGreatest, turned_by, IsTurned, IsDivided};
 
@@ -133,6 +134,8 @@ pub(crate) fn read(
     ensures terms { basis.new.terms ≡ basis.old.terms }
     ensures forms { GoesOn basis.old.forms basis.new.forms }
     ensures stays { AllStay basis.old basis.new }
+    ensures grown { OnOk result (HasGrown basis.old.forms basis.new.forms row.now.parts) }
+    ensures kept { OnErr result (basis.new ≡ basis.old) }
     ensures stop { IfErr result IsTableauError }
 {
     let parts = row.parts();

@@ -11,6 +11,7 @@ ghost use Rattle.lq_linear.specs.Forms.{Parts};
 ghost use Rattle.lq_linear.specs.Difference.{TermsBelow};
 ghost use Rattle.lq_simplex.specs.Standing.{standing_of, multipliers_of, AllRead, TagsApart, AllBare};
 ghost use Rattle.lq_simplex.specs.Conflicts.{AllGiven, AllKeep};
+ghost use Rattle.lq_simplex.specs.Appearing.{AreFormsOf};
 ghost use Rattle.lq_simplex.specs.Configurations.{AllAmong, Rests, FreeKeep, Settles};
 ghost use Rattle.lq_simplex.specs.Bounds.{AreUncrossed};
 ghost use Rattle.lq_simplex.specs.Table.{StopsAt};
@@ -183,7 +184,7 @@ fn decide(
     pivots(alloc, basis, rows, &limits, limit)
 }
 
-/// Adds a row that stands.
+/// Adds a row that stands, or leaves all as it was.
 fn stand(
     alloc: Global,
     basis: &mut Basis,
@@ -202,13 +203,21 @@ fn stand(
     ensures apart { TagsApart rows.new.items }
     ensures among { OnOk result ((ever : List Row) → AllAmong ever rows.old.items
         → AllAmong (ever ++ row.now ∷ []) rows.new.items) }
-    ensures rests { (ever : List Row) → Rests ever basis.old → Rests ever basis.new }
+    ensures rests { OnOk result ((ever : List Row) → Rests ever basis.old → Rests ever basis.new) }
+    ensures forms { OnOk result ((ever : List Row) → AreFormsOf ever basis.old.terms basis.old.forms
+        → AreFormsOf (ever ++ row.now ∷ []) basis.new.terms basis.new.forms) }
+    ensures refused { OnErr result (basis.new ≡ basis.old) }
     ensures terms { basis.new.terms ≡ basis.old.terms }
     ensures stop { IfErr result IsTableauError }
 {
+    rows.reserve(1)?;
+    let copied = copy(alloc, row)?;
     let bound = read(alloc, basis, row)?;
-    let row = copy(alloc, row)?;
-    rows.push(Standing { tag, row, bound })?;
+    rows.push_reserved(Standing {
+        tag,
+        row: copied,
+        bound,
+    });
     Ok(())
 }
 
@@ -248,11 +257,13 @@ impl Tableau {
     }
 
     /// What always holds of a tableau, as a law: at every point each variable is the combination of free ones that its line says, and
-    /// the free ones can be chosen freely. Rows that are multiples of one another bound one variable. A free one has the value 0 or a
+    /// the free ones, as many as there are terms, can be chosen freely. Rows that are multiples of one another bound one variable. A free one has the value 0 or a
     /// bound that a row gives which was handed.
     pub fn configuration(&self)
         ensures configured { IsConfiguration self.now.system }
         ensures rests { (ever : List Row) → Handed self.now ever → Rests ever self.now.system }
+        ensures forms { (ever : List Row) → Handed self.now ever
+            → AreFormsOf ever self.now.system.terms self.now.system.forms }
     {
         let _ = self.basis.values();
     }

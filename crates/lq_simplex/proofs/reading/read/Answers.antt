@@ -1,11 +1,11 @@
-use Rattle.std.proofs.Common.{◌≡◌, ◌∙◌, sym, ap, ap₂, subst, rules, FitsSigned, pos, arith, to_z, of_z}
+use Rattle.std.proofs.Common.{◌≡◌, ◌∙◌, inl, inr, sym, ap, ap₂, subst, rules, FitsSigned, pos, arith, to_z, of_z}
 use Rattle.std.specs.Int.{w128}
 use Rattle.std.specs.Int.Signed.{◌<ℤ◌}
 use Rattle.std.proofs.lemmas.Int.{to_z-of_z, ints}
 use Rattle.lq_math.specs.Rational.{whole, ◌-ℚ◌, ◌*ℚ◌, neg_ℚ}
 use Rattle.lq_num.specs.Value.{value_of}
 use Rattle.lq_linear.specs.Row.{sum_at}
-use Rattle.lq_linear.specs.Forms.{Parts, FirstAbove, AreMultiples}
+use Rattle.lq_linear.specs.Forms.{Parts, FirstAbove, IsNormal, AreMultiples}
 use Rattle.lq_simplex.specs.Standing.{signed}
 use Rattle.lq_simplex.specs.RowParts.{IsTurned, IsDivided, IsGreatest}
 use Rattle.lq_simplex.proofs.Readings.{turned_below, divided_below, turned_first, form_normal, row_reads}
@@ -47,3 +47,21 @@ returns-clause-reads c =
           (c.in_ok-value.ensures.exact ∙ ap (λ z. neg_ℚ (whole z)) is)
           ∙ ap₂ (λ z (f : Parts). signed c.is_turned-turned.result (whole z) *ℚ (sum_at v f -ℚ value_of c.in_ok-value.value)) (sym same) (sym (c.in_ok-variable.ensures.found.1 ∙ c.new-form.ensures));
     }
+
+pub returns-clause-grown : goal.returns-clause-grown
+returns-clause-grown c =
+    let parts = c.args.row.now.parts in let made = c.in_ok-made.made.items in let form = c.in_ok-divided.field-0.items in let d = c.shared-divisor.result in
+    let t : IsTurned c.is_turned-turned.result parts made = rw (sym c.parts-parts.ensures.value) c.in_ok-made.ensures.turned in
+    let q : IsDivided (pos d) made form = rw (sym c.as_slice-2.ensures.value) c.in_ok-divided.ensures in
+    let first : FirstAbove c.is_turned-turned.result parts = rw (sym c.parts-parts.ensures.value) c.is_turned-turned.ensures in
+    let greatest : IsGreatest d made = rw (sym c.as_slice.ensures.value) c.shared-divisor.ensures.greatest in
+    elim (c.in_ok-variable.ensures.extended) [
+      | inl e ↦ inl e
+      | inr g ↦ inr (
+        c.new-form.result,
+        g.0,
+        subst IsNormal (sym c.new-form.ensures) (form_normal d made form c.shared-divisor.ensures.some (turned_first c.is_turned-turned.result parts made t first) greatest q),
+        subst (AreMultiples parts) (sym c.new-form.ensures) (form_multiple c.is_turned-turned.result d parts made form c.shared-divisor.ensures.some t q),
+        g.1,
+      )
+    ]

@@ -3,44 +3,32 @@ use Rattle.lq_linear.specs.Row.{Row}
 use Rattle.lq_simplex.specs.Standing.{standing_of, ReadsBy}
 use Rattle.lq_simplex.proofs.Tables.{standing_push, read_on, read_push, apart_push}
 use Rattle.lq_simplex.proofs.Resting.{among_push, rests_on}
+use Rattle.lq_simplex.proofs.Appearing.{appear_row}
 use Rattle.lq_simplex.proofs.tableau.stand.Goals as goal
 
-pub returns-in_err-bound-clause-read : goal.returns-in_err-bound-clause-read
-returns-in_err-bound-clause-read c = read_on c.args.basis.now.forms c.read.new.basis.forms c.args.rows.now.items c.read.ensures.forms c.requires.read
-
-pub returns-in_err-row-clause-read : goal.returns-in_err-row-clause-read
-returns-in_err-row-clause-read c = read_on c.args.basis.now.forms c.read.new.basis.forms c.args.rows.now.items c.read.ensures.forms c.requires.read
-
-pub returns-in_err-push-clause-read : goal.returns-in_err-push-clause-read
-returns-in_err-push-clause-read c = rw c.in_err-push.ensures.items (read_on c.args.basis.now.forms c.read.new.basis.forms c.args.rows.now.items c.read.ensures.forms c.requires.read)
-
 pub returns-clause-added : goal.returns-clause-added
-returns-clause-added c = ap standing_of c.in_ok-push.ensures.items ∙ standing_push c.args.rows.now.items _ ∙ ap (λ (r : Row). standing_of c.args.rows.now.items ++ (c.args.tag, r) ∷ []) c.in_ok-row.ensures
+returns-clause-added c = ap standing_of (c.push_reserved.ensures.items ∙ ap (λ l. l ++ (record { tag = c.args.tag; row = c.in_ok-copied.copied; bound = c.in_ok-bound.bound }) ∷ []) c.reserve.ensures.items) ∙ standing_push c.args.rows.now.items _ ∙ ap (λ (r : Row). standing_of c.args.rows.now.items ++ (c.args.tag, r) ∷ []) c.in_ok-copied.ensures
 
 pub returns-clause-read : goal.returns-clause-read
 returns-clause-read c =
-    rw c.in_ok-push.ensures.items
-    (read_push c.read.new.basis.forms c.args.rows.now.items (record { tag = c.args.tag; row = c.in_ok-row.row; bound = c.in_ok-bound.bound })
+    rw (c.push_reserved.ensures.items, c.reserve.ensures.items)
+    (read_push c.read.new.basis.forms c.args.rows.now.items (record { tag = c.args.tag; row = c.in_ok-copied.copied; bound = c.in_ok-bound.bound })
     (read_on c.args.basis.now.forms c.read.new.basis.forms c.args.rows.now.items c.read.ensures.forms c.requires.read)
-    (subst (λ (r : Row). ReadsBy c.read.new.basis.forms r c.in_ok-bound.bound) (sym c.in_ok-row.ensures) c.in_ok-bound.ensures.reads))
+    (subst (λ (r : Row). ReadsBy c.read.new.basis.forms r c.in_ok-bound.bound) (sym c.in_ok-copied.ensures) c.in_ok-bound.ensures.reads))
 
 pub returns-clause-apart : goal.returns-clause-apart
 returns-clause-apart c =
-    rw c.in_ok-push.ensures.items
-    (apart_push c.args.rows.now.items (record { tag = c.args.tag; row = c.in_ok-row.row; bound = c.in_ok-bound.bound }) c.requires.apart c.requires.fresh)
-
-pub returns-in_err-bound-clause-rests : goal.returns-in_err-bound-clause-rests
-returns-in_err-bound-clause-rests c = λ ever rests. rests_on ever c.args.basis.now c.read.new.basis c.read.ensures.stays c.read.ensures.forms rests
-
-pub returns-in_err-row-clause-rests : goal.returns-in_err-row-clause-rests
-returns-in_err-row-clause-rests c = λ ever rests. rests_on ever c.args.basis.now c.read.new.basis c.read.ensures.stays c.read.ensures.forms rests
-
-pub returns-in_err-push-clause-rests : goal.returns-in_err-push-clause-rests
-returns-in_err-push-clause-rests c = λ ever rests. rests_on ever c.args.basis.now c.read.new.basis c.read.ensures.stays c.read.ensures.forms rests
+    rw (c.push_reserved.ensures.items, c.reserve.ensures.items)
+    (apart_push c.args.rows.now.items (record { tag = c.args.tag; row = c.in_ok-copied.copied; bound = c.in_ok-bound.bound }) c.requires.apart c.requires.fresh)
 
 pub returns-clause-among : goal.returns-clause-among
-returns-clause-among c = λ ever among. rw c.in_ok-push.ensures.items
-    (among_push ever c.args.rows.now.items (record { tag = c.args.tag; row = c.in_ok-row.row; bound = c.in_ok-bound.bound }) c.args.row.now c.in_ok-row.ensures among)
+returns-clause-among c = λ ever among. rw (c.push_reserved.ensures.items, c.reserve.ensures.items)
+    (among_push ever c.args.rows.now.items (record { tag = c.args.tag; row = c.in_ok-copied.copied; bound = c.in_ok-bound.bound }) c.args.row.now c.in_ok-copied.ensures among)
 
 pub returns-clause-rests : goal.returns-clause-rests
 returns-clause-rests c = λ ever rests. rests_on ever c.args.basis.now c.read.new.basis c.read.ensures.stays c.read.ensures.forms rests
+
+pub returns-clause-forms : goal.returns-clause-forms
+returns-clause-forms c = λ ever a.
+    rw c.in_ok-bound.ensures.terms
+    (appear_row ever c.args.basis.now.terms c.args.basis.now.forms c.read.new.basis.forms c.args.row.now c.in_ok-bound.bound c.in_ok-bound.ensures.grown c.in_ok-bound.ensures.reads a)

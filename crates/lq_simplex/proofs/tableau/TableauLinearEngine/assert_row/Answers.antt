@@ -9,12 +9,17 @@ returns-in-Ok-clause-handed c = λ rows h.
     let t : Table = record { system = c.self.inside.basis; rows = c.self.inside.rows.items; found = c.self.inside.found.items; answer = c.self.inside.answer; limit = c.self.inside.limit } in
     let before : Handed t rows = subst (λ u. Handed u rows) (sym c.self.view_is) h in
     record {
+      forms = c.in-Ok.ensures.forms rows before.forms;
       among = c.in-Ok.ensures.among rows before.among;
-      rests = rests_more rows (c.args.row.now ∷ []) c.stand.new.basis (c.stand.ensures.rests rows before.rests);
+      rests = rests_more rows (c.args.row.now ∷ []) c.stand.new.basis (c.in-Ok.ensures.rests rows before.rests);
     }
 
 pub returns-in-Err-clause-refused : goal.returns-in-Err-clause-refused
 returns-in-Err-clause-refused c = λ rows h.
     let t : Table = record { system = c.self.inside.basis; rows = c.self.inside.rows.items; found = c.self.inside.found.items; answer = c.self.inside.answer; limit = c.self.inside.limit } in
     let before : Handed t rows = subst (λ u. Handed u rows) (sym c.self.view_is) h in
-    record { among = subst (λ l. AllAmong rows l) (sym c.in-Err.ensures.kept) before.among; rests = c.stand.ensures.rests rows before.rests }
+    record {
+      forms = rw c.in-Err.ensures.refused before.forms;
+      among = subst (λ l. AllAmong rows l) (sym c.in-Err.ensures.kept) before.among;
+      rests = rw c.in-Err.ensures.refused before.rests;
+    }

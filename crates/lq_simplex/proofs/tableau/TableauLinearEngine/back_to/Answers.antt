@@ -24,4 +24,4 @@ returns-clause-handed c = λ rows h.
     let t : Table = record { system = c.self.inside.basis; rows = c.self.inside.rows.items; found = c.self.inside.found.items; answer = c.self.inside.answer; limit = c.self.inside.limit } in
     let before : Handed t rows = subst (λ u. Handed u rows) (sym c.self.view_is) h in
     rw c.truncate.ensures.items
-    (record { among = All-take (λ (s : Standing). Contains rows s.row) c.args.mark.0 t.rows before.among; rests = before.rests })
+    (record { forms = before.forms; among = All-take (λ (s : Standing). Contains rows s.row) c.args.mark.0 t.rows before.among; rests = before.rests })

@@ -6,16 +6,16 @@ pub returns-in-Ok-None-clause-handed : goal.returns-in-Ok-None-clause-handed
 returns-in-Ok-None-clause-handed c = λ rows h.
     let t : Table = record { system = c.self.inside.basis; rows = c.self.inside.rows.items; found = c.self.inside.found.items; answer = c.self.inside.answer; limit = c.self.inside.limit } in
     let before : Handed t rows = subst (λ u. Handed u rows) (sym c.self.view_is) h in
-    record { among = before.among; rests = c.decide.ensures.rests rows (rw c.deref.ensures.value before.among) before.rests }
+    record { forms = rw c.decide.ensures.terms (rw c.decide.ensures.forms before.forms); among = before.among; rests = c.decide.ensures.rests rows (rw c.deref.ensures.value before.among) before.rests }
 
 pub returns-in-Ok-Some-clause-handed : goal.returns-in-Ok-Some-clause-handed
 returns-in-Ok-Some-clause-handed c = λ rows h.
     let t : Table = record { system = c.self.inside.basis; rows = c.self.inside.rows.items; found = c.self.inside.found.items; answer = c.self.inside.answer; limit = c.self.inside.limit } in
     let before : Handed t rows = subst (λ u. Handed u rows) (sym c.self.view_is) h in
-    record { among = before.among; rests = c.decide.ensures.rests rows (rw c.deref.ensures.value before.among) before.rests }
+    record { forms = rw c.decide.ensures.terms (rw c.decide.ensures.forms before.forms); among = before.among; rests = c.decide.ensures.rests rows (rw c.deref.ensures.value before.among) before.rests }
 
 pub returns-in-Err-clause-handed : goal.returns-in-Err-clause-handed
 returns-in-Err-clause-handed c = λ rows h.
     let t : Table = record { system = c.self.inside.basis; rows = c.self.inside.rows.items; found = c.self.inside.found.items; answer = c.self.inside.answer; limit = c.self.inside.limit } in
     let before : Handed t rows = subst (λ u. Handed u rows) (sym c.self.view_is) h in
-    record { among = before.among; rests = c.decide.ensures.rests rows (rw c.deref.ensures.value before.among) before.rests }
+    record { forms = rw c.decide.ensures.terms (rw c.decide.ensures.forms before.forms); among = before.among; rests = c.decide.ensures.rests rows (rw c.deref.ensures.value before.among) before.rests }
