@@ -30,7 +30,7 @@ def of_revision(revision):
 @contextlib.contextmanager
 def built(crates, source, proofs=None, top=TOP):
     """Builds the program with this main.rt, over these crates of the repository in `top`, and gives its path and what it printed.
-    `proofs` has the texts of the files of its proof by their names."""
+    `proofs` has the texts of its other files by their names, as they stand in the program's folder."""
     with tempfile.TemporaryDirectory() as folder:
         copy = os.path.join(folder, "copy")
         os.mkdir(copy)
@@ -46,8 +46,8 @@ def built(crates, source, proofs=None, top=TOP):
         with open(os.path.join(program, "src", "main.rt"), "w") as file:
             file.write(source)
         for name, text in (proofs or {}).items():
-            os.makedirs(os.path.join(program, "proofs", os.path.dirname(name)), exist_ok=True)
-            with open(os.path.join(program, "proofs", name), "w") as file:
+            os.makedirs(os.path.join(program, os.path.dirname(name)), exist_ok=True)
+            with open(os.path.join(program, name), "w") as file:
                 file.write(text)
         with open(os.path.join(copy, "crates.txt"), "a") as file:
             file.write(f"timed: {' '.join(crates)}\n")
