@@ -3,30 +3,28 @@ use Rattle.std.specs.Prelude.{◌≡◌, ℤ, pos, ◌⊎◌, true}
 use Rattle.std.specs.Int.Signed.{◌<ℤ◌}
 use Rattle.lq_math.specs.Rational.{ℚ, whole, ◌*ℚ◌, neg_ℚ}
 use Rattle.lq_math.specs.RationalOrder.{◌≤ℚ◌, ◌<ℚ◌}
+use Rattle.lq_linear.specs.declared.bound.Side.{Side}
+use Rattle.lq_linear.specs.declared.bound.Side.TheVariants.{Lower, Upper}
 use Rattle.lq_linear.specs.Row.{Row}
 use Rattle.lq_linear.specs.Forms.{Parts, IsMultiple}
 
-pub data Side : Type 0 where
-  lower : Side
-  upper : Side
-
 abbrev pub other : Side → Side
-other lower = upper
-other upper = lower
+other Lower = Upper
+other Upper = Lower
 
 -- a value keeps to a bound, or breaks it
 abbrev pub Within : Side → ℚ → ℚ → Type 0
-Within lower value bound = bound ≤ℚ value
-Within upper value bound = value ≤ℚ bound
+Within Lower value bound = bound ≤ℚ value
+Within Upper value bound = value ≤ℚ bound
 
 abbrev pub Beyond : Side → ℚ → ℚ → Type 0
-Beyond lower value bound = value <ℚ bound
-Beyond upper value bound = bound <ℚ value
+Beyond Lower value bound = value <ℚ bound
+Beyond Upper value bound = bound <ℚ value
 
 -- so many times the form plus the constant is at most 0: from above where that is a positive multiple, else from below
 abbrev pub BoundsOn : Side → ℤ → Type 0
-BoundsOn lower factor = factor <ℤ pos 0
-BoundsOn upper factor = pos 0 <ℤ factor
+BoundsOn Lower factor = factor <ℤ pos 0
+BoundsOn Upper factor = pos 0 <ℤ factor
 
 -- the row is a multiple of the form, and bounds it on this side, an equation on both, by its negated constant divided by the
 -- multiple: by the constant, negated where the first coefficient is positive, divided by the divisor of the coefficients

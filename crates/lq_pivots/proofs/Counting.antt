@@ -5,7 +5,9 @@ use Rattle.lq_math.specs.Rational.{ℚ}
 use Rattle.lq_math.specs.OrderLaws.{≤ℚ_antisym}
 use Rattle.lq_pivots.specs.Ranges.{one_if, count_below}
 use Rattle.lq_linear.specs.Row.{Row}
-use Rattle.lq_linear.specs.Bounds.{Side, lower, upper, Within}
+use Rattle.lq_linear.specs.declared.bound.Side.{Side}
+use Rattle.lq_linear.specs.declared.bound.Side.TheVariants.{Lower, Upper}
+use Rattle.lq_linear.specs.Bounds.{Within}
 use Rattle.lq_pivots.specs.Rows.{Variables, size, Gives, Breaks}
 use Rattle.lq_pivots.specs.Configurations.{Configuration}
 use Rattle.lq_pivots.specs.Pivots.{IsChain}
@@ -20,8 +22,8 @@ use Rattle.lq_pivots.proofs.Codes.{Place, basis, low, high, start, Code, is_free
 -- what a place says of a variable in a configuration of the chain
 abbrev Says : Variables → List Row → (ℕ → Configuration) → ℕ → Configuration → Place → Type 0
 Says vs standing chain j c basis = c.is_free j ≡ false
-Says vs standing chain j c low = (c.is_free j ≡ true) × Gives vs standing lower j (c.value j)
-Says vs standing chain j c high = (c.is_free j ≡ true) × Gives vs standing upper j (c.value j)
+Says vs standing chain j c low = (c.is_free j ≡ true) × Gives vs standing Lower j (c.value j)
+Says vs standing chain j c high = (c.is_free j ≡ true) × Gives vs standing Upper j (c.value j)
 Says vs standing chain j c start = (c.is_free j ≡ true) × (c.value j ≡ (chain 0).value j)
 
 record IsPlaced (vs : Variables) (standing : List Row) (n : ℕ) (chain : ℕ → Configuration) (i j : ℕ) : Type 0 where
@@ -32,7 +34,7 @@ placed : (vs : Variables) (listed standing : List Row) (n : ℕ) (chain : ℕ �
 placed vs listed standing n chain i j ch = by (free_or_basic (chain i) j) (cases_lt n i) (cases_lt j (size vs))
   where
     stands : (e : (chain i).is_free j ≡ true)
-        → Gives vs standing lower j ((chain i).value j) ⊎ Gives vs standing upper j ((chain i).value j) ⊎ HadAtStart vs chain j (chain i) → IsPlaced vs standing n chain i j
+        → Gives vs standing Lower j ((chain i).value j) ⊎ Gives vs standing Upper j ((chain i).value j) ⊎ HadAtStart vs chain j (chain i) → IsPlaced vs standing n chain i j
     stands e (inl g) = record { place = low; says = λ l m. (e, g) }
     stands e (inr (inl g)) = record { place = high; says = λ l m. (e, g) }
     stands e (inr (inr s)) = record { place = start; says = λ l m. (e, s.1) }
@@ -50,8 +52,8 @@ tight vs rows side j x y g h k l =
     (within_from_not side y x (λ b. l (record { side = side; bound = x; given = g; beyond = b })))
   where
     by : (side : Side) → Within side x y → Within side y x → x ≡ y
-    by lower p q = ≤ℚ_antisym x y q p
-    by upper p q = ≤ℚ_antisym x y p q
+    by Lower p q = ≤ℚ_antisym x y q p
+    by Upper p q = ≤ℚ_antisym x y p q
 
 free_by_place : (vs : Variables) (standing : List Row) (chain : ℕ → Configuration) (j : ℕ) (c : Configuration) (p : Place) → Says vs standing chain j c p → c.is_free j ≡ is_free_at p
 free_by_place vs standing chain j c basis s = s
@@ -62,8 +64,8 @@ free_by_place vs standing chain j c start s = s.0
 value_by_place : (vs : Variables) (standing : List Row) (chain : ℕ → Configuration) (j : ℕ) (c d : Configuration) (p : Place) → Says vs standing chain j c p → Says vs standing chain j d p
     → ¬ Breaks vs standing j (c.value j) → ¬ Breaks vs standing j (d.value j) → c.is_free j ≡ true → c.value j ≡ d.value j
 value_by_place vs standing chain j c d basis s t k l f = absurd (not_both c j f s)
-value_by_place vs standing chain j c d low s t k l f = tight vs standing lower j (c.value j) (d.value j) s.1 t.1 k l
-value_by_place vs standing chain j c d high s t k l f = tight vs standing upper j (c.value j) (d.value j) s.1 t.1 k l
+value_by_place vs standing chain j c d low s t k l f = tight vs standing Lower j (c.value j) (d.value j) s.1 t.1 k l
+value_by_place vs standing chain j c d high s t k l f = tight vs standing Upper j (c.value j) (d.value j) s.1 t.1 k l
 value_by_place vs standing chain j c d start s t k l f = s.1 ∙ sym t.1
 
 code : (vs : Variables) (listed standing : List Row) (n : ℕ) (chain : ℕ → Configuration) → IsChain vs listed standing n chain → ℕ → Code

@@ -6,14 +6,16 @@ use Rattle.lq_math.specs.RationalOrder.{≤ℚ_refl}
 use Rattle.lq_math.specs.Whole.{whole_once, whole_below}
 use Rattle.lq_math.specs.Solver.{var, con, ◌⊕◌, ◌⊖◌, ◌⊗◌, solve}
 use Rattle.lq_linear.specs.Forms.{times}
-use Rattle.lq_linear.specs.Bounds.{Side, lower, upper, Beyond, BoundsOn, Bounds}
+use Rattle.lq_linear.specs.declared.bound.Side.{Side}
+use Rattle.lq_linear.specs.declared.bound.Side.TheVariants.{Lower, Upper}
+use Rattle.lq_linear.specs.Bounds.{Beyond, BoundsOn, Bounds}
 use Rattle.lq_pivots.specs.Rows.{form, Gives, Breaks}
 use Rattle.lq_pivots.specs.Configurations.{Free, Basic, IsCombination, IsConfiguration}
 use Rattle.lq_pivots.specs.Pivots.{Pivot, IsChain}
 use Rattle.lq_pivots.specs.Example.{variables, row, rows, before, after, chain}
 
 -- ---- the row bounds the form alone, from below and by 1
-gives : Gives variables rows lower 2 (whole (pos 1))
+gives : Gives variables rows Lower 2 (whole (pos 1))
 gives = record {
   row = row;
   there = (0, omega arith, refl);
@@ -26,7 +28,7 @@ gives = record {
 }
 
 record IsIt (side : Side) (k : ℕ) (x : ℚ) : Type 0 where
-  side_is : side ≡ lower
+  side_is : side ≡ Lower
   variable_is : k ≡ 2
   value_is : x ≡ whole (pos 1)
 
@@ -52,10 +54,10 @@ bounds_it side k x l b =
           ∙ solve [] (con (pos 0) ⊖ (con (pos 0) ⊖ con (pos 1))) (con (pos 1)) refl;
     }
   where
-    by : (side : Side) → (row.equal ≡ true) ⊎ BoundsOn side b.multiple.factor → side ≡ lower
-    by lower on = refl
-    by upper (inl e) = absurd (cc)
-    by upper (inr above) = let q = one_factor k b.multiple.factor l b.multiple.is in let r : b.multiple.factor ≡ negsuc 0 = q.1 in absurd (omega (arith, ints))
+    by : (side : Side) → (row.equal ≡ true) ⊎ BoundsOn side b.multiple.factor → side ≡ Lower
+    by Lower on = refl
+    by Upper (inl e) = absurd (cc)
+    by Upper (inr above) = let q = one_factor k b.multiple.factor l b.multiple.is in let r : b.multiple.factor ≡ negsuc 0 = q.1 in absurd (omega (arith, ints))
 
 is_it : (side : Side) (k : ℕ) (x : ℚ) → Gives variables rows side k x → IsIt side k x
 is_it side k x g = bounds_it side k x g.inside (subst (λ r. Bounds (form variables k) r side x) (by g.there.0 g.there.1 g.there.2) g.bounds)
@@ -68,7 +70,7 @@ zero_unbounded : (side : Side) (k : ℕ) → Gives variables rows side k (whole 
 zero_unbounded side k g = let q : pos 0 ≡ pos 1 = whole_once (pos 0) (pos 1) (is_it side k (whole (pos 0)) g).value_is in absurd (cc)
 
 abbrev breaks : Breaks variables rows 2 (whole (pos 0))
-breaks = record { side = lower; bound = whole (pos 1); given = gives; beyond = whole_below (pos 0) (pos 1) (omega (arith, ints)) }
+breaks = record { side = Lower; bound = whole (pos 1); given = gives; beyond = whole_below (pos 0) (pos 1) (omega (arith, ints)) }
 
 small_keep : (k : ℕ) (x : ℚ) → k < 2 → Breaks variables rows k x → ⊥
 small_keep k x l b = let q = (is_it b.side k b.bound b.given).variable_is in absurd (omega arith)
@@ -77,8 +79,8 @@ one_keeps : (k : ℕ) → Breaks variables rows k (whole (pos 1)) → ⊥
 one_keeps k b = by b.side (is_it b.side k b.bound b.given) b.beyond
   where
     by : (side : Side) → IsIt side k b.bound → Beyond side (whole (pos 1)) b.bound → ⊥
-    by lower i h = h (subst (λ x. Rattle.lq_math.specs.RationalOrder.◌≤ℚ◌ x (whole (pos 1))) (sym i.value_is) (≤ℚ_refl (whole (pos 1))))
-    by upper i h = absurd (let e : upper ≡ lower = i.side_is in cc)
+    by Lower i h = h (subst (λ x. Rattle.lq_math.specs.RationalOrder.◌≤ℚ◌ x (whole (pos 1))) (sym i.value_is) (≤ℚ_refl (whole (pos 1))))
+    by Upper i h = absurd (let e : Upper ≡ Lower = i.side_is in cc)
 
 -- ---- the two configurations
 abbrev point : ℚ → ℚ → ℕ → ℚ
@@ -141,7 +143,7 @@ once_after zero a b h (suc (suc (suc j))) f = absurd (let l = f.0 in omega arith
 rests_after : (j : ℕ) → Free variables after j → (after.value j ≡ whole (pos 0)) ⊎ ((side : Side) × Gives variables rows side j (after.value j))
 rests_after zero f = absurd (let e = f.1 in cc)
 rests_after (suc zero) f = inl refl
-rests_after (suc (suc zero)) f = inr (lower, gives)
+rests_after (suc (suc zero)) f = inr (Lower, gives)
 rests_after (suc (suc (suc j))) f = absurd (let l = f.0 in omega arith)
 
 valued_after : (k : ℕ) → Basic variables after k → after.value k ≡ Rattle.lq_pivots.specs.Ranges.combine 3 after.is_free (after.entry k) after.value

@@ -2,7 +2,8 @@
 use Rattle.std.proofs.Common.{◌≡◌, ℕ, zero, suc, ◌⊎◌, inl, inr, arith, refl, sym, subst, List}
 use Rattle.lq_math.specs.Rational.{ℚ}
 use Rattle.lq_linear.specs.Row.{Row}
-use Rattle.lq_linear.specs.Bounds.{Side, lower, upper}
+use Rattle.lq_linear.specs.declared.bound.Side.{Side}
+use Rattle.lq_linear.specs.declared.bound.Side.TheVariants.{Lower, Upper}
 use Rattle.lq_pivots.specs.Rows.{Variables, Gives}
 use Rattle.lq_pivots.specs.Configurations.{Configuration, Free}
 use Rattle.lq_pivots.specs.Laws.{AllStand}
@@ -10,11 +11,11 @@ use Rattle.lq_pivots.proofs.Sharing.{free_or_basic}
 use Rattle.lq_pivots.proofs.Steps.{leaving_is, keeps_value}
 
 abbrev Stands : Variables → List Row → (ℕ → Configuration) → ℕ → ℚ → Type 0
-Stands vs standing chain j x = Gives vs standing lower j x ⊎ Gives vs standing upper j x ⊎ (Free vs (chain 0) j × (x ≡ (chain 0).value j))
+Stands vs standing chain j x = Gives vs standing Lower j x ⊎ Gives vs standing Upper j x ⊎ (Free vs (chain 0) j × (x ≡ (chain 0).value j))
 
 by_side : (vs : Variables) (standing : List Row) (chain : ℕ → Configuration) (j : ℕ) (x : ℚ) (side : Side) → Gives vs standing side j x → Stands vs standing chain j x
-by_side vs standing chain j x lower g = inl g
-by_side vs standing chain j x upper g = inr (inl g)
+by_side vs standing chain j x Lower g = inl g
+by_side vs standing chain j x Upper g = inr (inl g)
 
 pub all_stand : AllStand
 all_stand vs listed standing n chain ch zero j h f = inr (inr (f, refl))

@@ -4,7 +4,8 @@ use Rattle.std.proofs.lemmas.Bool.{cases_eq, cases_lt}
 use Rattle.lq_math.specs.Rational.{ℚ, ◌*ℚ◌}
 use Rattle.lq_pivots.specs.Ranges.{only_if, combine}
 use Rattle.lq_linear.specs.Row.{Row}
-use Rattle.lq_linear.specs.Bounds.{Side, other, Within, Beyond}
+use Rattle.lq_linear.specs.declared.bound.Side.{Side}
+use Rattle.lq_linear.specs.Bounds.{other, Within, Beyond}
 use Rattle.lq_pivots.specs.Rows.{Variables, size, Gives}
 use Rattle.lq_pivots.specs.Configurations.{Configuration, Free, Same}
 use Rattle.lq_pivots.specs.Pivots.{moves_to, Pivot, IsChain}

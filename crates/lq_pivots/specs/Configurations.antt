@@ -3,7 +3,7 @@ use Rattle.std.specs.Prelude.{◌≡◌, ℕ, pos, ◌<◌, ◌⊎◌, Bool, tru
 use Rattle.lq_math.specs.Rational.{ℚ, whole}
 use Rattle.lq_pivots.specs.Ranges.{count_below, combine}
 use Rattle.lq_linear.specs.Row.{Row, Valuation}
-use Rattle.lq_linear.specs.Bounds.{Side}
+use Rattle.lq_linear.specs.declared.bound.Side.{Side}
 use Rattle.lq_pivots.specs.Rows.{Variables, size, at, Gives}
 
 -- which variables are free, the combination of free ones that each other one is, and a value for each

@@ -1,7 +1,7 @@
 -- What holds of chains of pivots.
 use Rattle.std.specs.Prelude.{◌≡◌, ℕ, zero, suc, ◌+◌, ◌*◌, ◌^◌, ◌<◌, ◌≤◌, ◌⊎◌, List}
 use Rattle.lq_linear.specs.Row.{Row}
-use Rattle.lq_linear.specs.Bounds.{lower, upper}
+use Rattle.lq_linear.specs.declared.bound.Side.TheVariants.{Lower, Upper}
 use Rattle.lq_pivots.specs.Rows.{Variables, size, Gives}
 use Rattle.lq_pivots.specs.Configurations.{Configuration, Free, Same}
 use Rattle.lq_pivots.specs.Pivots.{IsChain}
@@ -21,7 +21,7 @@ abbrev pub AllStand : Type 0
 AllStand =
     (vs : Variables) (listed standing : List Row) (last : ℕ) (chain : ℕ → Configuration) → IsChain vs listed standing last chain
     → (i j : ℕ) → i ≤ last → Free vs (chain i) j
-    → Gives vs standing lower j ((chain i).value j) ⊎ Gives vs standing upper j ((chain i).value j) ⊎ HadAtStart vs chain j (chain i)
+    → Gives vs standing Lower j ((chain i).value j) ⊎ Gives vs standing Upper j ((chain i).value j) ⊎ HadAtStart vs chain j (chain i)
 
 -- in how many ways k of n things can be chosen
 abbrev pub choose : ℕ → ℕ → ℕ

@@ -3,7 +3,8 @@ use Rattle.std.specs.Prelude.{◌≡◌, ◌≢◌, if◌then◌else◌, ℕ, su
 use Rattle.lq_math.specs.Rational.{ℚ, whole}
 use Rattle.lq_math.specs.OrderLaws.{is_at_most}
 use Rattle.lq_linear.specs.Row.{Row}
-use Rattle.lq_linear.specs.Bounds.{Side, other}
+use Rattle.lq_linear.specs.declared.bound.Side.{Side}
+use Rattle.lq_linear.specs.Bounds.{other}
 use Rattle.lq_pivots.specs.Rows.{Variables, size, Gives, Breaks}
 use Rattle.lq_pivots.specs.Configurations.{Configuration, Free, Basic, IsConfiguration}
 

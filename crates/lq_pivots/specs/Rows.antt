@@ -3,7 +3,8 @@ use Rattle.std.specs.Prelude.{ℕ, ◌<◌, List, [], Contains, length, slice_in
 use Rattle.lq_math.specs.Rational.{ℚ}
 use Rattle.lq_linear.specs.Row.{Row, Valuation, sum_at}
 use Rattle.lq_linear.specs.Forms.{Parts}
-use Rattle.lq_linear.specs.Bounds.{Side, Beyond, Bounds}
+use Rattle.lq_linear.specs.declared.bound.Side.{Side}
+use Rattle.lq_linear.specs.Bounds.{Beyond, Bounds}
 
 -- the variables by their numbers: the terms, as forms of one part, then the rows' forms of two or more terms
 pub record Variables : Type 0 where

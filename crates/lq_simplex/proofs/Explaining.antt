@@ -14,7 +14,7 @@ use Rattle.lq_linear.specs.Contradiction.{Tagged, tagged, IsFair, AllFair, Names
 use Rattle.lq_simplex.specs.declared.line.Entry.{Entry}
 use Rattle.lq_simplex.specs.declared.row.Bound.{Bound}
 use Rattle.lq_simplex.specs.declared.row.Standing.{Standing}
-use Rattle.lq_simplex.specs.declared.limits.Side.{Side}
+use Rattle.lq_linear.specs.declared.bound.Side.{Side}
 use Rattle.lq_simplex.specs.declared.limits.Limit.{Limit}
 use Rattle.lq_simplex.specs.declared.limits.Broken.{Broken}
 use Rattle.lq_simplex.specs.Lines.{combine, AscendsFrom, IsLine}

@@ -6,8 +6,8 @@ use Rattle.lq_num.specs.Value.{value_of}
 use Rattle.lq_linear.specs.Forms.{Parts}
 use Rattle.lq_linear.specs.Steps.{valuation_of}
 use Rattle.lq_simplex.specs.declared.line.Entry.{Entry}
-use Rattle.lq_simplex.specs.declared.limits.Side.{Side}
-use Rattle.lq_simplex.specs.declared.limits.Side.TheVariants.{Lower, Upper}
+use Rattle.lq_linear.specs.declared.bound.Side.{Side}
+use Rattle.lq_linear.specs.declared.bound.Side.TheVariants.{Lower, Upper}
 use Rattle.lq_simplex.specs.declared.limits.Limit.{Limit}
 use Rattle.lq_simplex.specs.declared.limits.Broken.{Broken}
 use Rattle.lq_simplex.specs.Lines.{owns, factor_of, unit, IsLine}

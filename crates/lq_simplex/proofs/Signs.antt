@@ -9,8 +9,8 @@ use Rattle.lq_math.specs.OrderLaws.{≤ℚ_sum, ≤ℚ_from_below, ≤ℚ_from_s
 use Rattle.lq_math.specs.Whole.{whole_below}
 use Rattle.lq_math.specs.Solver.{var, con, ◌⊕◌, ◌⊖◌, ◌⊗◌, solve}
 use Rattle.lq_simplex.specs.declared.row.Bound.{Bound}
-use Rattle.lq_simplex.specs.declared.limits.Side.{Side}
-use Rattle.lq_simplex.specs.declared.limits.Side.TheVariants.{Lower, Upper}
+use Rattle.lq_linear.specs.declared.bound.Side.{Side}
+use Rattle.lq_linear.specs.declared.bound.Side.TheVariants.{Lower, Upper}
 use Rattle.lq_simplex.specs.Standing.{signed, scale_of}
 use Rattle.lq_simplex.specs.Bounds.{other, Within, Beyond, IsOn, blocking_of}
 use Rattle.lq_simplex.specs.Conflicts.{toward, negates}

@@ -8,23 +8,11 @@ use Rattle.lq_linear.specs.Row.{Valuation}
 use Rattle.lq_simplex.specs.declared.line.Entry.{Entry}
 use Rattle.lq_simplex.specs.declared.row.Bound.{Bound}
 use Rattle.lq_simplex.specs.declared.row.Standing.{Standing}
-use Rattle.lq_simplex.specs.declared.limits.Side.{Side}
-use Rattle.lq_simplex.specs.declared.limits.Side.TheVariants.{Lower, Upper}
+use Rattle.lq_linear.specs.declared.bound.Side.{Side}
+use Rattle.lq_linear.specs.declared.bound.Side.TheVariants.{Lower, Upper}
+pub use Rattle.lq_linear.specs.Bounds.{other, Within, Beyond}
 use Rattle.lq_simplex.specs.declared.limits.Limit.{Limit}
 use Rattle.lq_simplex.specs.declared.limits.Broken.{Broken}
-
-abbrev pub other : Side → Side
-other Lower = Upper
-other Upper = Lower
-
--- a value keeps to a bound, or breaks it
-abbrev pub Within : Side → ℚ → ℚ → Type 0
-Within Lower value bound = bound ≤ℚ value
-Within Upper value bound = value ≤ℚ bound
-
-abbrev pub Beyond : Side → ℚ → ℚ → Type 0
-Beyond Lower value bound = value <ℚ bound
-Beyond Upper value bound = bound <ℚ value
 
 -- a row bounds its variable on this side
 abbrev pub IsOn : Side → Bool → Bool → Type 0

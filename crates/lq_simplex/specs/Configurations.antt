@@ -7,7 +7,7 @@ use Rattle.lq_linear.specs.Steps.{valuation_of}
 use Rattle.lq_simplex.specs.declared.line.Entry.{Entry}
 use Rattle.lq_simplex.specs.declared.row.Bound.{Bound}
 use Rattle.lq_simplex.specs.declared.row.Standing.{Standing}
-use Rattle.lq_simplex.specs.declared.limits.Side.{Side}
+use Rattle.lq_linear.specs.declared.bound.Side.{Side}
 use Rattle.lq_simplex.specs.declared.limits.Limit.{Limit}
 use Rattle.lq_simplex.specs.Lines.{combine}
 use Rattle.lq_linear.specs.Forms.{Parts, IsNormal, AreMultiples}

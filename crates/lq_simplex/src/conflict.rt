@@ -10,9 +10,10 @@ ghost use Rattle.lq_simplex.specs.Standing.{scale_of, standing_of, multipliers_o
 ghost use Rattle.lq_simplex.specs.Conflicts.{toward, negates, Names, IsKept};
 
 use crate::error::TableauError;
-use crate::limits::{Broken, Limit, Limits, Side, blocking, opposite};
+use crate::limits::{Broken, Limit, Limits, blocking, opposite};
 use crate::line::Entry;
 use crate::row::{Bound, Standing};
+use lq_linear::Side;
 use lq_num::{Frac, NumberPast};
 use std::alloc::Global;
 

@@ -7,23 +7,17 @@ ghost use Rattle.lq_linear.specs.Steps.{valuation_of};
 ghost use Rattle.lq_simplex.specs.Standing.{BoundsBelow};
 ghost use Rattle.lq_simplex.specs.Lines.{VariablesBelow};
 ghost use Rattle.lq_simplex.specs.Bounds.{other, Within, Beyond, IsOn, limit_in, limit_at, bound_value, AreUncrossed, AreTightest, IsAdmitted, Keeps, Breaks, blocking_of, IsBlocked, AllBlocked};
-ghost use Rattle.lq_simplex.specs.declared.limits.Side.{Side};
-ghost use Rattle.lq_simplex.specs.declared.limits.Side.TheVariants.{Lower, Upper};
+ghost use Rattle.lq_linear.specs.declared.bound.Side.{Side};
+ghost use Rattle.lq_linear.specs.declared.bound.Side.TheVariants.{Lower, Upper};
 ghost use Rattle.lq_simplex.specs.declared.limits.Limit.{Limit};
 
 use crate::line::Entry;
 use crate::row::{Bound, Standing};
+use lq_linear::Side;
 use lq_num::Frac;
 use std::alloc::{AllocError, Global};
 use std::cmp::Ordering;
 use std::marker::Model;
-
-/// The side from which a bound limits.
-#[derive(Clone, Copy)]
-pub(crate) enum Side {
-    Lower,
-    Upper,
-}
 
 /// A bound, and the place of the row that gives it.
 #[derive(Clone, Copy)]

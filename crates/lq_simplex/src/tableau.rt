@@ -318,8 +318,10 @@ impl LinearEngine for Tableau {
     }
 
     fn check(&mut self) -> Result<Verdict, LinearStop> {
-        if self.contradicted() {
-            return Ok(Verdict::Conflict);
+        match self.answer {
+            Answer::Contradicted => return Ok(Verdict::Conflict),
+            Answer::Solved => return Ok(Verdict::Holds),
+            Answer::Unasked | Answer::GaveUp => {}
         }
         match decide(self.alloc, &mut self.basis, &self.rows, self.limit) {
             Ok(None) => {

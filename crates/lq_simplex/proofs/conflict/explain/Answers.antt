@@ -2,7 +2,7 @@ use Rattle.std.proofs.Common.{◌≡◌, ◌∙◌, ◌+◌, ◌++◌, ◌∷◌
 use Rattle.lq_simplex.specs.declared.line.Entry.{Entry}
 use Rattle.lq_num.specs.declared.frac.Frac.{Frac}
 use Rattle.lq_num.specs.Value.{value_of}
-use Rattle.lq_simplex.specs.declared.limits.Side.{Side}
+use Rattle.lq_linear.specs.declared.bound.Side.{Side}
 use Rattle.lq_simplex.specs.Bounds.{limit_at, blocking_of}
 use Rattle.lq_simplex.proofs.Limiting.{blocked_at}
 use Rattle.lq_simplex.proofs.Explaining.{Explained, explained_start, explained_step, explained_end, given_some, limit_names, limit_divides, own_limit}

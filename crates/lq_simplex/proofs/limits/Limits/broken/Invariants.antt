@@ -1,6 +1,6 @@
 use Rattle.std.proofs.Common.{ℕ, ◌<◌}
 use Rattle.lq_linear.specs.Steps.{valuation_of}
-use Rattle.lq_simplex.specs.declared.limits.Side.{Side}
+use Rattle.lq_linear.specs.declared.bound.Side.{Side}
 use Rattle.lq_simplex.specs.Bounds.{Keeps, limit_at}
 use Rattle.lq_simplex.proofs.limits.Limits.broken.Given as goal
 

@@ -1,5 +1,5 @@
 use Rattle.std.proofs.Common.{◌∙◌, sym, ap}
-use Rattle.lq_simplex.specs.declared.limits.Side.TheVariants.{Upper}
+use Rattle.lq_linear.specs.declared.bound.Side.TheVariants.{Upper}
 use Rattle.lq_simplex.specs.Bounds.{limit_at}
 use Rattle.lq_simplex.proofs.limits.Limits.crossed.Goals as goal
 

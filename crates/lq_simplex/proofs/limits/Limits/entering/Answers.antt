@@ -2,7 +2,7 @@ use Rattle.std.proofs.Common.{◌≡◌, ◌∙◌, ◌<◌, ◌+◌, ◌++◌, 
 use Rattle.std.proofs.lemmas.List.{take_more}
 use Rattle.lq_linear.specs.Steps.{valuation_of}
 use Rattle.lq_simplex.specs.declared.line.Entry.{Entry}
-use Rattle.lq_simplex.specs.declared.limits.Side.{Side}
+use Rattle.lq_linear.specs.declared.bound.Side.{Side}
 use Rattle.lq_simplex.specs.Bounds.{limit_at, AllBlocked}
 use Rattle.lq_simplex.proofs.Limiting.{variables_below, blocked_push}
 use Rattle.lq_simplex.proofs.Values.{there, value_there}
