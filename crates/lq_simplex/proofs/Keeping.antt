@@ -1,6 +1,6 @@
 -- What is free keeps to its bounds, through shifts and pivots; and what is free is known by its line.
-use Rattle.std.proofs.Common.{◌≡◌, ◌≢◌, ℕ, ◌+◌, ◌<◌, ◌⊎◌, inl, inr, arith, refl, sym, ap, subst, ◌∙◌, Bool, true, false, ◌==◌, eq-eqb, eqb-true, List, [], ◌∷◌, Option, Some, None, slice_get, get_or, length, ◌≤◌}
-use Rattle.lq_math.specs.Rational.{ℚ, whole}
+use Rattle.std.proofs.Common.{◌≡◌, ◌≢◌, ℕ, ◌+◌, ◌<◌, inl, inr, arith, refl, sym, ap, subst, ◌∙◌, true, eq-eqb, eqb-true, List, [], ◌∷◌, Option, Some, None, slice_get, get_or, length, ◌≤◌}
+use Rattle.lq_math.specs.Rational.{ℚ}
 use Rattle.lq_num.specs.declared.frac.Frac.{Frac}
 use Rattle.lq_num.specs.Value.{value_of}
 use Rattle.lq_linear.specs.Forms.{Parts}
@@ -12,7 +12,7 @@ use Rattle.lq_simplex.specs.declared.limits.Limit.{Limit}
 use Rattle.lq_simplex.specs.declared.limits.Broken.{Broken}
 use Rattle.lq_simplex.specs.Lines.{owns, factor_of, unit, IsLine}
 use Rattle.lq_simplex.specs.Systems.{System, line_at, IsFree, AreLines, IsSystem}
-use Rattle.lq_simplex.specs.Bounds.{Within, Tightest, limit_at, bound_value, IsUncrossed, AreUncrossed, Keeps, Breaks}
+use Rattle.lq_simplex.specs.Bounds.{Within, Tightest, limit_at, bound_value, IsUncrossed, Keeps, Breaks}
 use Rattle.lq_simplex.specs.Configurations.{FreeKeep, Brings, IsAtLimit}
 use Rattle.lq_simplex.proofs.Combinations.{one_apart, eq_or, entry_is, unit_here, unit_elsewhere}
 use Rattle.lq_simplex.proofs.Limiting.{within_refl, beyond_not_within}

@@ -1,7 +1,7 @@
 -- The tightest bounds of variables.
 use Rattle.std.specs.Prelude.{◌≡◌, if◌then◌else◌, ℕ, pos, ◌<◌, ◌⊎◌, Bool, true, false, List, [], ◌∷◌, Option, Some, None, slice_get, slice_index_or, IfSome}
 use Rattle.lq_math.specs.Rational.{ℚ, whole}
-use Rattle.lq_math.specs.RationalOrder.{◌≤ℚ◌, ◌<ℚ◌}
+use Rattle.lq_math.specs.RationalOrder.{◌≤ℚ◌}
 use Rattle.lq_math.specs.OrderLaws.{is_at_most}
 use Rattle.lq_num.specs.Value.{value_of}
 use Rattle.lq_linear.specs.Row.{Valuation}

@@ -1,8 +1,6 @@
-use Rattle.std.proofs.Common.{◌≡◌, ◌<◌, ◌≤◌, ◌∙◌, length, arith, sym, ap, Bool, true, false, cond}
+use Rattle.std.proofs.Common.{◌<◌, ◌≤◌, ◌∙◌, length, arith, sym}
 use mathlib.Core.Bool.{true≢false}
 use Rattle.lq_num.specs.Value.{value_of}
-use Rattle.lq_linear.specs.Steps.{valuation_of}
-use Rattle.lq_simplex.specs.Systems.{IsFree}
 use Rattle.lq_simplex.proofs.Resting.{settle_step}
 use Rattle.lq_simplex.proofs.Keeping.{below_step, below_free, below_bound, keep_all, value_read}
 use Rattle.lq_simplex.proofs.tableau.settle.Goals as goal

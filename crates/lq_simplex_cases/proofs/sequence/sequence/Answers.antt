@@ -1,6 +1,4 @@
-use Rattle.std.proofs.Common.{◌∙◌, ◌≤◌, length, sym, ap, subst}
-use Rattle.std.specs.List.{All}
-use Rattle.lq_simplex_cases.specs.Numbered.{IsTaken}
+use Rattle.std.proofs.Common.{◌∙◌, length, ap}
 use Rattle.lq_simplex_cases.proofs.sequence.sequence.Goals as goal
 
 pub loop-preserved : goal.loop-preserved

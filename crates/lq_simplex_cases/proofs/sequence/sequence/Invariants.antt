@@ -1,4 +1,4 @@
-use Rattle.std.proofs.Common.{◌≡◌, ◌≤◌, length}
+use Rattle.std.proofs.Common.{◌≡◌, length}
 use Rattle.std.specs.List.{All}
 use Rattle.lq_simplex.specs.Table.{table_rows}
 use Rattle.lq_simplex_cases.specs.Numbered.{IsKept, IsTaken}

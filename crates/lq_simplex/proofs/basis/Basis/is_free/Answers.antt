@@ -1,6 +1,6 @@
-use Rattle.std.proofs.Common.{◌≡◌, ◌<◌, ◌∙◌, sym, ap, subst, length, arith, []}
+use Rattle.std.proofs.Common.{◌<◌, ◌∙◌, sym, ap, subst, length, arith, []}
 use Rattle.lq_simplex.specs.Lines.{owns}
-use Rattle.lq_simplex.specs.Systems.{System, line_at, IsFree}
+use Rattle.lq_simplex.specs.Systems.{System, IsFree}
 use Rattle.lq_simplex.proofs.Values.{element}
 use Rattle.lq_simplex.proofs.Keeping.{owns_free, free_owns}
 use Rattle.lq_simplex.proofs.basis.Basis.is_free.Goals as goal
