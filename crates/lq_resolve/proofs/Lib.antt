@@ -1,0 +1,6 @@
+mod Building
+mod Items
+mod PatternRows
+mod Running
+mod Stacks
+mod Tuples

@@ -1,0 +1,27 @@
+use Rattle.std.proofs.Common.{◌≡◌, [], Ok, sym, ap, ◌∙◌}
+use Rattle.lq_name.specs.declared.name.Name.{Name}
+use Rattle.lq_walk.specs.Pending.{left}
+use Rattle.lq_walk.specs.Visits.{visits_of_items}
+use Rattle.lq_resolve.specs.Machine.{first_machine, run}
+use Rattle.lq_resolve.specs.States.{machine_of}
+use Rattle.lq_tree.specs.Texts.{program_view}
+use Rattle.lq_resolve.proofs.Items.{bound_tree, program_runs}
+use Rattle.lq_resolve.proofs.program.bind_program.Goals as goal
+
+pub loop-walk-init : goal.loop-walk-init
+loop-walk-init c =
+    let names = c.args.names.now in (
+      ap (λ m. run names m (left Name (λ n. n.0) c.in_ok-walk.walk)) c.in_ok-resolver.ensures.machine
+          ∙ ap (run names first_machine) (c.in_ok-walk.ensures ∙ ap visits_of_items c.items.ensures.items),
+      c.in_ok-resolver.ensures.names,
+    )
+
+pub returns : goal.returns
+returns c =
+    let names = c.args.names.now in
+    let before = c.loop-walk.invariant.0 in
+    let m = machine_of c.loop-walk.resolver in
+    let none = c.in_default.is in
+    let over : left Name (λ n. n.0) c.loop-walk.walk ≡ [] = c.next.ensures.over (c.in_ok-visit.was ∙ ap Ok none) in
+    let is : m ≡ run names first_machine (visits_of_items (program_view c.args.program.now)) = sym (ap (run names m) over) ∙ before in
+    ap (λ k. bound_tree k.items k.sources) is ∙ program_runs names (program_view c.args.program.now)

@@ -1,0 +1,14 @@
+//! Programs with their names bound: each use gets the binder of its definition, and primitives become nodes of their own.
+#![tactic(auto)]
+
+mod binding;
+mod nodes;
+mod parameters;
+mod pass;
+mod patterns;
+mod primitives;
+mod program;
+mod resolver;
+mod values;
+
+pub use program::{Bound, bind_program};

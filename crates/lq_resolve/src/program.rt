@@ -1,0 +1,66 @@
+// Whole programs.
+ghost use Rattle.std.specs.Prelude.{◌≡◌, IfOk};
+ghost use Rattle.lq_tree.specs.Texts.{program_view};
+ghost use Rattle.lq_resolve.specs.Machine.{first_machine};
+ghost use Rattle.lq_resolve.specs.Making.{program_made};
+ghost use Rattle.lq_resolve.specs.States.{machine_of};
+ghost use Rattle.lq_resolve.specs.Whole.{bound_view};
+
+use crate::resolver::Resolver;
+use lq_name::{Binder, Name, NameTable};
+use lq_scope::{Scope, first_constructors};
+use lq_tree::{Item, Program};
+use lq_walk::Walk;
+use std::alloc::{AllocError, Global};
+
+/// The definitions of a program with their names bound, and the source name of each binder.
+#[derive(Drop)]
+pub struct Bound {
+    pub items: Vec<Item<Binder>>,
+    /// A binder that was made for a parameter has no source name.
+    pub sources: Vec<Option<Name>>,
+}
+
+impl<'a> Resolver<'a> {
+    fn new(alloc: Global, names: &'a NameTable) -> Result<Resolver<'a>, AllocError>
+        ensures machine { IfOk result (λ r. machine_of r ≡ first_machine) }
+        ensures names { IfOk result (λ r. r.names.now ≡ names.now) }
+    {
+        Ok(Resolver {
+            alloc,
+            names,
+            variables: Scope::new(alloc),
+            constructors: first_constructors(alloc)?,
+            next: 0,
+            sources: Vec::new(alloc),
+            starts: Vec::new(alloc),
+            values: Vec::new(alloc),
+            taking: false,
+            items: Vec::new(alloc),
+            bindings: Vec::new(alloc),
+        })
+    }
+}
+
+/// The definitions of a program with their names bound, in time linear in the program.
+///
+/// Each use gets the binder of its nearest definition, a primitive with all its arguments becomes a node of its own, and the
+/// arguments of a constructor stand apart. Nodes are numbered as they end, binders as they stand in the text. Where there are more
+/// nodes or binders than u32 numbers, it answers that there is no memory.
+pub fn bind_program(
+    alloc: Global,
+    program: &Program,
+    names: &NameTable,
+) -> Result<Bound, AllocError>
+    ensures { IfOk result (λ b. bound_view b ≡ program_made names.now (program_view program.now)) }
+{
+    let mut resolver = Resolver::new(alloc, names)?;
+    let mut walk = Walk::of_items(alloc, program.items())?;
+    while let Some(visit) = walk.next()? {
+        resolver.visit(visit)?;
+    }
+    Ok(Bound {
+        items: resolver.items,
+        sources: resolver.sources,
+    })
+}
