@@ -1,0 +1,4 @@
+mod Defining
+mod Rows
+mod Stacks
+mod Working
