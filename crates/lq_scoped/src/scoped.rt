@@ -5,14 +5,15 @@ ghost use Rattle.lq_scoped.specs.Views.{data_view, scoped_items, source_view};
 
 use crate::datatype::DataType;
 use lq_name::{Binder, Name};
-use lq_tree::Item;
+use lq_tree::{Item, drop_items};
 
 /// A program whose names are bound.
 ///
 /// Its nodes are numbered 0, 1, .. as they end, parts before the whole, over all items in their order; its binders 0, 1, .. in the
 /// order of the text. The function of a `let rec` is a node. A parameter that is written as a tuple is a binder without a source
 /// name, and the function's body a match on it, so that match and what it matches are nodes too.
-#[derive(Drop)]
+///
+/// It is dropped by a loop down first parts, so the stack that this takes grows with the levels of the text alone.
 pub struct Scoped {
     items: Vec<Item<Binder>>,
     datatypes: Vec<DataType>,
@@ -70,5 +71,16 @@ impl Scoped {
         ensures { slice_get (scoped_view self.now).sources binder.0 ≡ Some (source_view result) }
     {
         self.sources[binder.0 as usize]
+    }
+}
+
+impl Drop for Scoped {
+    fn drop(self) {
+        let Scoped {
+            items,
+            datatypes: _datatypes,
+            sources: _sources,
+        } = self;
+        drop_items(items);
     }
 }

@@ -3,6 +3,7 @@
 
 mod copy;
 mod depth;
+mod dropping;
 mod expr;
 mod free_names;
 mod item;
@@ -15,6 +16,7 @@ mod rows;
 mod simple_type;
 mod type_expr;
 
+pub use dropping::{drop_items, drop_tree};
 pub use expr::{Arguments, Arm, Arms, Expr, Exprs, Function, Node};
 pub use item::{Constructor, Item, ItemNode, TypeDefinition, TypeParameter};
 pub use lq_name::{

@@ -4,11 +4,13 @@ ghost use Rattle.lq_tree.specs.Items.{parsed_items};
 ghost use Rattle.lq_tree.specs.Levels.{items_nesting};
 ghost use Rattle.lq_name.specs.declared.limits.TheConstants.{LEVEL_LIMIT};
 
+use crate::dropping::drop_items;
 use crate::item::Item;
 use lq_name::Name;
 
 /// A parsed program: its items in order. No tree of it nests deeper than the limit of levels.
-#[derive(Drop)]
+///
+/// It is dropped by a loop down first parts, so the stack that this takes grows with the levels alone.
 pub struct Program {
     items: Vec<Item<Name>>,
     ghost shallow: { items_nesting (parsed_items items.items) ≤ LEVEL_LIMIT },
@@ -30,5 +32,12 @@ impl Program {
         ensures shallow { items_nesting (program_view self.now) ≤ LEVEL_LIMIT }
     {
         &self.items
+    }
+}
+
+impl Drop for Program {
+    fn drop(self) {
+        let Program { items } = self;
+        drop_items(items);
     }
 }
