@@ -3,3 +3,4 @@ pub mod TreeView
 pub mod Path
 pub mod Met
 pub mod Proves
+pub mod Examples

@@ -8,10 +8,12 @@ ghost use Rattle.lq_pred.specs.Reading.{Reading, reading_of};
 ghost use Rattle.lq_pred.specs.RowMeaning.{AgreesOn, MeetsRows};
 ghost use Rattle.lq_pred.specs.Sum.{Sum};
 ghost use Rattle.lq_pred.specs.Table.{all_differ};
+ghost use Rattle.lq_combine.specs.Examples.{IsProvedBy, both, both_path, both_tree, itself, itself_path};
 ghost use Rattle.lq_combine.specs.Met.{MeetsPath, EachAgree};
 ghost use Rattle.lq_combine.specs.Path.{Path, taken, IsOpening};
 ghost use Rattle.lq_combine.specs.Proves.{Numbering, Proves};
-ghost use Rattle.lq_combine.specs.Tree.{Tree};
+ghost use Rattle.lq_combine.specs.Tree.{Tree, flags, leaf};
+ghost use Rattle.lq_pred.specs.declared.symbol.Symbol.{Symbol};
 
 use lq_linear::conflict_or_point;
 use lq_pred::rows_say_what_comparisons_say;
@@ -42,3 +44,9 @@ pub fn proved_implications_are_valid()
     proved_paths_have_no_point();
     rows_say_what_comparisons_say();
 }
+
+/// Small implications with the trees that prove them.
+pub fn examples()
+    ensures itself { (x : Symbol) → IsProvedBy (itself x) (itself_path x) (leaf (flags 1 2)) }
+    ensures both { (x y : Symbol) → IsProvedBy (both x y) (both_path x y) both_tree }
+{}

@@ -4,5 +4,5 @@
 mod laws;
 mod tree;
 
-pub use laws::{proved_implications_are_valid, proved_paths_have_no_point};
+pub use laws::{examples, proved_implications_are_valid, proved_paths_have_no_point};
 pub use tree::{CaseProof, Multipliers, ProofTree, Tags, Trees};

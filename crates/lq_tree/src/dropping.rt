@@ -2,10 +2,9 @@
 use crate::expr::{Arms, Expr, Exprs, Function, Node};
 use crate::item::{Item, ItemNode};
 
-/// Drops a tree. The derived drop of `Expr` calls itself for each level, also down first parts, of which a text can nest more than a
-/// stack holds. This one goes down first parts by a loop and calls itself for the other parts, which nest no deeper than the text.
+// Drops a tree: down first parts by a loop, and by itself for the other parts, which nest no deeper than the text.
 #[cycle(drop_tree)]
-pub fn drop_tree<B: Drop>(mut left: Expr<B>) {
+fn drop_tree<B: Drop>(mut left: Expr<B>) {
     loop {
         let Expr {
             id: _id,
@@ -87,7 +86,8 @@ fn drop_arms<B: Drop>(arms: Arms<B>) {
     }
 }
 
-/// Drops items, their trees as `drop_tree` does.
+/// Drops items. The derived drop of `Expr` calls itself for each level, also down first parts, of which a text can nest more than a
+/// stack holds; this goes down first parts by a loop.
 pub fn drop_items<B: Drop>(items: Vec<Item<B>>) {
     for item in items {
         match item.node {

@@ -16,7 +16,7 @@ mod rows;
 mod simple_type;
 mod type_expr;
 
-pub use dropping::{drop_items, drop_tree};
+pub use dropping::drop_items;
 pub use expr::{Arguments, Arm, Arms, Expr, Exprs, Function, Node};
 pub use item::{Constructor, Item, ItemNode, TypeDefinition, TypeParameter};
 pub use lq_name::{

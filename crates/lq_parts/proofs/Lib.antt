@@ -1,0 +1,4 @@
+pub mod Restricting
+pub mod Replacing
+pub mod Values
+pub mod Flows

@@ -1,0 +1,29 @@
+// Laws of the definitions. Nothing is run.
+ghost use Rattle.lq_parts.specs.Flowing.{FailingRefutes, FlowingIsStrongest, FlowingSolves, LargestExists, UnionMeets};
+ghost use Rattle.lq_parts.specs.Laws.{FormulaAfter, PartsAfter, UnderBy};
+ghost use Rattle.lq_parts.specs.Values.{TruthBy};
+
+/// Two substitutions one after the other are one, and an assignment of instances commutes with a substitution.
+pub fn substitutions()
+    ensures formulas { FormulaAfter }
+    ensures parts { PartsAfter }
+    ensures under { UnderBy }
+{}
+
+/// A predicate with something put for its names is true exactly where it is true under the values of that.
+pub fn truth_under_substitution()
+    ensures { TruthBy }
+{}
+
+/// What two choices of instances make valid among the flows their union does, so of any choices one holds each that does. Where any
+/// choice makes all implications valid, the greatest one of the flows is the strongest solution, and a demand that isn't valid under
+/// it leaves none.
+///
+/// These are the fixed point and its use of Rondon, Kawaguchi and Jhala (PLDI 2008).
+pub fn unions_of_choices()
+    ensures union { UnionMeets }
+    ensures largest { LargestExists }
+    ensures solves { FlowingSolves }
+    ensures strongest { FlowingIsStrongest }
+    ensures refutes { FailingRefutes }
+{}

@@ -1,0 +1,6 @@
+//! Parts of refinements: predicates and unknowns, what is put for their names, and assignments of instances to unknowns.
+#![tactic(auto)]
+
+mod laws;
+
+pub use laws::{substitutions, truth_under_substitution, unions_of_choices};

@@ -1,0 +1,6 @@
+//! Refined types and their operations: definitions and laws.
+#![tactic(auto)]
+
+mod laws;
+
+pub use laws::{chains_of_substitutions, simple_types_are_kept};
