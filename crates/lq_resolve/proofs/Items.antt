@@ -82,3 +82,7 @@ module _ (names : List (List ℕ)) where
   -- a whole program
   pub program_runs : (is : List ItemTree) → (let m = run names first_machine (visits_of_items is) in bound_tree m.items m.sources) ≡ program_made names is
   program_runs is = ap (λ (x : Items_made). bound_tree x.items x.sources) (all_run is first_frame 0 [] [] [] [] false)
+
+  -- and the number of the node behind its last
+  pub program_next : (is : List ItemTree) → (run names first_machine (visits_of_items is)).next ≡ (items_made names first_frame 0 [] is).next
+  program_next is = ap (λ (x : Items_made). x.next) (all_run is first_frame 0 [] [] [] [] false)

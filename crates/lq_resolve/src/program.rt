@@ -1,10 +1,10 @@
 // Whole programs.
-ghost use Rattle.std.specs.Prelude.{◌≡◌, IfOk};
+ghost use Rattle.std.specs.Prelude.{◌≡◌, ◌<◌, ◌^◌, IfOk};
 ghost use Rattle.lq_tree.specs.Texts.{program_view};
 ghost use Rattle.lq_resolve.specs.Machine.{first_machine};
 ghost use Rattle.lq_resolve.specs.Making.{program_made};
 ghost use Rattle.lq_resolve.specs.States.{machine_of};
-ghost use Rattle.lq_resolve.specs.Whole.{bound_view};
+ghost use Rattle.lq_resolve.specs.Whole.{bound_view, nodes_made};
 
 use crate::resolver::Resolver;
 use lq_name::{Binder, Name, NameTable};
@@ -42,6 +42,11 @@ impl<'a> Resolver<'a> {
     }
 }
 
+// A number of 32 bits.
+fn fits(number: u32)
+    ensures { number < 2 ^ 32 }
+{}
+
 /// The definitions of a program with their names bound, in time linear in the program.
 ///
 /// Each use gets the binder of its nearest definition, a primitive with all its arguments becomes a node of its own, and the
@@ -52,13 +57,15 @@ pub fn bind_program(
     program: &Program,
     names: &NameTable,
 ) -> Result<Bound, AllocError>
-    ensures { IfOk result (λ b. bound_view b ≡ program_made names.now (program_view program.now)) }
+    ensures bound { IfOk result (λ b. bound_view b ≡ program_made names.now (program_view program.now)) }
+    ensures few { IfOk result (λ _. nodes_made names.now (program_view program.now) < 2 ^ 32) }
 {
     let mut resolver = Resolver::new(alloc, names)?;
     let mut walk = Walk::of_items(alloc, program.items())?;
     while let Some(visit) = walk.next()? {
         resolver.visit(visit)?;
     }
+    fits(resolver.next);
     Ok(Bound {
         items: resolver.items,
         sources: resolver.sources,

@@ -1,11 +1,11 @@
-use Rattle.std.proofs.Common.{◌≡◌, [], Ok, sym, ap, ◌∙◌}
+use Rattle.std.proofs.Common.{◌≡◌, ◌<◌, ◌^◌, [], Ok, sym, ap, subst, ◌∙◌}
 use Rattle.lq_name.specs.declared.name.Name.{Name}
 use Rattle.lq_walk.specs.Pending.{left}
 use Rattle.lq_walk.specs.Visits.{visits_of_items}
 use Rattle.lq_resolve.specs.Machine.{first_machine, run}
 use Rattle.lq_resolve.specs.States.{machine_of}
 use Rattle.lq_tree.specs.Texts.{program_view}
-use Rattle.lq_resolve.proofs.Items.{bound_tree, program_runs}
+use Rattle.lq_resolve.proofs.Items.{bound_tree, program_next, program_runs}
 use Rattle.lq_resolve.proofs.program.bind_program.Goals as goal
 
 pub loop-walk-init : goal.loop-walk-init
@@ -16,8 +16,8 @@ loop-walk-init c =
       c.in_ok-resolver.ensures.names,
     )
 
-pub returns : goal.returns
-returns c =
+pub returns-clause-bound : goal.returns-clause-bound
+returns-clause-bound c =
     let names = c.args.names.now in
     let before = c.loop-walk.invariant.0 in
     let m = machine_of c.loop-walk.resolver in
@@ -25,3 +25,14 @@ returns c =
     let over : left Name (λ n. n.0) c.loop-walk.walk ≡ [] = c.next.ensures.over (c.in_ok-visit.was ∙ ap Ok none) in
     let is : m ≡ run names first_machine (visits_of_items (program_view c.args.program.now)) = sym (ap (run names m) over) ∙ before in
     ap (λ k. bound_tree k.items k.sources) is ∙ program_runs names (program_view c.args.program.now)
+
+pub returns-clause-few : goal.returns-clause-few
+returns-clause-few c =
+    let names = c.args.names.now in
+    let before = c.loop-walk.invariant.0 in
+    let m = machine_of c.loop-walk.resolver in
+    let none = c.in_default.is in
+    let over : left Name (λ n. n.0) c.loop-walk.walk ≡ [] = c.next.ensures.over (c.in_ok-visit.was ∙ ap Ok none) in
+    let is : m ≡ run names first_machine (visits_of_items (program_view c.args.program.now)) = sym (ap (run names m) over) ∙ before in
+    let same = ap (λ k. k.next) is ∙ program_next names (program_view c.args.program.now) in
+    subst (λ n. n < 2 ^ 32) same c.fits.ensures

@@ -1,0 +1,9 @@
+mod Determined
+mod Fitting
+mod Nodes
+mod Programs
+mod Resolutions
+mod Resolving
+mod Samples
+mod Spanning
+mod Taking

@@ -1,0 +1,82 @@
+// Programs and what they resolve to.
+ghost use Rattle.std.specs.Prelude.{◌≡◌, ◌⊎◌, [], Some, Err, IfOk, IfErr};
+ghost use Rattle.lq_tree.specs.Texts.{program_view};
+ghost use Rattle.lq_scope.specs.Uses.{of_program};
+ghost use Rattle.lq_scoped.specs.Whole.{scoped_view};
+ghost use Rattle.lq_resolved.specs.Resolution.{Resolution, IsResolution, resolved, scoping_of};
+ghost use Rattle.lq_resolved.specs.Views.{answer_view, error_view};
+ghost use Rattle.lq_resolved.specs.declared.program.ResolveError.TheVariants.{Memory};
+
+use crate::laws::{bound_programs_are_scoped, one_resolution};
+use crate::places::have_places;
+use lq_datatypes::datatypes_of;
+use lq_name::NameTable;
+use lq_resolve::{Bound, bind_program};
+use lq_scope::{Complaint, first_complaint, least_is_least};
+use lq_scoped::Scoped;
+use lq_tree::Program;
+use std::alloc::{AllocError, Global};
+use thiserror::Error;
+
+/// Why a program has no scoped one.
+#[derive(Clone, Copy, Debug, PartialEq, Eq, Error)]
+pub enum ResolveError {
+    /// What is wrong with a name.
+    #[error("a name is refused")]
+    Complaint(Complaint),
+    #[error("out of memory")]
+    Memory,
+}
+
+impl From<AllocError> for ResolveError {
+    ghost from_gives = { λ _ e. e ≡ Memory };
+
+    fn from(_: AllocError) -> Self {
+        ResolveError::Memory
+    }
+}
+
+/// The greatest number of binders.
+pub const BINDER_LIMIT: usize = 0x8000_0000;
+
+// The scoped program of one without complaints.
+fn scoped_of(alloc: Global, program: &Program, names: &NameTable) -> Result<Scoped, AllocError>
+    requires { of_program names.now (program_view program.now) ≡ [] }
+    ensures { IfOk result (λ s. scoped_view s ≡ scoping_of names.now (program_view program.now)) }
+{
+    bound_programs_are_scoped();
+    if !have_places(alloc, program)? {
+        return Err(AllocError);
+    }
+    let Bound { items, sources } = bind_program(alloc, program, names)?;
+    if sources.len() > BINDER_LIMIT {
+        return Err(AllocError);
+    }
+    let datatypes = datatypes_of(alloc, program.items())?;
+    Ok(Scoped::new(items, datatypes, sources))
+}
+
+/// A program with its names bound, or the first thing that is wrong with its names.
+///
+/// Each use gets the binder of the nearest definition of its name, as the OCaml manual has it for the core language; where there is none,
+/// and the name is a primitive's with all its arguments, that primitive is a node. Where several things are wrong, the first in the order
+/// of the text is told, and of several at one place the one with the lowest code. Where a program has 2^32 nodes or more than 2^31
+/// binders, or is made by hand with a pattern where no text can have it, it answers that there is no memory.
+pub fn resolve(alloc: Global, program: &Program, names: &NameTable) -> Result<Scoped, ResolveError>
+    // Nothing is wrong with the names of a program that is resolved, and its names are bound.
+    ensures resolved { IfOk result (λ s. IsResolution names.now (program_view program.now)
+        (resolved (scoped_view s))) }
+    // What is told is the least of what is wrong.
+    ensures told { IfErr result (λ e. (e ≡ Memory) ⊎ ((due : Resolution) × (error_view e ≡ Some due)
+        × IsResolution names.now (program_view program.now) due)) }
+    // Only want of memory comes in place of what is due.
+    ensures exact { (due : Resolution) → IsResolution names.now (program_view program.now) due
+        → (result ≡ Err Memory) ⊎ (answer_view result ≡ Some due) }
+{
+    one_resolution();
+    least_is_least();
+    if let Some(complaint) = first_complaint(alloc, program, names)? {
+        return Err(ResolveError::Complaint(complaint));
+    }
+    Ok(scoped_of(alloc, program, names)?)
+}
