@@ -5,7 +5,7 @@ use Rattle.lq_tree.specs.MlType.{MlType, MlTypes}
 use Rattle.lq_tree.specs.Types.{put}
 use Rattle.lq_unify.specs.declared.arena.Equation.{Equation}
 use Rattle.lq_unify.specs.declared.arena.Head.TheVariants as head
-use Rattle.lq_unify.specs.declared.solving.Solution.{Solution}
+use Rattle.lq_unify.specs.declared.solver.Solution.{Solution}
 use Rattle.lq_unify.specs.Simple as simple
 use Rattle.lq_unify.specs.Simple.{Simple, Simples}
 use Rattle.lq_unify.specs.Solved.{types_of}

@@ -1,5 +1,5 @@
 -- A node more in an arena.
-use Rattle.std.proofs.Common.{◌≡◌, ℕ, zero, suc, ◌+◌, ◌<◌, ◌≤◌, ◌-◌, ◌^◌, List, [], ◌∷◌, ◌++◌, Option, Some, None, All, length, take, drop, refl, sym, ap, subst, ◌∙◌, arith, get_or, append-nil, length-append, ⊎_elim}
+use Rattle.std.proofs.Common.{◌≡◌, ℕ, zero, suc, ◌+◌, ◌<◌, ◌≤◌, ◌-◌, ◌^◌, List, [], ◌∷◌, ◌++◌, Some, All, length, take, drop, refl, sym, ap, subst, ◌∙◌, arith, get_or, length-append, ⊎_elim}
 use Rattle.std.proofs.lemmas.Bool.{cases_lt}
 use Rattle.std.proofs.lemmas.List.{get_or_append_left, get_or-append_right, drop-append-le, take-append-le, length-drop}
 use Rattle.std.proofs.lemmas.List.Elements.{All-append}
@@ -8,7 +8,7 @@ use Rattle.lq_unify.specs.declared.arena.Node.{Node}
 use Rattle.lq_unify.specs.declared.arena.Node.TheVariants.{Open, Made}
 use Rattle.lq_unify.specs.declared.arena.Head.{Head}
 use Rattle.lq_unify.specs.declared.arena.Arena.{Arena}
-use Rattle.lq_unify.specs.Nodes.{Form, form_of, node_at, form_at, FitsIn, IsArena, HasAdded, HasKept}
+use Rattle.lq_unify.specs.Nodes.{form_of, node_at, FitsIn, IsArena, HasAdded, HasKept}
 
 -- more parts behind those of a node change nothing
 same_form : (n : Node) (parts ps : List ℕ) → FitsIn parts n → form_of (parts ++ ps) n ≡ form_of parts n

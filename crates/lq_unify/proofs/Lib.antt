@@ -14,3 +14,4 @@ pub mod Uses
 pub mod Extending
 pub mod Longer
 pub mod Adding
+pub mod Knowing

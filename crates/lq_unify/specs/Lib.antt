@@ -6,6 +6,7 @@ pub mod Classes
 pub mod Value
 pub mod Visits
 pub mod Solved
+pub mod Knowing
 pub mod Variables
 pub mod Later
 pub mod Copies

@@ -7,8 +7,10 @@ mod classes;
 mod laws;
 mod merge;
 mod order;
+mod solver;
 mod solving;
 
 pub use arena::{Arena, Equation, Head, MOST_NODES, Node};
 pub use laws::{known_classes_grow, types_extend_to_copies, uses_are_instances};
-pub use solving::{Solution, first_failing, solve};
+pub use solver::{Solution, Solver};
+pub use solving::{first_failing, solve};

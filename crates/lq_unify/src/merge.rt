@@ -17,10 +17,20 @@ pub(crate) fn apart(alloc: Global, count: usize) -> Result<Vec<u32>, AllocError>
     ensures own { IfOk result (λ all. (i : ℕ) → up all.items i ≡ i) }
 {
     let mut all = Vec::new(alloc);
-    for node in 0..count {
-        all.push(node as u32)?;
-    }
+    widen(&mut all, count)?;
     Ok(all)
+}
+
+/// So many nodes in all, each new one in a class of its own.
+pub(crate) fn widen(table: &mut Vec<u32>, count: usize) -> Result<(), AllocError>
+    requires { count < 2 ^ 32 }
+    ensures length { OnOk result (length table.old.items ≤ count → length table.new.items ≡ count) }
+    ensures same { OnOk result ((i : ℕ) → up table.new.items i ≡ up table.old.items i) }
+{
+    for node in table.len()..count {
+        table.push(node as u32)?;
+    }
+    Ok(())
 }
 
 /// Makes one class of the two sides of each equation, and of what follows from it. False where there is no solution.

@@ -1,20 +1,25 @@
-use Rattle.std.proofs.Common.{◌≡◌, ℕ, ◌+◌, length, sym, subst, rules}
-use Rattle.std.specs.Vec.{with_items}
-use Rattle.std.proofs.lemmas.List.{with_items_is}
+use Rattle.std.proofs.Common.{List}
+use Rattle.lq_unify.specs.declared.arena.Equation.{Equation}
 use Rattle.lq_unify.specs.Nodes.{form_at}
-use Rattle.lq_unify.specs.Solution.{IsPrincipal}
-use Rattle.lq_unify.specs.Value.{value}
-use Rattle.lq_unify.proofs.Principal.{principal}
+use Rattle.lq_unify.specs.Solution.{IsPrincipal, HasNoSolution}
+use Rattle.lq_unify.specs.Solved.{types_of}
+use Rattle.lq_unify.specs.Knowing.{Knows}
+use Rattle.lq_unify.proofs.Knowing.{some_by, none_by}
 use Rattle.lq_unify.proofs.solving.solve.Goals as goal
 
-pub returns-in-Some-clause-principal : goal.returns-in-Some-clause-principal
-returns-in-Some-clause-principal c =
-    let forms = form_at c.args.arena.now in
-    let eqs = c.args.equations.now in
-    let bound : ℕ = length c.in-Some.order.items + 1 in
-    let s = rw c.in-Some.is at c.in_ok-order.ensures.some in
-    let p : (with_items c.in_ok-parents.parents c.solve_in.new.parents).items ≡ c.solve_in.new.parents = with_items_is c.in_ok-parents.parents c.solve_in.new.parents (search rules) in
-    let q : (with_items c.in_ok-shapes.shapes c.solve_in.new.shapes).items ≡ c.solve_in.new.shapes = with_items_is c.in_ok-shapes.shapes c.solve_in.new.shapes (search rules) in
-    subst (λ ps. IsPrincipal forms eqs (value bound forms ps (with_items c.in_ok-shapes.shapes c.solve_in.new.shapes).items)) (sym p)
-    (subst (λ ss. IsPrincipal forms eqs (value bound forms c.solve_in.new.parents ss)) (sym q)
-    (principal forms _ c.solve_in.new.parents c.solve_in.new.shapes s.found eqs bound s.known s.ranked))
+pub returns-clause-principal : goal.returns-clause-principal
+returns-clause-principal c =
+    let a = c.args.arena.now in
+    let k = c.in_ok-merge.ensures.knows c.if-not-branch.false in
+    some_by c.in_ok-found.found (λ s. (equations : List Equation) → Knows a equations c.merge.new.self → IsPrincipal (form_at a) equations (types_of a s))
+    (λ s. IsPrincipal (form_at a) c.args.equations.now (types_of a s)) (λ s h. h c.args.equations.now k) c.in_ok-found.ensures.principal
+
+pub returns-clause-none : goal.returns-clause-none
+returns-clause-none c =
+    let a = c.args.arena.now in
+    let k = c.in_ok-merge.ensures.knows c.if-not-branch.false in
+    none_by c.in_ok-found.found ((equations : List Equation) → Knows a equations c.merge.new.self → HasNoSolution (form_at a) equations)
+    (HasNoSolution (form_at a) c.args.equations.now) (λ h. h c.args.equations.now k) c.in_ok-found.ensures.none
+
+pub returns-then-not-branch-clause-none : goal.returns-then-not-branch-clause-none
+returns-then-not-branch-clause-none c = c.in_ok-merge.ensures.none c.if-not-branch.true

@@ -1,0 +1,23 @@
+-- What a solver knows.
+use Rattle.std.specs.Prelude.{◌≡◌, ℕ, ◌<◌, ◌≤◌, List, length}
+use Rattle.lq_unify.specs.declared.arena.Arena.{Arena}
+use Rattle.lq_unify.specs.declared.arena.Equation.{Equation}
+use Rattle.lq_unify.specs.declared.solver.Solver.{Solver}
+use Rattle.lq_unify.specs.Nodes.{form_at}
+use Rattle.lq_unify.specs.Classes.{up, IsKnown}
+use Rattle.lq_unify.specs.Value.{IsRanked}
+
+-- as many nodes or more, with the same forms of those that there were
+pub record IsLonger (old new : Arena) : Type 0 where
+  pub more : length old.nodes.items ≤ length new.nodes.items
+  pub same : (i : ℕ) → i < length old.nodes.items → form_at new i ≡ form_at old i
+
+-- the solver has the classes of the arena's nodes that the equations make
+pub record Knows (a : Arena) (equations : List Equation) (s : Solver) : Type 0 where
+  pub known : IsKnown (form_at a) (length a.nodes.items) s.parents.items s.shapes.items s.found.items equations
+  pub copies_length : length s.copies.items ≡ length a.nodes.items
+  pub copies_low : (i : ℕ) → i < length a.nodes.items → up s.copies.items i < length a.nodes.items
+
+-- no class of the solver is inside itself
+pub record IsOrdered (a : Arena) (s : Solver) (bound : ℕ) : Type 0 where
+  pub ranked : IsRanked (form_at a) s.parents.items s.shapes.items bound
