@@ -9,7 +9,7 @@ use Rattle.lq_unify.specs.Copies.{GoesTo, AreCopies, TypesExtendToCopies}
 use Rattle.lq_unify.proofs.Replacing.{replaced_alike, replaced_same, each_as}
 use Rattle.lq_unify.proofs.Uses.{parted, parted_old, parted_new}
 
-each_copied : (f g by : ℕ → Simple) (goes : ℕ → ℕ) (ps : List ℕ) → All (λ p. f (goes p) ≡ replaced by (g p)) ps → each f (map goes ps) ≡ replaced_all by (each g ps)
+pub each_copied : (f g by : ℕ → Simple) (goes : ℕ → ℕ) (ps : List ℕ) → All (λ p. f (goes p) ≡ replaced by (g p)) ps → each f (map goes ps) ≡ replaced_all by (each g ps)
 each_copied f g by goes [] h = refl
 each_copied f g by goes (p ∷ ps) h = ap₂ more (h 0 0 (omega arith)) (each_copied f g by goes ps (λ k d l. h (suc k) d (omega arith)))
 

@@ -6,7 +6,7 @@ use Rattle.lq_unify.specs.declared.arena.Equation.{Equation}
 use Rattle.lq_unify.specs.declared.arena.Node.TheVariants.{Open}
 use Rattle.lq_unify.specs.Nodes.{form_of, form_at}
 use Rattle.lq_unify.specs.Classes.{up, IsKnown, IsSame}
-use Rattle.lq_unify.specs.Knowing.{IsLonger, Knows}
+use Rattle.lq_unify.specs.Knowing.{IsLonger, Knows, IsStretched}
 use Rattle.lq_unify.specs.declared.solver.Solver.{Solver}
 use Rattle.lq_unify.specs.Solution.{HasNoSolution}
 use Rattle.std.proofs.lemmas.Bool.{cases_lt}
@@ -18,39 +18,36 @@ use Rattle.lq_unify.proofs.Beginning.{first_known, same_known}
 pub no_form : (a : Arena) (i : ℕ) → length a.nodes.items ≤ i → form_at a i ≡ None
 no_form a i h = ap (form_of a.parts.items) (get_or_past a.nodes.items i Open h)
 
-widened_low : (m n : ℕ) (old new : List ℕ) → m ≤ n → length old ≡ m → ((i : ℕ) → up new i ≡ up old i) → ((i : ℕ) → i < m → up old i < m) → (i : ℕ) → i < n → up new i < n
-widened_low m n old new l e s h i k = elim (cases_lt i m) [
-  | inl b ↦ let x : up old i < m = h i b in subst (λ (j : ℕ). j < n) (sym (s i)) (omega arith)
-  | inr b ↦ subst (λ (j : ℕ). j < n) (sym (s i ∙ up_past old i (omega arith))) k
-]
-
--- three tables that were widened to the number of nodes
-pub grown : (old new : Arena) (equations : List Equation) (s t : Solver) (n : ℕ) → n ≡ length new.nodes.items → IsLonger old new
-    → (length s.parents.items ≤ n → length t.parents.items ≡ n) → ((i : ℕ) → up t.parents.items i ≡ up s.parents.items i)
-    → (length s.shapes.items ≤ n → length t.shapes.items ≡ n) → ((i : ℕ) → up t.shapes.items i ≡ up s.shapes.items i)
-    → (length s.copies.items ≤ n → length t.copies.items ≡ n) → ((i : ℕ) → up t.copies.items i ≡ up s.copies.items i)
-    → t.found.items ≡ s.found.items → Knows old equations s → Knows new equations t
-grown old new equations s t n e l pl p sl q cl r f k =
+-- the tables are those of more nodes, and other copies were made since
+pub copied_knows : (old new : Arena) (equations : List Equation) (mid t : Solver) (n : ℕ) → n ≡ length new.nodes.items → IsLonger old new
+    → IsKnown (form_at old) (length old.nodes.items) mid.parents.items mid.shapes.items mid.found.items equations → length mid.copies.items ≡ length old.nodes.items
+    → ((i : ℕ) → i < length old.nodes.items → up mid.copies.items i < length new.nodes.items) → IsStretched mid t n → Knows new equations t
+copied_knows old new equations mid t n e l k cl low h =
     let m = l.more in
-    let v = k.known.state in
-    let pp = v.parents_length in
-    let ss = v.shapes_length in
-    let cc_ = k.copies_length in
+    let pp = k.state.parents_length in
+    let ss = k.state.shapes_length in
     record {
-      known = subst (λ fs. IsKnown (form_at new) (length new.nodes.items) t.parents.items t.shapes.items fs equations) (sym f)
-          (known (form_at old) (form_at new) (length old.nodes.items) (length new.nodes.items) s.parents.items s.shapes.items t.parents.items t.shapes.items s.found.items equations
+      known = subst (λ fs. IsKnown (form_at new) (length new.nodes.items) t.parents.items t.shapes.items fs equations) (sym h.found_same)
+          (known (form_at old) (form_at new) (length old.nodes.items) (length new.nodes.items) mid.parents.items mid.shapes.items t.parents.items t.shapes.items mid.found.items equations
           (record {
             more = l.more;
             same = l.same;
             past = λ i h. no_form old i h;
-            parents_length = pl (omega arith) ∙ e;
-            shapes_length = sl (omega arith) ∙ e;
-            parents_same = p;
-            shapes_same = q;
-          }) k.known);
-      copies_length = cl (omega arith) ∙ e;
-      copies_low = widened_low (length old.nodes.items) (length new.nodes.items) s.copies.items t.copies.items m cc_ r k.copies_low;
+            parents_length = h.parents_length (omega arith) ∙ e;
+            shapes_length = h.shapes_length (omega arith) ∙ e;
+            parents_same = h.parents_same;
+            shapes_same = h.shapes_same;
+          }) k);
+      copies_length = h.copies_length (omega arith) ∙ e;
+      copies_low = λ i j. subst (λ (x : ℕ). x < length new.nodes.items) (sym (h.copies_same i)) (elim (cases_lt i (length old.nodes.items)) [
+        | inl b ↦ low i b
+        | inr b ↦ subst (λ (x : ℕ). x < length new.nodes.items) (sym (up_past mid.copies.items i (omega arith))) j
+      ]);
     }
+
+pub grown : (old new : Arena) (equations : List Equation) (s t : Solver) (n : ℕ) → n ≡ length new.nodes.items → IsLonger old new → IsStretched s t n → Knows old equations s → Knows new equations t
+grown old new equations s t n e l h k = copied_knows old new equations s t n e l k.known k.copies_length
+    (λ i b. let x = k.copies_low i b in let m = l.more in omega arith) h
 
 -- nothing is known at first
 pub begun : (a : Arena) (s : Solver) (n : ℕ) → n ≡ length a.nodes.items → length s.parents.items ≡ n → ((i : ℕ) → up s.parents.items i ≡ i) → length s.shapes.items ≡ n → ((i : ℕ) → up s.shapes.items i ≡ i)

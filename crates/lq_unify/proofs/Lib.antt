@@ -15,3 +15,7 @@ pub mod Extending
 pub mod Longer
 pub mod Adding
 pub mod Knowing
+pub mod Listing
+pub mod Seating
+pub mod Copied
+pub mod Opening

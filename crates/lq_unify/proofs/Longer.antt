@@ -14,7 +14,7 @@ map_by : (f g : ℕ → ℕ) → ((i : ℕ) → f i ≡ g i) → (xs : List ℕ)
 map_by f g h [] = refl
 map_by f g h (x ∷ xs) = ap₂ (λ a b. a ∷ b) (h x) (map_by f g h xs)
 
-renamed_by : (f g : ℕ → ℕ) → ((i : ℕ) → f i ≡ g i) → (o : Option Form) → option_map (renamed f) o ≡ option_map (renamed g) o
+pub renamed_by : (f g : ℕ → ℕ) → ((i : ℕ) → f i ≡ g i) → (o : Option Form) → option_map (renamed f) o ≡ option_map (renamed g) o
 renamed_by f g h None = refl
 renamed_by f g h (Some x) = ap (λ (b : List ℕ). Some (make b)) (map_by f g h x.parts)
   where

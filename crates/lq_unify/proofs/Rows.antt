@@ -123,7 +123,7 @@ rooted_later forms old new x y h e =
 pub followed_later : (forms : ℕ → Option Form) (old new : List ℕ) (found : List Equation) → ((i : ℕ) → root new (root old i) ≡ root new i) → AreFollowed forms old found → AreFollowed forms new found
 followed_later forms old new found h a k d l = rooted_later forms old new _ _ h (a k d l)
 
-pub one_more : (P : Equation → Type 0) (before after added : List Equation) (at : ℕ) (pair : Equation) → after ≡ before ++ added → at < length before → pair ≡ get_or before at pair
+pub one_more : {X : Type 0} (P : X → Type 0) (before after added : List X) (at : ℕ) (pair : X) → after ≡ before ++ added → at < length before → pair ≡ get_or before at pair
     → All P (take at before) → P pair → All P (take (at + 1) after)
 one_more P before after added at pair e l f a p =
     subst (All P) (sym (ap (take (at + 1)) e ∙ take-append-le (at + 1) before added (omega arith) ∙ take_more before at pair l ∙ ap (λ q. take at before ++ q ∷ []) (sym f)))

@@ -21,3 +21,13 @@ pub record Knows (a : Arena) (equations : List Equation) (s : Solver) : Type 0 w
 -- no class of the solver is inside itself
 pub record IsOrdered (a : Arena) (s : Solver) (bound : ℕ) : Type 0 where
   pub ranked : IsRanked (form_at a) s.parents.items s.shapes.items bound
+
+-- the tables are of so many nodes, and each new node stands alone
+pub record IsStretched (old new : Solver) (n : ℕ) : Type 0 where
+  pub parents_length : length old.parents.items ≤ n → length new.parents.items ≡ n
+  pub parents_same : (i : ℕ) → up new.parents.items i ≡ up old.parents.items i
+  pub shapes_length : length old.shapes.items ≤ n → length new.shapes.items ≡ n
+  pub shapes_same : (i : ℕ) → up new.shapes.items i ≡ up old.shapes.items i
+  pub copies_length : length old.copies.items ≤ n → length new.copies.items ≡ n
+  pub copies_same : (i : ℕ) → up new.copies.items i ≡ up old.copies.items i
+  pub found_same : new.found.items ≡ old.found.items

@@ -11,3 +11,7 @@ pub mod Variables
 pub mod Later
 pub mod Copies
 pub mod Growing
+pub mod Reaching
+pub mod Copying
+pub mod Opens
+pub mod Using

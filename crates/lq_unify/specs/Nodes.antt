@@ -1,5 +1,5 @@
 -- What the nodes of an arena are.
-use Rattle.std.specs.Prelude.{◌≡◌, ℕ, ◌+◌, ◌<◌, ◌≤◌, ◌^◌, List, Option, Some, None, take, drop, map, length, All, slice_index_or}
+use Rattle.std.specs.Prelude.{◌≡◌, ◌≢◌, ℕ, ◌+◌, ◌<◌, ◌≤◌, ◌^◌, List, Option, Some, None, take, drop, map, length, All, slice_index_or}
 use Rattle.lq_unify.specs.declared.arena.Head.{Head}
 use Rattle.lq_unify.specs.declared.arena.Node.{Node}
 use Rattle.lq_unify.specs.declared.arena.Node.TheVariants.{Open, Made}
@@ -48,3 +48,10 @@ pub record HasKept (old new : Arena) : Type 0 where
   pub arena : IsArena new
   pub count : length new.nodes.items ≡ length old.nodes.items
   pub forms : (i : ℕ) → form_at new i ≡ form_at old i
+
+-- one node has this form, and the others have those that they had
+pub record HasFilled (old new : Arena) (node : ℕ) (form : Option Form) : Type 0 where
+  pub arena : IsArena new
+  pub count : length new.nodes.items ≡ length old.nodes.items
+  pub formed : form_at new node ≡ form
+  pub others : (i : ℕ) → i ≢ node → form_at new i ≡ form_at old i

@@ -64,7 +64,7 @@ fn link(
 }
 
 /// Whether a node has a form.
-fn is_made(arena: &Arena, node: u32) -> bool
+pub(crate) fn is_made(arena: &Arena, node: u32) -> bool
     requires { node < length arena.now.nodes.items }
     ensures yes { result ≡ true → IsSome (form_at arena.now node) }
     ensures no { result ≡ false → ¬ (IsSome (form_at arena.now node)) }

@@ -4,7 +4,7 @@ ghost use Rattle.lq_unify.specs.declared.arena.Arena.{Arena};
 ghost use Rattle.lq_unify.specs.declared.arena.Equation.{Equation};
 ghost use Rattle.lq_unify.specs.Nodes.{form_at, IsArena};
 ghost use Rattle.lq_unify.specs.Solution.{AreNodes, IsPrincipal, HasNoSolution, HasSolution};
-ghost use Rattle.lq_unify.specs.Knowing.{IsLonger, Knows, IsOrdered};
+ghost use Rattle.lq_unify.specs.Knowing.{IsLonger, Knows, IsOrdered, IsStretched};
 ghost use Rattle.lq_unify.specs.Solved.{types_of};
 
 use crate::arena::{Arena, Equation};
@@ -52,7 +52,15 @@ impl Solver {
         ensures { OnOk result ((old : Arena) (equations : List Equation) → IsLonger old arena.now
             → Knows old equations self.old → Knows arena.now equations self.new) }
     {
-        let count = arena.nodes.len();
+        self.stretch(arena.nodes.len())?;
+        Ok(())
+    }
+
+    // Tables of so many nodes.
+    pub(crate) fn stretch(&mut self, count: usize) -> Result<(), AllocError>
+        requires { count < 2 ^ 32 }
+        ensures { OnOk result (IsStretched self.old self.new count) }
+    {
         widen(&mut self.parents, count)?;
         widen(&mut self.shapes, count)?;
         widen(&mut self.copies, count)?;
