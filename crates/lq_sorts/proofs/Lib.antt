@@ -1,0 +1,6 @@
+mod Defining
+mod Fields
+mod Looking
+mod Lookups
+mod Ordering
+mod Rows
