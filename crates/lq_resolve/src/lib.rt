@@ -11,4 +11,4 @@ mod program;
 mod resolver;
 mod values;
 
-pub use program::{Bound, bind_program};
+pub use program::{BINDER_LIMIT, Bound, bind_program};

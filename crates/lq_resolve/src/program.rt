@@ -1,5 +1,5 @@
 // Whole programs.
-ghost use Rattle.std.specs.Prelude.{◌≡◌, ◌<◌, ◌^◌, IfOk};
+ghost use Rattle.std.specs.Prelude.{◌≡◌, ◌<◌, ◌≤◌, ◌^◌, length, IfOk};
 ghost use Rattle.lq_tree.specs.Texts.{program_view};
 ghost use Rattle.lq_resolve.specs.Machine.{first_machine};
 ghost use Rattle.lq_resolve.specs.Making.{program_made};
@@ -12,6 +12,9 @@ use lq_scope::{Scope, first_constructors};
 use lq_tree::{Item, Program};
 use lq_walk::Walk;
 use std::alloc::{AllocError, Global};
+
+/// The greatest number of binders of a program.
+pub const BINDER_LIMIT: usize = 0x8000_0000;
 
 /// The definitions of a program with their names bound, and the source name of each binder.
 #[derive(Drop)]
@@ -50,20 +53,25 @@ fn fits(number: u32)
 /// The definitions of a program with their names bound, in time linear in the program.
 ///
 /// Each use gets the binder of its nearest definition, a primitive with all its arguments becomes a node of its own, and the
-/// arguments of a constructor stand apart. Nodes are numbered as they end, binders as they stand in the text. Where there are more
-/// nodes or binders than u32 numbers, it answers that there is no memory.
+/// arguments of a constructor stand apart. Nodes are numbered as they end, binders as they stand in the text. Where there are
+/// 2^32 nodes or more than `BINDER_LIMIT` binders, it answers that there is no memory.
 pub fn bind_program(
     alloc: Global,
     program: &Program,
     names: &NameTable,
 ) -> Result<Bound, AllocError>
     ensures bound { IfOk result (λ b. bound_view b ≡ program_made names.now (program_view program.now)) }
-    ensures few { IfOk result (λ _. nodes_made names.now (program_view program.now) < 2 ^ 32) }
+    ensures few_nodes { IfOk result (λ _. nodes_made names.now (program_view program.now) < 2 ^ 32) }
+    ensures few_binders { IfOk result (λ _. length (program_made names.now (program_view program.now)).sources
+        ≤ 2 ^ 31) }
 {
     let mut resolver = Resolver::new(alloc, names)?;
     let mut walk = Walk::of_items(alloc, program.items())?;
     while let Some(visit) = walk.next()? {
         resolver.visit(visit)?;
+    }
+    if resolver.sources.len() > BINDER_LIMIT {
+        return Err(AllocError);
     }
     fits(resolver.next);
     Ok(Bound {

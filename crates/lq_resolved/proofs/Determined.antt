@@ -1,16 +1,14 @@
 -- The rules leave at most one tree.
-use Rattle.std.specs.Prelude.{if◌then◌else◌}
-use Rattle.std.proofs.Common.{◌≡◌, ℕ, suc, Bool, true, false, List, [], ◌∷◌, ◌++◌, length, Option, Some, None, refl, sym, ap, subst, ◌∙◌}
+use Rattle.std.proofs.Common.{◌≡◌, ℕ, Bool, true, false, List, [], ◌∷◌, ◌++◌, length, Option, Some, None, refl, sym, ap, subst, ◌∙◌}
 use Rattle.lq_name.specs.declared.place.Place.{Place}
 use Rattle.lq_tree.specs.Items.{ItemTree, ItemForm, type_of, let_of, let_rec_of}
-use Rattle.lq_tree.specs.Pattern.{Pattern, bound_in}
+use Rattle.lq_tree.specs.Pattern.{Pattern}
 use Rattle.lq_tree.specs.Tree as form
 use Rattle.lq_tree.specs.Tree.{Tree, tree, Form, Trees, no_trees, more_trees, Cases, no_cases, more_cases}
-use Rattle.lq_tree.specs.TreeView.{Recursive}
-use Rattle.lq_walk.specs.Fold.{Arm, fold, fold_all, fold_cases}
+use Rattle.lq_walk.specs.Fold.{Arm, fold_all, fold_cases}
 use Rattle.lq_walk.specs.Shape as shape
 use Rattle.lq_walk.specs.Shape.{Leaf, One, Two, Three, Row}
-use Rattle.lq_walk.specs.Visits.{has_let, is_let, place_of}
+use Rattle.lq_walk.specs.Visits.{has_let, place_of}
 use Rattle.lq_scope.specs.Datatypes.{with_constructors}
 use Rattle.lq_scope.specs.Known.{arity_in, text_of}
 use Rattle.lq_resolve.specs.Binding.{is_tuple, numbered}

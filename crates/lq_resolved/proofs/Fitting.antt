@@ -1,29 +1,26 @@
 -- What a tree without complaints becomes: a value that fits the arguments which the calls around it give, with nodes and binders in order.
-use Rattle.std.specs.Prelude.{nat_lt, ◌==◌, ◌&&◌, ◌||◌, codes, if◌then◌else◌}
+use Rattle.std.specs.Prelude.{◌==◌, codes, if◌then◌else◌}
 use Rattle.std.specs.Option.{option_map}
 use Rattle.std.specs.Str.{bytes_eq}
-use Rattle.std.proofs.Common.{◌≡◌, ℕ, zero, suc, ◌+◌, ◌-◌, Bool, true, false, List, [], ◌∷◌, ◌++◌, length, map, Option, Some, None, refl, sym, ap, subst, ◌∙◌, arith}
+use Rattle.std.proofs.Common.{◌≡◌, ℕ, suc, Bool, true, false, List, [], ◌∷◌, ◌++◌, length, map, Option, Some, None, refl, sym, ap, subst, ◌∙◌, arith}
 use Rattle.std.proofs.lemmas.Bool.{and_from, and_parts}
 use Rattle.std.proofs.lemmas.Bool.Decides.{Decides-eqb}
 use Rattle.lq_name.specs.declared.place.Place.{Place}
-use Rattle.lq_tree.specs.declared.expr.Arguments.{Arguments}
 use Rattle.lq_tree.specs.declared.expr.Arguments.TheVariants.{Apart, Listed}
-use Rattle.lq_tree.specs.Pattern.{Pattern, pattern, PatternForm, any, bind, nothing, tuple_of, build_of, bound_in}
 use Rattle.lq_tree.specs.Tree as form
 use Rattle.lq_tree.specs.Tree.{Tree, tree, Form, Cases, no_cases, more_cases}
 use Rattle.lq_tree.specs.TreeView.{trees_of}
 use Rattle.lq_walk.specs.Shape as shape
 use Rattle.lq_walk.specs.Shape.{Leaf, One, Two, Three, Row}
 use Rattle.lq_walk.specs.Visits.{Visit, enter, leave, place_of, around, in_row, visiting}
-use Rattle.lq_scope.specs.Complaints.{Cause, Complaint, unknown, unknown_in}
+use Rattle.lq_scope.specs.Complaints.{Cause, unknown, unknown_in}
 use Rattle.lq_scope.specs.Datatypes.{name_of}
 use Rattle.lq_scope.specs.Known as known
 use Rattle.lq_scope.specs.Known.{Arity, Known, arity_in, counted, has, text_of}
 use Rattle.lq_scope.specs.Uses.{Complaining, handed_on, of_leaf, of_all, complaining}
-use Rattle.lq_scoped.specs.Uses.{is_visible}
 use Rattle.lq_resolve.specs.Heads.{Head, read, print, length_of, make, make_of, find, find_of, add, add_of, add_to, Given, done, lacking, given, lack_of}
 use Rattle.lq_resolve.specs.Heads as heads
-use Rattle.lq_resolve.specs.Making.{Frame, Value, whole, partly, Made, node, part, with_given, of_primitive, of_use, called, two_form, one_form, three_form, joined, spread, of_tuple, of_listed, built_of, row_of, takes_more, Making, leaf_made, making, all_made}
+use Rattle.lq_resolve.specs.Making.{Frame, Value, whole, partly, Made, node, part, with_given, of_primitive, of_use, called, two_form, one_form, three_form, joined, of_tuple, of_listed, row_of, takes_more, Making, leaf_made, making, all_made}
 use Rattle.lq_resolved.specs.Laws.{PrimitivesAgree, lacks}
 use Rattle.lq_resolved.specs.Parameters.{all_stand, stands}
 use Rattle.lq_resolved.proofs.Nodes.{Part, Parts, single, only, parts_more, one_node, two_node, three_node, tuple_node, list_node, chain_node, build_node, instead_node}

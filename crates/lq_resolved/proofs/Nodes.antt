@@ -1,6 +1,6 @@
 -- Trees whose nodes and binders have the numbers that follow one another, and the nodes that are made of such trees.
-use Rattle.std.specs.Prelude.{nat_lt, ◌==◌, ◌&&◌, ◌||◌}
-use Rattle.std.proofs.Common.{◌≡◌, ℕ, suc, ◌+◌, Bool, true, false, List, [], ◌∷◌, ◌++◌, refl, sym, ap, subst, ◌∙◌, arith}
+use Rattle.std.specs.Prelude.{◌&&◌}
+use Rattle.std.proofs.Common.{◌≡◌, ℕ, suc, Bool, true, false, List, [], ◌∷◌, ◌++◌, refl, sym, ap, subst, ◌∙◌}
 use Rattle.std.proofs.lemmas.Bool.{and_from}
 use Rattle.std.proofs.lemmas.List.{append_assoc, append-nil}
 use Rattle.lq_name.specs.declared.place.Place.{Place}
@@ -14,7 +14,7 @@ use Rattle.lq_walk.specs.Shape as shape
 use Rattle.lq_walk.specs.Shape.{One, Two, Three}
 use Rattle.lq_walk.specs.Visits.{Visit, leave, leave_function, declare, hide, show_name, hide_name, visits_of, visiting, around, under, in_row, in_arms, in_match, in_function, has_let}
 use Rattle.lq_scoped.specs.Numbers.{numbering, nodes_of, numbers_in, numbers_in_arms, binders_at, binders_in}
-use Rattle.lq_scoped.specs.Uses.{scoping, is_scoped_tree, is_parameter, all_under, arms_under, is_visible}
+use Rattle.lq_scoped.specs.Uses.{scoping, is_scoped_tree, is_parameter, all_under, arms_under}
 use Rattle.lq_resolve.specs.Making.{one_form, two_form, three_form}
 use Rattle.lq_resolved.proofs.Spanning.{Spans, spans_append}
 

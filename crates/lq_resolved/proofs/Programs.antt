@@ -1,6 +1,5 @@
 -- A program without complaints is scoped once its names are bound.
-use Rattle.std.specs.Prelude.{◌&&◌}
-use Rattle.std.proofs.Common.{◌≡◌, ℕ, zero, suc, Bool, true, false, List, [], ◌∷◌, ◌++◌, length, map, Option, Some, None, refl, sym, ap, subst, ◌∙◌, arith}
+use Rattle.std.proofs.Common.{◌≡◌, ℕ, suc, Bool, true, false, List, [], ◌∷◌, ◌++◌, length, map, Option, Some, refl, sym, ap, subst, ◌∙◌, arith}
 use Rattle.std.proofs.lemmas.Bool.{and_from, and_parts}
 use Rattle.lq_name.specs.declared.place.Place.{Place}
 use Rattle.lq_tree.specs.Items.{ItemTree, ItemForm, type_of, let_of, let_rec_of}
@@ -8,9 +7,9 @@ use Rattle.lq_tree.specs.Pattern.{Pattern, bound_in}
 use Rattle.lq_tree.specs.Tree as form
 use Rattle.lq_tree.specs.Tree.{Tree, tree, Form, Trees, no_trees, more_trees, Cases, no_cases, more_cases}
 use Rattle.lq_tree.specs.TreeView.{Recursive}
-use Rattle.lq_walk.specs.Fold.{Algebra, fold_all, fold_cases}
+use Rattle.lq_walk.specs.Fold.{fold_all, fold_cases}
 use Rattle.lq_walk.specs.Shape as shape
-use Rattle.lq_walk.specs.Visits.{Visit, enter, enter_item, leave, leave_item, leave_function, declare, show, show_name, place_of, around, under, in_match, in_function, has_let, visiting, visits_of, visits_of_form, visits_of_item, visits_of_items}
+use Rattle.lq_walk.specs.Visits.{leave, leave_item, leave_function, declare, show, show_name, place_of, under, in_match, in_function, has_let, visiting, visits_of, visits_of_form, visits_of_item, visits_of_items}
 use Rattle.lq_scope.specs.Datatypes.{name_of, with_constructors, with_datatype}
 use Rattle.lq_scope.specs.Known as known
 use Rattle.lq_scope.specs.Known.{Known, predeclared_known}
@@ -19,13 +18,13 @@ use Rattle.lq_scope.specs.Uses.{behind, complaining, complaints_of, of_item, of_
 use Rattle.lq_scoped.specs.Numbers.{binders_in, binders_of_items, nodes_of, nodes_of_form, nodes_of_items}
 use Rattle.lq_scoped.specs.Uses.{are_scoped, is_parameter, is_scoped_form, is_scoped_tree, visible_behind}
 use Rattle.lq_resolve.specs.Binding.{numbered, sources_of}
-use Rattle.lq_resolve.specs.Making.{Frame, frame_with, first_frame, items_made, item_made, made, making, match_made, named, part, program_made, recursive_with, shown, taken}
+use Rattle.lq_resolve.specs.Making.{Frame, frame_with, first_frame, items_made, item_made, made, making, match_made, named, part, recursive_with, shown, taken}
 use Rattle.lq_resolved.specs.Laws.{BoundProgramsAreScoped}
-use Rattle.lq_resolved.specs.Parameters.{all_stand, binds_well, have_places, is_taken, stands, takes_well}
+use Rattle.lq_resolved.specs.Parameters.{all_stand, have_places, is_taken}
 use Rattle.lq_resolved.proofs.Fitting.{Fitting, FitsMade, RowFitting, leaf_fitting, more_fitting, none_both, one_fitting, part_of, row_fitting, stand_both, stand_inside, three_fitting, two_fitting}
-use Rattle.lq_resolved.proofs.Nodes.{Part, binders_append, binders_ended, binders_of, function_binders}
+use Rattle.lq_resolved.proofs.Nodes.{binders_append, binders_ended, binders_of, function_binders}
 use Rattle.lq_resolved.proofs.Spanning.{Spans, Sees, one_more, pattern_spans, sees_more, sees_pattern, spans_append, spans_from, spans_length}
-use Rattle.lq_resolved.proofs.Taking.{ArmsFitting, agree_named, agree_under, arm, arm_fitting, function_fitting, let_fitting, let_match, let_rec_fitting, let_same, numbered_parameter, plain_match, stand_under, taken_fits}
+use Rattle.lq_resolved.proofs.Taking.{ArmsFitting, agree_named, agree_under, arm_fitting, function_fitting, let_fitting, let_match, let_rec_fitting, let_same, numbered_parameter, plain_match, stand_under, taken_fits}
 
 module _ (names : List (List ℕ)) where
   abbrev FittingTree : Tree → Type 0

@@ -1,9 +1,9 @@
 -- At most one resolution of a program.
-use Rattle.std.proofs.Common.{◌≡◌, ℕ, List, [], Option, Some, None, refl, sym, ap, ◌∙◌}
+use Rattle.std.proofs.Common.{◌≡◌, ℕ, List, [], Some, None, sym, ap, ◌∙◌}
 use Rattle.lq_tree.specs.Items.{ItemTree}
 use Rattle.lq_scope.specs.Complaints.{Complaint, least}
 use Rattle.lq_scope.specs.Uses.{of_program}
-use Rattle.lq_resolved.specs.Resolution.{Resolution, resolved, refused, IsResolution, OneResolution}
+use Rattle.lq_resolved.specs.Resolution.{resolved, refused, OneResolution}
 
 some_same : {A : Type 0} (a b : A) → Some a ≡ Some b → a ≡ b
 some_same a b is = cc

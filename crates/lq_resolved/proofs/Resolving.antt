@@ -1,31 +1,29 @@
 -- What a program without complaints becomes is what the rules say.
-use Rattle.std.specs.Prelude.{if◌then◌else◌, reverse}
+use Rattle.std.specs.Prelude.{if◌then◌else◌}
 use Rattle.std.proofs.Common.{◌≡◌, ℕ, suc, ◌-◌, Bool, true, false, List, [], ◌∷◌, ◌++◌, length, map, Option, Some, None, refl, sym, ap, subst, ◌∙◌, arith}
 use Rattle.lq_name.specs.declared.place.Place.{Place}
-use Rattle.lq_tree.specs.declared.expr.Arguments.{Arguments}
 use Rattle.lq_tree.specs.declared.expr.Arguments.TheVariants.{Apart, Listed}
 use Rattle.lq_tree.specs.Items.{ItemTree, ItemForm, type_of, let_of, let_rec_of}
 use Rattle.lq_tree.specs.Pattern.{Pattern, pattern, bind, bound_in}
 use Rattle.lq_tree.specs.Tree as form
 use Rattle.lq_tree.specs.Tree.{Tree, tree, Form, Trees, no_trees, more_trees, Cases, no_cases, more_cases}
-use Rattle.lq_tree.specs.TreeView.{Recursive, trees_of}
-use Rattle.lq_walk.specs.Fold.{Arm, fold, fold_all, fold_cases}
+use Rattle.lq_tree.specs.TreeView.{trees_of}
+use Rattle.lq_walk.specs.Fold.{Arm, fold_all, fold_cases}
 use Rattle.lq_walk.specs.Shape as shape
 use Rattle.lq_walk.specs.Shape.{Leaf, One, Two, Three, Row, listed}
-use Rattle.lq_walk.specs.Visits.{Visit, has_let, is_let, place_of}
+use Rattle.lq_walk.specs.Visits.{has_let, place_of}
 use Rattle.lq_scope.specs.Complaints.{Cause, unknown, unknown_in}
 use Rattle.lq_scope.specs.Datatypes.{name_of, with_constructors, with_datatype}
 use Rattle.lq_scope.specs.Known as known
 use Rattle.lq_scope.specs.Known.{Arity, Known, arity_in, counted, has, predeclared_known, text_of}
 use Rattle.lq_scope.specs.Patterns.{of_pattern}
-use Rattle.lq_scope.specs.Uses.{Complaining, behind, complaining, complaints_of, handed_on, of_all, of_arms, of_item, of_items, of_leaf, of_match, of_program, own}
+use Rattle.lq_scope.specs.Uses.{Complaining, behind, complaining, complaints_of, handed_on, of_all, of_arms, of_item, of_items, of_leaf, of_match, own}
 use Rattle.lq_resolve.specs.Binding.{is_tuple, numbered, place_of_pattern, sources_of}
 use Rattle.lq_resolve.specs.Heads as heads
 use Rattle.lq_resolve.specs.Heads.{Head, read, print, length_of, make, make_of, find, find_of, add, add_of, add_to, Given, done, lacking, given}
-use Rattle.lq_resolve.specs.Making.{Frame, Value, whole, partly, Made, node, of_primitive, of_use, with_given, part, called, joined, row_of, of_tuple, of_listed, takes_more, named, one_form, shown, two_form, three_form, first_frame, frame_with, Making, making, leaf_made, made, all_made, arms_made, match_made, taken, taken_pattern, taken_body, matched, match_one, next_before, source_before, Taken, item_made, items_made, program_made, recursive_with}
-use Rattle.lq_resolved.specs.Bare as bared
-use Rattle.lq_resolved.specs.Bare.{bare, bare_head, bare_item, bare_items, bare_value, baring, cases_in}
-use Rattle.lq_resolved.specs.Resolves.{Rule, Sources, IsNode, IsGiven, IsPrimitive, IsUse, IsCall, Joins, InRow, arguments_in, parts_in, row_form, Under, IsFunction, Functions, InArms, Matches, IsLeaf, ruling, Becomes, ItemsBecome, ItemBecomes, MadeResolves, with_names, match_on_it, item_at, function_at}
+use Rattle.lq_resolve.specs.Making.{Frame, Value, whole, partly, Made, of_primitive, of_use, with_given, part, called, joined, row_of, of_tuple, of_listed, takes_more, named, shown, two_form, first_frame, frame_with, Making, making, leaf_made, made, all_made, arms_made, match_made, taken, taken_pattern, taken_body, matched, next_before, source_before, Taken, item_made, items_made}
+use Rattle.lq_resolved.specs.Bare.{bare, bare_items, bare_value, baring, cases_in}
+use Rattle.lq_resolved.specs.Resolves.{Rule, Sources, IsNode, IsGiven, IsPrimitive, IsUse, IsCall, Joins, InRow, arguments_in, parts_in, row_form, Under, IsFunction, InArms, Matches, IsLeaf, ruling, Becomes, ItemsBecome, ItemBecomes, MadeResolves, with_names}
 use Rattle.lq_resolved.proofs.Fitting.{IsFresh, Lacks, Ties, lacks_some, leaf_fitting, none_both, tied, tied_in}
 use Rattle.lq_resolved.proofs.Nodes.{one_folds, two_folds, three_folds}
 use Rattle.lq_resolved.proofs.Spanning.{count_of, finds, one_more, sees_all}

@@ -1,5 +1,5 @@
 -- A program whose names are bound.
-use Rattle.std.proofs.Common.{◌≡◌, refl}
+use Rattle.std.proofs.Common.{refl}
 use Rattle.lq_resolved.specs.Example.{Examples}
 
 pub examples : Examples

@@ -1,27 +1,25 @@
 -- Functions, lets and matches without complaints.
 use Rattle.std.specs.Prelude.{nat_lt, ◌==◌, ◌&&◌, ◌||◌, reverse}
-use Rattle.std.proofs.Common.{◌≡◌, ℕ, zero, suc, ◌+◌, ◌-◌, Bool, true, false, List, [], ◌∷◌, ◌++◌, length, map, Option, Some, None, refl, sym, ap, subst, ◌∙◌, arith}
+use Rattle.std.proofs.Common.{◌≡◌, ℕ, suc, ◌-◌, Bool, true, false, List, [], ◌∷◌, ◌++◌, length, map, Option, Some, None, refl, sym, ap, subst, ◌∙◌, arith}
 use Rattle.std.proofs.lemmas.Bool.{and_parts}
-use Rattle.std.proofs.lemmas.Bool.Decides.{Decides-eqb, Decides-ltb}
-use Rattle.std.proofs.lemmas.List.{append-nil}
+use Rattle.std.proofs.lemmas.Bool.Decides.{Decides-ltb}
 use Rattle.lq_name.specs.declared.place.Place.{Place}
 use Rattle.lq_tree.specs.Pattern.{Pattern, pattern, PatternForm, any, bind, nothing, tuple_of, build_of, bound_in}
 use Rattle.lq_tree.specs.Tree as form
 use Rattle.lq_tree.specs.Tree.{Tree, tree, Form, Cases, no_cases, more_cases}
 use Rattle.lq_tree.specs.TreeView.{Recursive}
 use Rattle.lq_walk.specs.Fold.{Arm}
-use Rattle.lq_walk.specs.Visits.{Visit, enter, leave, leave_function, declare, show, hide, show_name, hide_name, place_of, place_of_pattern, around, under, in_row, in_arms, in_match, in_function, has_let, is_before, visiting}
-use Rattle.lq_scope.specs.Complaints.{Complaint}
+use Rattle.lq_walk.specs.Visits.{Visit, leave_function, declare, hide, show_name, hide_name, place_of, place_of_pattern, under, in_arms, in_match, in_function, has_let, is_before, visiting}
 use Rattle.lq_scope.specs.Datatypes.{name_of}
 use Rattle.lq_scope.specs.Known as known
 use Rattle.lq_scope.specs.Known.{Arity, Known, defined}
 use Rattle.lq_scope.specs.Patterns.{of_pattern}
 use Rattle.lq_scope.specs.Uses.{Complaining, of_arms, of_match, complaining}
 use Rattle.lq_scoped.specs.Uses.{is_parameter, is_scoped_tree, is_visible}
-use Rattle.lq_resolve.specs.Binding.{bound_from, is_tuple, numbered, sources_of}
-use Rattle.lq_resolve.specs.Making.{Frame, Value, Made, node, part, Making, making, Taken, taken, taken_pattern, taken_body, matched, match_one, next_before, source_before, shown, named, body_made, arms_made, match_made}
-use Rattle.lq_resolved.specs.Parameters.{all_stand, stands, is_taken}
-use Rattle.lq_resolved.proofs.Fitting.{Fitting, FitsMade, Fits, fits_whole, none_both, stand_both, stand_inside, part_of, place_is}
+use Rattle.lq_resolve.specs.Binding.{is_tuple, numbered, sources_of}
+use Rattle.lq_resolve.specs.Making.{Frame, part, Making, making, Taken, taken, taken_pattern, taken_body, matched, next_before, source_before, shown, named, arms_made, match_made}
+use Rattle.lq_resolved.specs.Parameters.{all_stand, is_taken}
+use Rattle.lq_resolved.proofs.Fitting.{Fitting, FitsMade, fits_whole, none_both, stand_both, stand_inside, part_of, place_is}
 use Rattle.lq_resolved.proofs.Nodes.{binders_of, Part, ArmParts, Function, let_node, match_node, let_match_node, function_node, let_rec_node}
 use Rattle.lq_resolved.proofs.Spanning.{Spans, Sees, sees_more, sees_pattern, bound_names, pattern_spans, sees_behind, visible_here, one_more, spans_append}
 

@@ -1,5 +1,5 @@
 -- Trees without the numbers of their nodes: each node has the number 0.
-use Rattle.std.specs.Prelude.{ℕ, List, [], ◌∷◌, map}
+use Rattle.std.specs.Prelude.{List, [], ◌∷◌, map}
 use Rattle.lq_tree.specs.Items.{ItemTree, ItemForm, type_of, let_of, let_rec_of}
 use Rattle.lq_tree.specs.Tree as form
 use Rattle.lq_tree.specs.Tree.{Tree, tree, Form, Cases, no_cases, more_cases}

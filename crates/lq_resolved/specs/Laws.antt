@@ -1,5 +1,5 @@
 -- Laws of how programs are resolved.
-use Rattle.std.specs.Prelude.{◌≡◌, ℕ, true, List, [], length, Option}
+use Rattle.std.specs.Prelude.{◌≡◌, ℕ, true, List, [], length}
 use Rattle.std.specs.Option.{option_map}
 use Rattle.lq_tree.specs.Items.{ItemTree}
 use Rattle.lq_scope.specs.Known as known

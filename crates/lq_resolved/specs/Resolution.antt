@@ -1,9 +1,8 @@
 -- What a program resolves to: its definitions with their names bound and its datatypes, or the first thing that is wrong with its names.
-use Rattle.std.specs.Prelude.{◌≡◌, ℕ, List, [], Option, Some, Result, Ok, Err}
+use Rattle.std.specs.Prelude.{◌≡◌, ℕ, List, [], Some}
 use Rattle.lq_tree.specs.Items.{ItemTree}
 use Rattle.lq_scope.specs.Complaints.{Complaint, least}
 use Rattle.lq_scope.specs.Uses.{of_program}
-use Rattle.lq_scope.specs.Views.{complaint_view}
 use Rattle.lq_scoped.specs.Scoping.{Scoping, scoping}
 use Rattle.lq_datatypes.specs.Datatypes.{datatypes_in}
 use Rattle.lq_resolve.specs.Making.{program_made}

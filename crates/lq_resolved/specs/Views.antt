@@ -1,5 +1,5 @@
 -- What stands in memory.
-use Rattle.std.specs.Prelude.{◌≡◌, Option, Some, None, Result, Ok, Err}
+use Rattle.std.specs.Prelude.{Option, Some, None, Result, Ok, Err}
 use Rattle.lq_scope.specs.Views.{complaint_view}
 use Rattle.lq_scoped.specs.Whole.{scoped_view}
 use Rattle.lq_scoped.specs.declared.scoped.Scoped.{Scoped}

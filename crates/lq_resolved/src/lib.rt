@@ -8,4 +8,4 @@ mod program;
 pub use laws::{
     bound_programs_are_scoped, examples, made_resolves, one_resolution, one_tree, primitives_agree,
 };
-pub use program::{BINDER_LIMIT, ResolveError, resolve};
+pub use program::{ResolveError, resolve};

@@ -36,9 +36,6 @@ impl From<AllocError> for ResolveError {
     }
 }
 
-/// The greatest number of binders.
-pub const BINDER_LIMIT: usize = 0x8000_0000;
-
 // The scoped program of one without complaints.
 fn scoped_of(alloc: Global, program: &Program, names: &NameTable) -> Result<Scoped, AllocError>
     requires { of_program names.now (program_view program.now) ≡ [] }
@@ -48,11 +45,8 @@ fn scoped_of(alloc: Global, program: &Program, names: &NameTable) -> Result<Scop
     if !have_places(alloc, program)? {
         return Err(AllocError);
     }
-    let Bound { items, sources } = bind_program(alloc, program, names)?;
-    if sources.len() > BINDER_LIMIT {
-        return Err(AllocError);
-    }
     let datatypes = datatypes_of(alloc, program.items())?;
+    let Bound { items, sources } = bind_program(alloc, program, names)?;
     Ok(Scoped::new(items, datatypes, sources))
 }
 
@@ -61,7 +55,7 @@ fn scoped_of(alloc: Global, program: &Program, names: &NameTable) -> Result<Scop
 /// Each use gets the binder of the nearest definition of its name, as the OCaml manual has it for the core language; where there is none,
 /// and the name is a primitive's with all its arguments, that primitive is a node. Where several things are wrong, the first in the order
 /// of the text is told, and of several at one place the one with the lowest code. Where a program has 2^32 nodes or more than 2^31
-/// binders, or is made by hand with a pattern where no text can have it, it answers that there is no memory.
+/// binders, or a pattern where no text can have it, it answers that there is no memory.
 pub fn resolve(alloc: Global, program: &Program, names: &NameTable) -> Result<Scoped, ResolveError>
     // Nothing is wrong with the names of a program that is resolved, and its names are bound.
     ensures resolved { IfOk result (λ s. IsResolution names.now (program_view program.now)

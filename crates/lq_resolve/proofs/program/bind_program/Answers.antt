@@ -1,9 +1,12 @@
-use Rattle.std.proofs.Common.{◌≡◌, ◌<◌, ◌^◌, [], Ok, sym, ap, subst, ◌∙◌}
+use Rattle.std.proofs.Common.{◌≡◌, ◌<◌, ◌^◌, [], length, Ok, sym, ap, subst, ◌∙◌, arith}
+use Rattle.std.proofs.lemmas.List.{length-map}
 use Rattle.lq_name.specs.declared.name.Name.{Name}
 use Rattle.lq_walk.specs.Pending.{left}
 use Rattle.lq_walk.specs.Visits.{visits_of_items}
 use Rattle.lq_resolve.specs.Machine.{first_machine, run}
+use Rattle.lq_resolve.specs.Making.{Bound_tree, program_made}
 use Rattle.lq_resolve.specs.States.{machine_of}
+use Rattle.lq_scoped.specs.Views.{source_view}
 use Rattle.lq_tree.specs.Texts.{program_view}
 use Rattle.lq_resolve.proofs.Items.{bound_tree, program_next, program_runs}
 use Rattle.lq_resolve.proofs.program.bind_program.Goals as goal
@@ -26,8 +29,8 @@ returns-clause-bound c =
     let is : m ≡ run names first_machine (visits_of_items (program_view c.args.program.now)) = sym (ap (run names m) over) ∙ before in
     ap (λ k. bound_tree k.items k.sources) is ∙ program_runs names (program_view c.args.program.now)
 
-pub returns-clause-few : goal.returns-clause-few
-returns-clause-few c =
+pub returns-clause-few_nodes : goal.returns-clause-few_nodes
+returns-clause-few_nodes c =
     let names = c.args.names.now in
     let before = c.loop-walk.invariant.0 in
     let m = machine_of c.loop-walk.resolver in
@@ -36,3 +39,14 @@ returns-clause-few c =
     let is : m ≡ run names first_machine (visits_of_items (program_view c.args.program.now)) = sym (ap (run names m) over) ∙ before in
     let same = ap (λ k. k.next) is ∙ program_next names (program_view c.args.program.now) in
     subst (λ n. n < 2 ^ 32) same c.fits.ensures
+
+pub returns-clause-few_binders : goal.returns-clause-few_binders
+returns-clause-few_binders c =
+    let names = c.args.names.now in
+    let m = machine_of c.loop-walk.resolver in
+    let is : bound_tree m.items m.sources ≡ program_made names (program_view c.args.program.now) = returns-clause-bound c in
+    let same = ap (λ (b : Bound_tree). length b.sources) is in
+    let long = length-map c.loop-walk.resolver.sources.items source_view in
+    let few = c.if-len-gt-BINDER_LIMIT.false in
+    let count = c.len.ensures in
+    omega (arith, same, long, few, count)
