@@ -1,0 +1,59 @@
+//! Prints what is wrong with each text of measures and of qualifiers of the files that the command line names. A line that begins with
+//! `p: ` has the program whose datatypes the lines below it mean; one with `m: ` a text of measures, which those below it mean too;
+//! one with `q: ` a text of qualifiers. Below the last two stands the first complaint.
+#![tactic(auto)]
+
+mod told;
+
+use std::alloc::Global;
+use std::{env, fs, io};
+use told::{measures_told, quals_told};
+
+// What the lines so far say.
+#[derive(Drop)]
+struct Context {
+    program: String,
+    measures: String,
+}
+
+// A line, and below it what is wrong with its text.
+fn answer_line(
+    rt: &impl Print,
+    alloc: Global,
+    context: &mut Context,
+    line: &str,
+) -> io::Result<()> {
+    println!(rt; "{line}")?;
+    if let Some(text) = line.strip_prefix("p: ") {
+        context.program = String::from_str(alloc, text)?;
+        context.measures = String::new(alloc);
+    } else if let Some(text) = line.strip_prefix("m: ") {
+        context.measures = String::from_str(alloc, text)?;
+        let told = measures_told(alloc, context.program.as_str(), text)?;
+        println!(rt; "= {told}")?;
+    } else if let Some(text) = line.strip_prefix("q: ") {
+        let told = quals_told(
+            alloc,
+            context.program.as_str(),
+            context.measures.as_str(),
+            text,
+        )?;
+        println!(rt; "= {told}")?;
+    }
+    Ok(())
+}
+
+fn main(rt: HostRuntime) -> io::Result<()> {
+    for name in env::args(&rt)?.skip(1) {
+        let texts = fs::read_to_string(&rt, name.as_str())?;
+        let alloc = rt.alloc();
+        let mut context = Context {
+            program: String::new(alloc),
+            measures: String::new(alloc),
+        };
+        for line in texts.as_str().lines() {
+            answer_line(&rt, alloc, &mut context, line)?;
+        }
+    }
+    Ok(())
+}
