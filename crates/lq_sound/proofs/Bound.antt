@@ -1,97 +1,88 @@
--- Items whose uses all have a definition before them.
-use Rattle.std.specs.Prelude.{slice_get, IsSomeAnd}
-use Rattle.std.proofs.Common.{◌≡◌, ℕ, suc, ◌+◌, ◌<◌, List, [], ◌∷◌, get_or, Option, Some, refl, subst, arith}
-use Rattle.std.proofs.lemmas.Option.{slice_get_within, slice_get-get_or}
-use Rattle.lq_name.specs.declared.name.Binder.{Binder}
-use Rattle.lq_straight.specs.declared.item.NameAt.{NameAt}
-use Rattle.lq_straight.specs.declared.item.Operand.{Operand}
-use Rattle.lq_straight.specs.declared.item.Operand.TheVariants as sum
-use Rattle.lq_straight.specs.declared.item.Right.{Right}
-use Rattle.lq_straight.specs.declared.item.Right.TheVariants as right
-use Rattle.lq_straight.specs.declared.item.Printed.{Printed}
-use Rattle.lq_straight.specs.declared.item.Printed.TheVariants as printed
+-- Items whose binders are numbered from 0 on, and each use has a binder before it.
+use Rattle.std.proofs.Common.{◌≡◌, ℕ, zero, suc, ◌<◌, Bool, true, false, ◌&&◌, ◌||◌, ◌==◌, List, [], ◌∷◌, ◌++◌, refl, sym, ap, subst, ◌∙◌, arith}
+use Rattle.std.proofs.lemmas.Bool.{eqb-true}
+use Rattle.std.proofs.lemmas.List.{append-nil}
+use Rattle.lq_model.specs.FromTree.{items_of}
+use Rattle.lq_model.specs.Program as model
+use Rattle.lq_scoped.specs.Numbers.{binders_in, binders_of_items, from_on}
+use Rattle.lq_scoped.specs.Uses.{is_visible, is_scoped_form, visible_behind, are_scoped}
+use Rattle.lq_tree.specs.Items.{ItemTree}
+use Rattle.lq_walk.specs.Visits.{leave_item, visits_of_form, visits_of_item, visits_of_items}
 use Rattle.lq_straight.specs.declared.item.Item.{Item}
 use Rattle.lq_straight.specs.declared.item.ItemNode.{ItemNode}
 use Rattle.lq_straight.specs.declared.item.ItemNode.TheVariants.{Define, Assert, Print}
-use Rattle.lq_straight.specs.Uses.{used_by_sum, used_by_right, used_by_printed}
-use Rattle.lq_straight.specs.Scope.{IsDefinitionOf, Defines, IsNearest, IsBoundSum, IsBoundRight, IsBoundPrinted, IsBoundNode, Resolves}
+use Rattle.lq_sound.proofs.Cores.{node_core, cores, EachUsed, used_also, defined_by}
+use Rattle.lq_sound.proofs.Reading.{binders_append, Visible, IsNode, AreNodes}
 
--- each of these binders is so
-abbrev pub Each : (ℕ → Type 0) → List Binder → Type 0
-Each Is [] = Unit {0}
-Each Is (x ∷ xs) = Is x.0 × Each Is xs
+-- a definition binds this number, and what is used is below it
+abbrev pub IsBoundAt : ℕ → ItemNode → Type 0
+IsBoundAt at (Define x r) = (x.0 ≡ at) × EachUsed (λ y. y < at) (Define x r)
+IsBoundAt at (Assert a) = EachUsed (λ y. y < at) (Assert a)
+IsBoundAt at (Print e) = EachUsed (λ y. y < at) (Print e)
 
-pub each_also : (Is Also : ℕ → Type 0) → ((y : ℕ) → Is y → Also y) → (xs : List Binder) → Each Is xs → Each Also xs
-each_also Is Also f [] each = tt
-each_also Is Also f (x ∷ xs) each = (f x.0 each.0, each_also Is Also f xs each.1)
+-- the next binder
+abbrev pub next : ℕ → ItemNode → ℕ
+next at (Define x r) = suc at
+next at (Assert a) = at
+next at (Print e) = at
 
--- the item with this number is before that one, and a definition
-abbrev pub Before : (ℕ → Type 0) → ℕ → ℕ → Type 0
-Before Is at y = (y < at) × Is y
+-- each of the items, with binders from here on
+abbrev pub AreBoundFrom : ℕ → List Item → Type 0
+AreBoundFrom at [] = Unit {0}
+AreBoundFrom at (i ∷ items) = IsBoundAt at i.node × AreBoundFrom (next at i.node) items
 
--- The item with this number: a definition binds the number, other items aren't definitions, and what is used is a definition before it.
-abbrev pub IsBoundAt : (ℕ → Type 0) → ℕ → ItemNode Binder → Type 0
-IsBoundAt Is at (Define x r) = (x.0 ≡ at) × Each (Before Is at) (used_by_right r)
-IsBoundAt Is at (Assert a) = (Is at → ⊥) × Each (Before Is at) (used_by_sum a.left) × Each (Before Is at) (used_by_sum a.right)
-IsBoundAt Is at (Print e) = (Is at → ⊥) × Each (Before Is at) (used_by_printed e)
+-- ---- what they mean
 
--- each of the items, numbered from here on
-abbrev pub AreBoundFrom : (ℕ → Type 0) → ℕ → List (Item Binder) → Type 0
-AreBoundFrom Is at [] = Unit {0}
-AreBoundFrom Is at (i ∷ items) = IsBoundAt Is at i.node × AreBoundFrom Is (suc at) items
+pub cores_are : (ts : List ItemTree) (items : List Item) → AreNodes ts items → items_of ts ≡ cores items
+cores_are [] [] are = refl
+cores_are (t ∷ ts) (i ∷ items) are = are.0.core (items_of ts) ∙ ap (λ (l : List model.Item). node_core i.node ∷ l) (cores_are ts items are.1)
+cores_are [] (i ∷ items) are = absurd are
+cores_are (t ∷ ts) [] are = absurd are
 
--- the item with this number is a definition
-abbrev pub IsDefinition : List (Item NameAt) → ℕ → Type 0
-IsDefinition items y = (name : ℕ) × Defines items y name
+-- ---- what they bind
 
-nearest_before : (items : List (Item NameAt)) (at name y : ℕ) → IsNearest items at name y → Before (IsDefinition items) at y
-nearest_before items at name y near = (near.before, (name, near.defines))
+both : (a b : Bool) → (a && b) ≡ true → (a ≡ true) × (b ≡ true)
+both true b e = (refl, e)
+both false b e = absurd cc
 
-sum_bound : (items : List (Item NameAt)) (at : ℕ) (s : Operand NameAt) (t : Operand Binder) → IsBoundSum items at s t → Each (Before (IsDefinition items) at) (used_by_sum t)
-sum_bound items at (sum.Use x) (sum.Use b) is = (nearest_before items at x.name.0 b.0 is, tt)
-sum_bound items at (sum.Add x n) (sum.Add b m) is = (nearest_before items at x.name.0 b.0 is.0, tt)
-sum_bound items at (sum.Sub x n) (sum.Sub b m) is = (nearest_before items at x.name.0 b.0 is.0, tt)
-sum_bound items at (sum.Whole n) (sum.Whole m) is = tt
-sum_bound items at (sum.Negative n) (sum.Negative m) is = tt
-sum_bound items at s t is = absurd is
+item_binders : (t : ItemTree) (n : ItemNode) → IsNode t.form n → binders_in (visits_of_item t) ≡ defined_by n
+item_binders t n node = binders_append (visits_of_form t.form) (leave_item t ∷ []) ∙ append-nil (binders_in (visits_of_form t.form)) ∙ node.binders
 
-right_bound : (items : List (Item NameAt)) (at : ℕ) (r : Right NameAt) (q : Right Binder) → IsBoundRight items at r q → Each (Before (IsDefinition items) at) (used_by_right q)
-right_bound items at (right.Read p) (right.Read q) is = tt
-right_bound items at (right.Operand s) (right.Operand t) is = sum_bound items at s t is
-right_bound items at r q is = absurd is
+binders_behind : (t : ItemTree) (ts : List ItemTree) (n : ItemNode) → IsNode t.form n → binders_of_items (t ∷ ts) ≡ defined_by n ++ binders_of_items ts
+binders_behind t ts n node = binders_append (visits_of_item t) (visits_of_items ts) ∙ ap (λ (l : List ℕ). l ++ binders_of_items ts) (item_binders t n node)
 
-printed_bound : (items : List (Item NameAt)) (at : ℕ) (e : Printed NameAt) (f : Printed Binder) → IsBoundPrinted items at e f → Each (Before (IsDefinition items) at) (used_by_printed f)
-printed_bound items at (printed.Operand s) (printed.Operand t) is = sum_bound items at s t is
-printed_bound items at (printed.Add m n) (printed.Add k l) is = tt
-printed_bound items at (printed.Sub m n) (printed.Sub k l) is = tt
-printed_bound items at e f is = absurd is
+-- the visible binders are those before this one
+abbrev AreBefore : List ℕ → ℕ → Type 0
+AreBefore vs at = (y : ℕ) → Visible vs y → y < at
 
--- an item that defines no name is no definition
-no_definition : (items : List (Item NameAt)) (at : ℕ) (i : Item NameAt) → slice_get items at ≡ Some i → ((name : ℕ) → IsDefinitionOf name i.node → ⊥) → IsDefinition items at → ⊥
-no_definition items at i there never is = never is.0 (subst (λ (o : Option (Item NameAt)). IsSomeAnd o (λ j. IsDefinitionOf is.0 j.node)) there is.1)
+before_more : (vs : List ℕ) (x at : ℕ) → x ≡ at → AreBefore vs at → AreBefore (x ∷ vs) (suc at)
+before_more vs x at e before y = by (x == y) refl
+  where
+    by : (r : Bool) → (x == y) ≡ r → is_visible (x ∷ vs) y ≡ true → y < suc at
+    by true same seen = let is = eqb-true x y same in omega arith
+    by false other seen =
+        let seen_before : is_visible vs y ≡ true = subst (λ (b : Bool). (b || is_visible vs y) ≡ true) other seen in
+        let lt = before y seen_before in
+        omega arith
 
-node_bound : (items : List (Item NameAt)) (at : ℕ) (m : ItemNode NameAt) (n : ItemNode Binder) → (((name : ℕ) → IsDefinitionOf name m → ⊥) → IsDefinition items at → ⊥) → IsBoundNode items at m n
-    → IsBoundAt (IsDefinition items) at n
-node_bound items at (Define x r) (Define b q) none is = (is.0, right_bound items at r q is.1)
-node_bound items at (Assert a) (Assert b) none is = (none (λ name h. h), sum_bound items at a.left b.left is.left, sum_bound items at a.right b.right is.right)
-node_bound items at (Print e) (Print f) none is = (none (λ name h. h), printed_bound items at e f is)
-node_bound items at m n none is = absurd is
+abbrev Bound : List ItemTree → List Item → Type 0
+Bound ts items = (at m : ℕ) (vs : List ℕ) → AreBefore vs at → binders_of_items ts ≡ from_on at m → are_scoped vs ts ≡ true → AreBoundFrom at items
 
-bound_from : (Is : ℕ → Type 0) (at : ℕ) (items : List (Item Binder)) → ((k : ℕ) (b : Item Binder) → slice_get items k ≡ Some b → IsBoundAt Is (at + k) b.node) → AreBoundFrom Is at items
-bound_from Is at [] each = tt
-bound_from Is at (i ∷ items) each = (
-  (let e : at + 0 ≡ at = omega arith in subst (λ (k : ℕ). IsBoundAt Is k i.node) e (each 0 i refl)),
-  bound_from Is (suc at) items (λ k b there.
-      let e : at + suc k ≡ suc at + k = omega arith in
-      subst (λ (j : ℕ). IsBoundAt Is j b.node) e (each (suc k) b there)),
-)
+node_bound : (t : ItemTree) (ts : List ItemTree) (n : ItemNode) (items : List Item) → IsNode t.form n → Bound ts items → (at m : ℕ) (vs : List ℕ) → AreBefore vs at
+    → defined_by n ++ binders_of_items ts ≡ from_on at m → EachUsed (Visible vs) n → are_scoped (defined_by n ++ vs) ts ≡ true → IsBoundAt at n × AreBoundFrom (next at n) items
+node_bound t ts (Define x r) items node rest at zero vs before binders used scoped = absurd cc
+node_bound t ts (Define x r) items node rest at (suc m) vs before binders used scoped =
+    let same : x.0 ≡ at = cc in
+    let later : binders_of_items ts ≡ from_on (suc at) m = cc in
+    ((same, used_also (Visible vs) (λ y. y < at) before (Define x r) used), rest (suc at) m (x.0 ∷ vs) (before_more vs x.0 at same before) later scoped)
+node_bound t ts (Assert a) items node rest at m vs before binders used scoped = (used_also (Visible vs) (λ y. y < at) before (Assert a) used, rest at m vs before binders scoped)
+node_bound t ts (Print e) items node rest at m vs before binders used scoped = (used_also (Visible vs) (λ y. y < at) before (Print e) used, rest at m vs before binders scoped)
 
--- a program whose names resolve is so
-pub resolved_bound : (items : List (Item NameAt)) (scoped : List (Item Binder)) → Resolves items scoped → AreBoundFrom (IsDefinition items) 0 scoped
-resolved_bound items scoped resolves = bound_from (IsDefinition items) 0 scoped (λ k b is.
-    let filler : Item NameAt = record { place = b.place; node = Print (printed.Add 0 0) } in
-    let lt = slice_get_within scoped k b is in
-    let there = slice_get-get_or items k filler (omega (arith, resolves.count, lt)) in
-    let i = get_or items k filler in
-    let e : k ≡ 0 + k = omega arith in
-    subst (λ (j : ℕ). IsBoundAt (IsDefinition items) j b.node) e (node_bound items k i.node b.node (no_definition items k i there) (resolves.each k i b there is).node))
+pub bound_from : (ts : List ItemTree) (items : List Item) → AreNodes ts items → Bound ts items
+bound_from [] [] are at m vs before binders scoped = tt
+bound_from (t ∷ ts) (i ∷ items) are at m vs before binders scoped =
+    let parts = both (is_scoped_form vs t.form) (are_scoped (visible_behind vs t.form) ts) scoped in
+    let later = subst (λ (l : List ℕ). are_scoped l ts ≡ true) (are.0.behind vs) parts.1 in
+    node_bound t ts i.node items are.0 (bound_from ts items are.1) at m vs before (sym (binders_behind t ts i.node are.0) ∙ binders) (are.0.visible vs parts.0) later
+bound_from [] (i ∷ items) are at m vs before binders scoped = absurd are
+bound_from (t ∷ ts) [] are at m vs before binders scoped = absurd are

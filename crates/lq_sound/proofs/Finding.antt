@@ -11,10 +11,6 @@ pub then_and : {A B : Type 0} → (Is : A → Type 0) (Also : B → Type 0) (f :
 then_and Is Also f each (is a) so = each a so
 then_and Is Also f each (unbuilt p) so = tt
 
-pub found_any : {A : Type 0} → (x : Found A) → IsFoundAnd (λ (a : A). Unit {0}) x
-found_any (is a) = tt
-found_any (unbuilt p) = tt
-
 pub choice_and : {A : Type 0} → (Is : A → Type 0) (b : Bool) (x y : Found A) → (b ≡ true → IsFoundAnd Is x) → (b ≡ false → IsFoundAnd Is y) → IsFoundAnd Is (if b then x else y)
 choice_and Is true x y holds fails = holds refl
 choice_and Is false x y holds fails = fails refl

@@ -1,1 +1,1 @@
-pub mod SameTree
+pub mod Safety

@@ -1,11 +1,4 @@
 pub mod Nodes
 pub mod Others
 pub mod Gathering
-pub mod Lists
-pub mod NameLists
-pub mod Binding
-pub mod Unique
-pub mod Kept
-pub mod Scoping
-pub mod Small
-pub mod Counting
+pub mod Whole

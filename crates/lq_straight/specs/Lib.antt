@@ -1,9 +1,5 @@
-pub mod Names
 pub mod Forms
 pub mod Recognising
-pub mod Uses
-pub mod Binding
-pub mod Scope
-pub mod Visible
-pub mod Meaning
+pub mod Program
+pub mod Small
 pub mod Demands

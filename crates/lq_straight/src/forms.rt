@@ -1,22 +1,21 @@
-// The straight-line programs among the trees.
+// The straight-line forms among the trees.
 ghost use Rattle.std.specs.Prelude.{◌≡◌, ◌<◌, IfOk, Err};
 ghost use Rattle.lq_name.specs.declared.place.Place.{Place};
 ghost use Rattle.lq_tree.specs.Items.{let_of, item_view};
 ghost use Rattle.lq_tree.specs.Pattern.{pattern, bind};
 ghost use Rattle.lq_tree.specs.PatternView.{pat_view};
-ghost use Rattle.lq_tree.specs.Texts.{program_view};
-ghost use Rattle.lq_tree.specs.Tree.{tree, use_of, whole, arithmetic};
-ghost use Rattle.lq_tree.specs.TreeView.{parsed_view};
-ghost use Rattle.lq_straight.specs.Forms.{is, unbuilt, variable_in, literal_in, sum_in, unit_in, primitive_in, right_in, with_order, asserted_in, printed_in, done_in, node_in, item_in, items_in};
+ghost use Rattle.lq_tree.specs.Tree.{tree, whole, arithmetic};
+ghost use Rattle.lq_tree.specs.TreeView.{scoped_view};
+ghost use Rattle.lq_scoped.specs.Views.{scoped_items};
+ghost use Rattle.lq_straight.specs.Forms.{is, unbuilt, variable_in, literal_in, sum_in, unit_in, right_in, with_order, asserted_in, printed_in, done_in, node_in, item_in, items_in};
 ghost use Rattle.lq_straight.specs.Recognising.{Answers};
-ghost use Rattle.lq_straight.specs.Uses.{AreSmall, IsSmallSum, IsSmallRight, IsSmallNode, IsSmallItem};
+ghost use Rattle.lq_straight.specs.Small.{AreSmall, IsSmallSum, IsSmallRight, IsSmallNode, IsSmallItem};
 ghost use Rattle.lq_straight.specs.declared.forms.FormError.TheVariants.{Unbuilt, Memory};
 ghost use Rattle.lq_name.specs.declared.limits.TheConstants.{LITERAL_LIMIT};
 
-use crate::item::{Assertion, Item, ItemNode, NameAt, Operand, Order, Printed, Right};
-use crate::names::{PRINT_INT, READ_INT, is_primitive};
-use lq_name::{ArithOp, CompareOp, Name, Place};
-use lq_tree::{Expr, Item as ItemTree, ItemNode as ItemForm, Node, Pat, PatNode, Program};
+use crate::item::{Assertion, Item, ItemNode, Operand, Order, Printed, Right};
+use lq_name::{ArithOp, Binder, CompareOp, Place};
+use lq_tree::{Expr, Item as ItemTree, ItemNode as ItemForm, Node, Pat, PatNode};
 use std::alloc::{AllocError, AllocFailed, Global};
 use thiserror::Error;
 
@@ -47,21 +46,11 @@ impl<T: Drop> From<AllocFailed<T>> for FormError {
     }
 }
 
-// A variable, unless the name is that of a primitive.
-fn variable(name: Name, place: Place) -> Result<NameAt, Place>
-    ensures { Answers result (variable_in (tree 0 place (use_of name.0))) }
-{
-    if is_primitive(name) {
-        return Err(place);
-    }
-    Ok(NameAt { name, place })
-}
-
-fn variable_in(tree: &Expr<Name>) -> Result<NameAt, Place>
-    ensures { Answers result (variable_in (parsed_view tree.now)) }
+fn variable_in(tree: &Expr<Binder>) -> Result<Binder, Place>
+    ensures { Answers result (variable_in (scoped_view tree.now)) }
 {
     match &tree.node {
-        Node::Use(name) => variable(*name, tree.place),
+        Node::Use(x) => Ok(*x),
         _ => Err(tree.place),
     }
 }
@@ -77,8 +66,8 @@ fn literal(n: i128, place: Place) -> Result<u128, Place>
     Ok(n.unsigned_abs())
 }
 
-fn literal_in(tree: &Expr<Name>) -> Result<u128, Place>
-    ensures literal { Answers result (literal_in (parsed_view tree.now)) }
+fn literal_in(tree: &Expr<Binder>) -> Result<u128, Place>
+    ensures literal { Answers result (literal_in (scoped_view tree.now)) }
     ensures small { IfOk result (λ n. n < LITERAL_LIMIT) }
 {
     match &tree.node {
@@ -88,7 +77,7 @@ fn literal_in(tree: &Expr<Name>) -> Result<u128, Place>
 }
 
 // A literal as a sum.
-fn literal_sum(n: i128, place: Place) -> Result<Operand<NameAt>, Place>
+fn literal_sum(n: i128, place: Place) -> Result<Operand, Place>
     ensures sum { Answers result (sum_in (tree 0 place (whole n))) }
     ensures small { IfOk result (λ s. IsSmallSum s) }
 {
@@ -104,44 +93,44 @@ fn literal_sum(n: i128, place: Place) -> Result<Operand<NameAt>, Place>
 // A variable with a literal added or taken away.
 fn arith_sum(
     op: ArithOp,
-    left: &Expr<Name>,
-    right: &Expr<Name>,
+    left: &Expr<Binder>,
+    right: &Expr<Binder>,
     place: Place,
-) -> Result<Operand<NameAt>, Place>
-    ensures sum { Answers result (sum_in (tree 0 place (arithmetic op (parsed_view left.now)
-        (parsed_view right.now)))) }
+) -> Result<Operand, Place>
+    ensures sum { Answers result (sum_in (tree 0 place (arithmetic op (scoped_view left.now)
+        (scoped_view right.now)))) }
     ensures small { IfOk result (λ s. IsSmallSum s) }
 {
     match op {
         ArithOp::Add => {
-            let name = variable_in(left)?;
+            let x = variable_in(left)?;
             let literal = literal_in(right)?;
-            Ok(Operand::Add(name, literal))
+            Ok(Operand::Add(x, literal))
         }
         ArithOp::Sub => {
-            let name = variable_in(left)?;
+            let x = variable_in(left)?;
             let literal = literal_in(right)?;
-            Ok(Operand::Sub(name, literal))
+            Ok(Operand::Sub(x, literal))
         }
         _ => Err(place),
     }
 }
 
-fn sum_in(tree: &Expr<Name>) -> Result<Operand<NameAt>, Place>
-    ensures sum { Answers result (sum_in (parsed_view tree.now)) }
+fn sum_in(tree: &Expr<Binder>) -> Result<Operand, Place>
+    ensures sum { Answers result (sum_in (scoped_view tree.now)) }
     ensures small { IfOk result (λ s. IsSmallSum s) }
 {
     match &tree.node {
         Node::Whole(n) => literal_sum(*n, tree.place),
-        Node::Use(name) => Ok(Operand::Use(variable(*name, tree.place)?)),
+        Node::Use(x) => Ok(Operand::Use(*x)),
         Node::Arith(op, left, right) => arith_sum(*op, left, right, tree.place),
         _ => Err(tree.place),
     }
 }
 
 // Whether the tree is `()`.
-fn unit_in(tree: &Expr<Name>) -> Result<(), Place>
-    ensures { Answers result (unit_in tt (parsed_view tree.now)) }
+fn unit_in(tree: &Expr<Binder>) -> Result<(), Place>
+    ensures { Answers result (unit_in tt (scoped_view tree.now)) }
 {
     match &tree.node {
         Node::Unit => Ok(()),
@@ -149,28 +138,12 @@ fn unit_in(tree: &Expr<Name>) -> Result<(), Place>
     }
 }
 
-// Whether the tree is the primitive of this name.
-fn primitive_in(primitive: Name, tree: &Expr<Name>) -> Result<(), Place>
-    ensures { Answers result (primitive_in primitive.0 (parsed_view tree.now) (is tt)) }
-{
-    match &tree.node {
-        Node::Use(name) => {
-            if *name == primitive {
-                return Ok(());
-            }
-            Err(tree.place)
-        }
-        _ => Err(tree.place),
-    }
-}
-
-fn right_in(tree: &Expr<Name>) -> Result<Right<NameAt>, Place>
-    ensures right { Answers result (right_in (parsed_view tree.now)) }
+fn right_in(tree: &Expr<Binder>) -> Result<Right, Place>
+    ensures right { Answers result (right_in (scoped_view tree.now)) }
     ensures small { IfOk result (λ r. IsSmallRight r) }
 {
     match &tree.node {
-        Node::Call(function, argument) => {
-            primitive_in(READ_INT, function)?;
+        Node::Read(argument) => {
             unit_in(argument)?;
             Ok(Right::Read(tree.place))
         }
@@ -193,8 +166,8 @@ fn order_of(op: CompareOp, place: Place) -> Result<Order, Place>
 }
 
 // What is asserted at this place.
-fn asserted_in(place: Place, tree: &Expr<Name>) -> Result<ItemNode<NameAt>, Place>
-    ensures asserted { Answers result (asserted_in place (parsed_view tree.now)) }
+fn asserted_in(place: Place, tree: &Expr<Binder>) -> Result<ItemNode, Place>
+    ensures asserted { Answers result (asserted_in place (scoped_view tree.now)) }
     ensures small { IfOk result (λ n. IsSmallNode n) }
 {
     match &tree.node {
@@ -216,12 +189,12 @@ fn asserted_in(place: Place, tree: &Expr<Name>) -> Result<ItemNode<NameAt>, Plac
 // What is printed: two literals, or a sum.
 fn printed_arith(
     op: ArithOp,
-    left: &Expr<Name>,
-    right: &Expr<Name>,
+    left: &Expr<Binder>,
+    right: &Expr<Binder>,
     place: Place,
-) -> Result<Printed<NameAt>, Place>
-    ensures { Answers result (printed_in (tree 0 place (arithmetic op (parsed_view left.now)
-        (parsed_view right.now)))) }
+) -> Result<Printed, Place>
+    ensures { Answers result (printed_in (tree 0 place (arithmetic op (scoped_view left.now)
+        (scoped_view right.now)))) }
 {
     match literal_in(left) {
         Ok(m) => match op {
@@ -233,8 +206,8 @@ fn printed_arith(
     }
 }
 
-fn printed_in(tree: &Expr<Name>) -> Result<Printed<NameAt>, Place>
-    ensures { Answers result (printed_in (parsed_view tree.now)) }
+fn printed_in(tree: &Expr<Binder>) -> Result<Printed, Place>
+    ensures { Answers result (printed_in (scoped_view tree.now)) }
 {
     match &tree.node {
         Node::Arith(op, left, right) => printed_arith(*op, left, right, tree.place),
@@ -243,46 +216,25 @@ fn printed_in(tree: &Expr<Name>) -> Result<Printed<NameAt>, Place>
 }
 
 // The right side of `let () =`.
-fn done_in(tree: &Expr<Name>) -> Result<ItemNode<NameAt>, Place>
-    ensures done { Answers result (done_in (parsed_view tree.now)) }
+fn done_in(tree: &Expr<Binder>) -> Result<ItemNode, Place>
+    ensures done { Answers result (done_in (scoped_view tree.now)) }
     ensures small { IfOk result (λ n. IsSmallNode n) }
 {
     match &tree.node {
         Node::Assert(asserted) => asserted_in(tree.place, asserted),
-        Node::Call(function, argument) => {
-            primitive_in(PRINT_INT, function)?;
-            Ok(ItemNode::Print(printed_in(argument)?))
-        }
+        Node::Print(argument) => Ok(ItemNode::Print(printed_in(argument)?)),
         _ => Err(tree.place),
     }
 }
 
-// The definition of a name by the item at this place.
-fn defined_in(place: Place, name: NameAt, tree: &Expr<Name>) -> Result<ItemNode<NameAt>, Place>
-    ensures node { Answers result (node_in place (let_of (pattern name.place (bind name.name.0))
-        (parsed_view tree.now))) }
-    ensures small { IfOk result (λ n. IsSmallNode n) }
-{
-    if is_primitive(name.name) {
-        return Err(place);
-    }
-    Ok(ItemNode::Define(name, right_in(tree)?))
-}
-
 // What the item at this place does with the value of the tree.
-fn bound_in(place: Place, pattern: &Pat<Name>, tree: &Expr<Name>) -> Result<ItemNode<NameAt>, Place>
-    ensures node { Answers result (node_in place (let_of (pat_view Name (λ n. n.0) pattern.now)
-        (parsed_view tree.now))) }
+fn bound_in(place: Place, pattern: &Pat<Binder>, tree: &Expr<Binder>) -> Result<ItemNode, Place>
+    ensures node { Answers result (node_in place (let_of (pat_view Binder (λ b. b.0) pattern.now)
+        (scoped_view tree.now))) }
     ensures small { IfOk result (λ n. IsSmallNode n) }
 {
     match &pattern.node {
-        PatNode::Bind(name) => {
-            let name = NameAt {
-                name: *name,
-                place: pattern.place,
-            };
-            defined_in(place, name, tree)
-        }
+        PatNode::Bind(x) => Ok(ItemNode::Define(*x, right_in(tree)?)),
         PatNode::Unit => done_in(tree),
         PatNode::Any => Err(place),
         PatNode::Tuple(_) => Err(place),
@@ -290,8 +242,8 @@ fn bound_in(place: Place, pattern: &Pat<Name>, tree: &Expr<Name>) -> Result<Item
     }
 }
 
-fn item_in(item: &ItemTree<Name>) -> Result<Item<NameAt>, Place>
-    ensures item { Answers result (item_in (item_view Name (λ n. n.0) item.now)) }
+fn item_in(item: &ItemTree<Binder>) -> Result<Item, Place>
+    ensures item { Answers result (item_in (item_view Binder (λ b. b.0) item.now)) }
     ensures small { IfOk result (λ i. IsSmallItem i) }
 {
     match &item.node {
@@ -307,15 +259,14 @@ fn item_in(item: &ItemTree<Name>) -> Result<Item<NameAt>, Place>
     }
 }
 
-/// The items of a straight-line program, whose names are those of a table that `name_table` began.
-pub fn recognise(alloc: Global, program: &Program) -> Result<Vec<Item<NameAt>>, FormError>
-    ensures ok { IfOk result (λ items. items_in (program_view program.now) ≡ is items.items) }
+/// The straight-line items that these are.
+pub(crate) fn items_in(alloc: Global, trees: &[ItemTree<Binder>]) -> Result<Vec<Item>, FormError>
+    ensures ok { IfOk result (λ items. items_in (scoped_items trees.now) ≡ is items.items) }
     ensures small { IfOk result (λ items. AreSmall items.items) }
-    ensures unbuilt { (p : Place) → result ≡ Err (Unbuilt p)
-        → items_in (program_view program.now) ≡ unbuilt p }
+    ensures unbuilt { (p : Place) → result ≡ Err (Unbuilt p) → items_in (scoped_items trees.now) ≡ unbuilt p }
 {
     let mut items = Vec::new(alloc);
-    for tree in program.items() {
+    for tree in trees {
         match item_in(tree) {
             Ok(item) => items.push(item)?,
             Err(place) => return Err(FormError::Unbuilt(place)),

@@ -1,24 +1,15 @@
 // The items of straight-line programs.
-use lq_name::{Name, Place};
-
-/// A name where it stands in a program.
-#[derive(Clone, Copy, Debug, PartialEq, Eq)]
-pub struct NameAt {
-    /// Its number in the name table.
-    pub name: Name,
-    /// Where it stands.
-    pub place: Place,
-}
+use lq_name::{Binder, Place};
 
 /// A literal, a variable, or a variable with a literal added or taken away.
 #[derive(Clone, Copy)]
-pub enum Operand<V> {
+pub enum Operand {
     /// A variable alone.
-    Use(V),
+    Use(Binder),
     /// A variable with a literal added.
-    Add(V, u128),
+    Add(Binder, u128),
     /// A variable with a literal taken away.
-    Sub(V, u128),
+    Sub(Binder, u128),
     /// A literal that isn't below 0.
     Whole(u128),
     /// A literal below 0, without its sign.
@@ -27,11 +18,11 @@ pub enum Operand<V> {
 
 /// The right side of a definition.
 #[derive(Clone, Copy)]
-pub enum Right<V> {
+pub enum Right {
     /// `read_int ()`, with its place.
     Read(Place),
     /// A sum.
-    Operand(Operand<V>),
+    Operand(Operand),
 }
 
 /// How the sides of an assertion are to stand.
@@ -49,44 +40,44 @@ pub enum Order {
 
 /// `let () = assert (left order right)`.
 #[derive(Clone, Copy)]
-pub struct Assertion<V> {
+pub struct Assertion {
     /// The place of `assert`.
     pub place: Place,
     /// The side left of the comparison.
-    pub left: Operand<V>,
+    pub left: Operand,
     /// How the sides are to stand.
     pub order: Order,
     /// The side right of the comparison.
-    pub right: Operand<V>,
+    pub right: Operand,
 }
 
 /// What is printed: a sum, or two literals of which one is added to the other or taken away.
 #[derive(Clone, Copy)]
-pub enum Printed<V> {
+pub enum Printed {
     /// A sum.
-    Operand(Operand<V>),
+    Operand(Operand),
     /// The second literal added to the first.
     Add(u128, u128),
     /// The second literal taken away from the first.
     Sub(u128, u128),
 }
 
-/// An item of a straight-line program, with its variables as `V`: names once it is read, and binders once it is bound.
+/// An item of a straight-line program.
 #[derive(Clone, Copy)]
-pub struct Item<V> {
+pub struct Item {
     /// The place of its first token.
     pub place: Place,
     /// Its form.
-    pub node: ItemNode<V>,
+    pub node: ItemNode,
 }
 
 /// The form of an item.
 #[derive(Clone, Copy)]
-pub enum ItemNode<V> {
+pub enum ItemNode {
     /// `let binder = right`.
-    Define(V, Right<V>),
+    Define(Binder, Right),
     /// An assertion.
-    Assert(Assertion<V>),
+    Assert(Assertion),
     /// `let () = print_int printed`.
-    Print(Printed<V>),
+    Print(Printed),
 }

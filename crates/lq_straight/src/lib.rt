@@ -1,17 +1,10 @@
-//! Straight-line programs: their items, their names, what they do and what they demand.
+//! Straight-line programs: their items and what they demand.
 #![tactic(auto)]
 
 mod forms;
 mod item;
-mod laws;
-mod names;
-mod ordinal;
-mod scope;
-mod visible;
+mod program;
 
-pub use forms::{FormError, recognise};
-pub use item::{Assertion, Item, ItemNode, NameAt, Operand, Order, Printed, Right};
-pub use laws::{one_scope, primitives_have_their_names};
-pub use names::name_table;
-pub use ordinal::ordinals;
-pub use scope::{ScopeError, resolve};
+pub use forms::FormError;
+pub use item::{Assertion, Item, ItemNode, Operand, Order, Printed, Right};
+pub use program::recognise;
