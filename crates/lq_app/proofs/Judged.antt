@@ -1,10 +1,10 @@
 -- Two judgements that are due agree.
 use Rattle.std.specs.Prelude.{slice_get, codes, false}
-use Rattle.std.proofs.Common.{◌≡◌, ◌⊎◌, inl, inr, ⊎_elim, ℕ, zero, suc, ◌<◌, ◌^◌, ◌++◌, List, [], ◌∷◌, take, All, Some, Result, Ok, Err, refl, sym, ap, subst, ◌∙◌, map, arith}
+use Rattle.std.proofs.Common.{◌≡◌, ◌⊎◌, inl, inr, ⊎_elim, ℕ, zero, suc, ◌<◌, ◌^◌, ◌++◌, List, [], ◌∷◌, take, All, Option, Some, None, Result, Ok, Err, refl, sym, ap, subst, ◌∙◌, map, arith}
 use Rattle.std.proofs.lemmas.Bool.{cases_lt}
 use Rattle.std.proofs.lemmas.List.{append-nil}
 use Rattle.std.proofs.lemmas.List.Elements.{All-head, All-tail}
-use Rattle.lq_name.specs.declared.name.Binder.{Binder}
+use Rattle.lq_name.specs.declared.place.Place.{Place}
 use Rattle.lq_pred.specs.Formula.{Formula}
 use Rattle.lq_pred.specs.Sum.{Sum as Term}
 use Rattle.lq_pred.specs.Points.{Point}
@@ -14,7 +14,6 @@ use Rattle.lq_pred.specs.Literals.{negative, literals_of}
 use Rattle.lq_pred.specs.ClosedImplication.{ClosedImplication, IsValid, terms_in}
 use Rattle.lq_demand.specs.Answer.{CanBeGathered, sizes_of, IsFirstFailing, IsFirstUngathered}
 use Rattle.lq_report.specs.Refusals.{code_of, refusal_line}
-use Rattle.lq_straight.specs.declared.item.NameAt.{NameAt}
 use Rattle.lq_straight.specs.declared.item.Item.{Item}
 use Rattle.lq_straight.specs.declared.item.Assertion.{Assertion}
 use Rattle.lq_straight.specs.Demands.{goal_of, implications_of, assertions_of}
@@ -22,13 +21,13 @@ use Rattle.lq_app.specs.declared.verdict.Judgement.{Judgement}
 use Rattle.lq_app.specs.declared.verdict.Refusal.{Refusal}
 use Rattle.lq_app.specs.declared.verdict.Judgement.TheVariants.{Accepted, Rejected, Undecided}
 use Rattle.lq_app.specs.declared.verdict.Refusal.TheVariants.{Code, Memory}
-use Rattle.lq_sound.specs.SameTree.{AreTheTextsTrees}
-use Rattle.lq_straight.specs.Demands.{ValidIsSafe}
+use Rattle.lq_sound.specs.Safety.{ValidIsSafe}
 use Rattle.lq_straight.specs.Forms as form
-use Rattle.lq_straight.specs.Forms.{items_in}
-use Rattle.lq_straight.specs.Scope.{Resolves}
-use Rattle.lq_app.specs.Stages.{Parsed, Recognised, Scoped}
-use Rattle.lq_app.specs.Judgement.{Bound, trees_of, names_of, items_of, demands, IsAccepted, IsSafeText, ShowsPoint, IsRejected, IsUngathered, IsPastNumber, IsRefused, IsJudgement, HasSmallDemands, PointValue, at_number, point_lines, RejectAlike, ExplainAlike, IsOneJudgement, head_lines}
+use Rattle.lq_straight.specs.Forms.{Found, then_found, items_in}
+use Rattle.lq_straight.specs.Program.{first_datatype, up_to}
+use Rattle.lq_tree.specs.Items.{ItemTree}
+use Rattle.lq_app.specs.Stages.{Recognised, Scoped}
+use Rattle.lq_app.specs.Judgement.{Bound, names_of, scoping_of, sources_of, demands, IsAccepted, IsSafeText, ShowsPoint, IsRejected, IsUngathered, IsPastNumber, IsRefused, IsJudgement, HasSmallDemands, PointValue, at_number, point_lines, RejectAlike, ExplainAlike, IsOneJudgement, head_lines}
 use Rattle.lq_app.specs.Texts.{fraction_text, term_text, formula_text}
 use Rattle.lq_app.proofs.Asserted.{goal_at, goal_literals, goal_fits}
 use Rattle.lq_app.proofs.Staged.{Laws, one_program}
@@ -37,8 +36,8 @@ use Rattle.lq_app.proofs.Staged.{Laws, one_program}
 bound_once : Laws → (text : List ℕ) (a b : Bound text) → a.program ≡ b.program
 bound_once laws text a b = let same = one_program laws text (Ok a.program) (Ok b.program) a.is b.is in cc
 
-scoped_once : Laws → (text : List ℕ) (a b : Bound text) → a.program.scoped ≡ b.program.scoped
-scoped_once laws text a b = ap (λ (p : Scoped). p.scoped) (bound_once laws text a b)
+items_once : Laws → (text : List ℕ) (a b : Bound text) → a.program.items ≡ b.program.items
+items_once laws text a b = ap (λ (p : Recognised). p.items) (bound_once laws text a b)
 
 -- what holds of all holds of one, and of one of the first
 all_at : {A : Type 0} (P : A → Type 0) (xs : List A) (k : ℕ) (x : A) → All P xs → slice_get xs k ≡ Some x → P x
@@ -76,62 +75,62 @@ failing_once list others k m p q f g same number =
     cc
 
 -- a demand that isn't gathered has a literal that can't be
-cannot_be : (scoped : List (Item Binder)) (k : ℕ) (p : Formula) (f : IsFirstUngathered (implications_of scoped) k p) → CanBeGathered f.ungathered → ⊥
-cannot_be scoped k p f can =
-    let a = goal_at [] scoped k f.ungathered f.at in
+cannot_be : (items : List Item) (k : ℕ) (p : Formula) (f : IsFirstUngathered (implications_of items) k p) → CanBeGathered f.ungathered → ⊥
+cannot_be items k p f can =
+    let a = goal_at [] items k f.ungathered f.at in
     let goal : f.ungathered.goal ≡ goal_of a.0 = a.1 in
     let fits = goal_fits a.0 (subst (λ (q : Formula). All CanGather (literals_of negative q)) goal (goal_literals f.ungathered can)) in
     f.cannot (subst (λ (q : Formula). AllFitIn (reading_of false q)) (sym goal ∙ f.is_goal) fits)
 
-ungathered_not_after : (scoped : List (Item Binder)) (k m : ℕ) (p q : Formula) → IsFirstUngathered (implications_of scoped) k p → IsFirstUngathered (implications_of scoped) m q → k < m → ⊥
-ungathered_not_after scoped k m p q f g lt = cannot_be scoped k p f (before_at CanBeGathered (implications_of scoped) m k f.ungathered g.earlier lt f.at)
+ungathered_not_after : (items : List Item) (k m : ℕ) (p q : Formula) → IsFirstUngathered (implications_of items) k p → IsFirstUngathered (implications_of items) m q → k < m → ⊥
+ungathered_not_after items k m p q f g lt = cannot_be items k p f (before_at CanBeGathered (implications_of items) m k f.ungathered g.earlier lt f.at)
 
-one_ungathered : (scoped : List (Item Binder)) (k m : ℕ) (p q : Formula) → IsFirstUngathered (implications_of scoped) k p → IsFirstUngathered (implications_of scoped) m q → k ≡ m
-one_ungathered scoped k m p q f g = same_number k m (ungathered_not_after scoped k m p q f g) (ungathered_not_after scoped m k q p g f)
+one_ungathered : (items : List Item) (k m : ℕ) (p q : Formula) → IsFirstUngathered (implications_of items) k p → IsFirstUngathered (implications_of items) m q → k ≡ m
+one_ungathered items k m p q f g = same_number k m (ungathered_not_after items k m p q f g) (ungathered_not_after items m k q p g f)
 
-gathered_or_not : (scoped : List (Item Binder)) (k : ℕ) (p : Formula) → IsFirstUngathered (implications_of scoped) k p → All CanBeGathered (implications_of scoped) → ⊥
-gathered_or_not scoped k p f all = cannot_be scoped k p f (all_at CanBeGathered (implications_of scoped) k f.ungathered all f.at)
+gathered_or_not : (items : List Item) (k : ℕ) (p : Formula) → IsFirstUngathered (implications_of items) k p → All CanBeGathered (implications_of items) → ⊥
+gathered_or_not items k p f all = cannot_be items k p f (all_at CanBeGathered (implications_of items) k f.ungathered all f.at)
 
 -- the assertion of one number
-one_assertion : (scoped others : List (Item Binder)) (k m : ℕ) (a b : Assertion Binder) → scoped ≡ others → k ≡ m → slice_get (assertions_of scoped) k ≡ Some a → slice_get (assertions_of others) m ≡ Some b → a ≡ b
-one_assertion scoped others k m a b e f is also =
-    let there : slice_get (assertions_of others) m ≡ Some a = subst (λ (n : ℕ). slice_get (assertions_of others) n ≡ Some a) f (subst (λ (l : List (Item Binder)). slice_get (assertions_of l) k ≡ Some a) e is) in
+one_assertion : (items others : List Item) (k m : ℕ) (a b : Assertion) → items ≡ others → k ≡ m → slice_get (assertions_of items) k ≡ Some a → slice_get (assertions_of others) m ≡ Some b → a ≡ b
+one_assertion items others k m a b e f is also =
+    let there : slice_get (assertions_of others) m ≡ Some a = subst (λ (n : ℕ). slice_get (assertions_of others) n ≡ Some a) f (subst (λ (l : List Item). slice_get (assertions_of l) k ≡ Some a) e is) in
     cc
 
 -- the lines on a point, each with its value
-valued : (names : List (List ℕ)) (items : List (Item NameAt)) (p : Point) (ts : List Term) (lines : List ℕ) → ShowsPoint names items p ts lines
-    → (ls : List (List ℕ × PointValue)) × (lines ≡ point_lines ls) × (map (λ l. l.0) ls ≡ map (term_text names items) ts)
-valued names items p [] lines shows = ([], shows, refl)
-valued names items p (t ∷ ts) lines shows =
-    let rest = valued names items p ts shows.2 shows.5 in (
-      (term_text names items t, at_number shows.0 shows.1) ∷ rest.0,
-      shows.4 ∙ ap (λ (l : List ℕ). term_text names items t ++ codes " = " ++ fraction_text shows.0 shows.1 ++ codes "\n" ++ l) rest.1,
-      ap (λ (l : List (List ℕ)). term_text names items t ∷ l) rest.2,
+valued : (names : List (List ℕ)) (sources : List (Option ℕ)) (p : Point) (ts : List Term) (lines : List ℕ) → ShowsPoint names sources p ts lines
+    → (ls : List (List ℕ × PointValue)) × (lines ≡ point_lines ls) × (map (λ l. l.0) ls ≡ map (term_text names sources) ts)
+valued names sources p [] lines shows = ([], shows, refl)
+valued names sources p (t ∷ ts) lines shows =
+    let rest = valued names sources p ts shows.2 shows.5 in (
+      (term_text names sources t, at_number shows.0 shows.1) ∷ rest.0,
+      shows.4 ∙ ap (λ (l : List ℕ). term_text names sources t ++ codes " = " ++ fraction_text shows.0 shows.1 ++ codes "\n" ++ l) rest.1,
+      ap (λ (l : List (List ℕ)). term_text names sources t ∷ l) rest.2,
     )
 
-abbrev shown_terms : Scoped → ClosedImplication → List (List ℕ)
-shown_terms p i = map (term_text (names_of p) (items_of p)) (terms_in i)
+abbrev shown_terms : Recognised → ClosedImplication → List (List ℕ)
+shown_terms p i = map (term_text (names_of p) (sources_of p)) (terms_in i)
 
 -- two rejections show the same demand
 rejected_once : Laws → (text r q : List ℕ) → IsRejected text r → IsRejected text q → RejectAlike r q
 rejected_once laws text r q a b =
     let program = bound_once laws text a.of b.of in
-    let scoped = scoped_once laws text a.of b.of in
-    let first = subst (λ (l : List (Item Binder)). IsFirstFailing (implications_of l) a.number a.point) scoped a.first in
+    let items = items_once laws text a.of b.of in
+    let first = subst (λ (l : List Item). IsFirstFailing (implications_of l) a.number a.point) items a.first in
     let number = one_failing (demands b.of) a.number b.number a.point b.point first b.first in
-    let assertion = one_assertion a.of.program.scoped b.of.program.scoped a.number b.number a.assertion b.assertion scoped number a.asserted b.asserted in
-    let failing = failing_once (demands a.of) (demands b.of) a.number b.number a.point b.point a.first b.first (ap implications_of scoped) number in
+    let assertion = one_assertion a.of.program.items b.of.program.items a.number b.number a.assertion b.assertion items number a.asserted b.asserted in
+    let failing = failing_once (demands a.of) (demands b.of) a.number b.number a.point b.point a.first b.first (ap implications_of items) number in
     let head : head_lines (codes "rejected\n") b.number b.assertion.place ≡ head_lines (codes "rejected\n") a.number a.assertion.place =
-    ap (λ (n : ℕ). head_lines (codes "rejected\n") n b.assertion.place) (sym number) ∙ ap (λ (s : Assertion Binder). head_lines (codes "rejected\n") a.number s.place) (sym assertion) in
+    ap (λ (n : ℕ). head_lines (codes "rejected\n") n b.assertion.place) (sym number) ∙ ap (λ (s : Assertion). head_lines (codes "rejected\n") a.number s.place) (sym assertion) in
     let front = head_lines (codes "rejected\n") a.number a.assertion.place in
-    let one = valued (names_of a.of.program) (items_of a.of.program) a.point (terms_in a.first.failing) a.lines a.shows in
-    let two = valued (names_of b.of.program) (items_of b.of.program) b.point (terms_in b.first.failing) b.lines b.shows in (
+    let one = valued (names_of a.of.program) (sources_of a.of.program) a.point (terms_in a.first.failing) a.lines a.shows in
+    let two = valued (names_of b.of.program) (sources_of b.of.program) b.point (terms_in b.first.failing) b.lines b.shows in (
       a.number,
       a.assertion.place,
       record {
         lines = one.0;
         other_lines = two.0;
-        same = one.2 ∙ ap (λ (p : Scoped). shown_terms p a.first.failing) program ∙ ap (shown_terms b.of.program) failing ∙ sym two.2;
+        same = one.2 ∙ ap (λ (p : Recognised). shown_terms p a.first.failing) program ∙ ap (shown_terms b.of.program) failing ∙ sym two.2;
         back = [];
         written = a.written ∙ ap (λ (l : List ℕ). front ++ l) one.1 ∙ sym (append-nil (front ++ point_lines one.0));
         other_written = b.written ∙ ap (λ (l : List ℕ). l ++ b.lines) head ∙ ap (λ (l : List ℕ). front ++ l) two.1 ∙ sym (append-nil (front ++ point_lines two.0));
@@ -150,23 +149,23 @@ one_formula list k m p q e f g =
     let same : f.ungathered ≡ g.ungathered = cc in
     sym f.is_goal ∙ ap (λ (i : ClosedImplication). i.goal) same ∙ g.is_goal
 
-abbrev ungathered_text : Scoped → ℕ → Assertion Binder → Formula → List ℕ
+abbrev ungathered_text : Recognised → ℕ → Assertion → Formula → List ℕ
 ungathered_text p number assertion formula =
-    head_lines (codes "undecided\n") number assertion.place ++ codes "number past in " ++ formula_text (names_of p) (items_of p) formula ++ codes "\n"
+    head_lines (codes "undecided\n") number assertion.place ++ codes "number past in " ++ formula_text (names_of p) (sources_of p) formula ++ codes "\n"
 
 -- two judgements on a comparison that can't be gathered are one
 ungathered_once : Laws → (text r q : List ℕ) → IsUngathered text r → IsUngathered text q → r ≡ q
 ungathered_once laws text r q a b =
     let program = bound_once laws text a.of b.of in
-    let scoped = scoped_once laws text a.of b.of in
-    let first = subst (λ (l : List (Item Binder)). IsFirstUngathered (implications_of l) a.number a.formula) scoped a.first in
-    let number = one_ungathered b.of.program.scoped a.number b.number a.formula b.formula first b.first in
-    let assertion = one_assertion a.of.program.scoped b.of.program.scoped a.number b.number a.assertion b.assertion scoped number a.asserted b.asserted in
+    let items = items_once laws text a.of b.of in
+    let first = subst (λ (l : List Item). IsFirstUngathered (implications_of l) a.number a.formula) items a.first in
+    let number = one_ungathered b.of.program.items a.number b.number a.formula b.formula first b.first in
+    let assertion = one_assertion a.of.program.items b.of.program.items a.number b.number a.assertion b.assertion items number a.asserted b.asserted in
     let formula = one_formula (demands b.of) a.number b.number a.formula b.formula number first b.first in
     a.written
-    ∙ ap (λ (p : Scoped). ungathered_text p a.number a.assertion a.formula) program
+    ∙ ap (λ (p : Recognised). ungathered_text p a.number a.assertion a.formula) program
     ∙ ap (λ (n : ℕ). ungathered_text b.of.program n a.assertion a.formula) number
-    ∙ ap (λ (s : Assertion Binder). ungathered_text b.of.program b.number s a.formula) assertion
+    ∙ ap (λ (s : Assertion). ungathered_text b.of.program b.number s a.formula) assertion
     ∙ ap (ungathered_text b.of.program b.number b.assertion) formula
     ∙ sym b.written
 
@@ -184,13 +183,13 @@ one_refusal laws text c d r q a b =
 
 accepted_or_rejected : Laws → (text r : List ℕ) → IsAccepted text → IsRejected text r → ⊥
 accepted_or_rejected laws text r a b =
-    let valid = subst (λ (l : List (Item Binder)). All IsValid (implications_of l)) (scoped_once laws text a.of b.of) a.valid in
+    let valid = subst (λ (l : List Item). All IsValid (implications_of l)) (items_once laws text a.of b.of) a.valid in
     failing_is_invalid (demands b.of) b.number b.point b.first (all_at IsValid (demands b.of) b.number b.first.failing valid b.first.at)
 
 -- where all literals can be gathered nothing is ungathered
 gathered_here : Laws → (text r : List ℕ) (p : Bound text) → All CanBeGathered (demands p) → IsUngathered text r → ⊥
 gathered_here laws text r p all b =
-    gathered_or_not b.of.program.scoped b.number b.formula b.first (subst (λ (l : List (Item Binder)). All CanBeGathered (implications_of l)) (scoped_once laws text p b.of) all)
+    gathered_or_not b.of.program.items b.number b.formula b.first (subst (λ (l : List Item). All CanBeGathered (implications_of l)) (items_once laws text p b.of) all)
 
 pub judged_once : Laws → IsOneJudgement
 judged_once laws text (Ok (Undecided c)) b (inr n) is = inr (inl n)
@@ -226,20 +225,23 @@ decided_is text cause small (inr is) =
     let high = is.first.sized in
     absurd (omega arith)
 
--- a bound program's items are those of its trees, and its names are bound
-bound_is : (text : List ℕ) (b : Bound text) → (items_in (trees_of b.program) ≡ form.is (items_of b.program)) × Resolves (items_of b.program) b.program.scoped
-bound_is text b =
+-- the items of a program without datatypes
+no_datatypes : (d : Option (ℕ × Place)) (bound : List ItemTree) (l : List Item) → up_to d bound ≡ form.is l → items_in bound ≡ form.is l
+no_datatypes None bound l e = e
+no_datatypes (Some d) bound l e = by (items_in (take d.0 bound)) e
+  where
+    by : (f : Found (List Item)) → then_found f (λ items. form.unbuilt d.1) ≡ form.is l → items_in bound ≡ form.is l
+    by (form.is m) wrong = absurd cc
+    by (form.unbuilt p) wrong = absurd cc
+
+-- a program's items are those of its definitions
+straight_is : (text : List ℕ) (b : Bound text) → items_in (scoping_of b.program).items ≡ form.is b.program.items
+straight_is text b =
     let read = b.is in
-    let trees = read.1 in
-    let found = subst (λ (p : Parsed). items_in p.trees ≡ form.is read.0.items) (sym trees.2.0) trees.2.1 in (
-      subst (λ (r : Recognised). items_in r.parsed.trees ≡ form.is r.items) (sym read.2.0) found,
-      subst (λ (r : Recognised). Resolves r.items b.program.scoped) (sym read.2.0) read.2.1,
-    )
+    let s = read.0 in
+    let items = no_datatypes (first_datatype s.parsed.trees) s.scoping.items b.program.items read.2.1 in
+    subst (λ (q : Scoped). items_in q.scoping.items ≡ form.is b.program.items) (sym read.2.0) items
 
 -- what is accepted is safe
-pub safe_text : ValidIsSafe → AreTheTextsTrees → (text : List ℕ) (a : IsAccepted text) → IsSafeText a.of
-safe_text safe trees text a =
-    let is = bound_is text a.of in (
-      trees (trees_of a.of.program) (items_of a.of.program) a.of.program.scoped is.0 is.1,
-      safe (items_of a.of.program) a.of.program.scoped is.1 a.valid,
-    )
+pub safe_text : ValidIsSafe → (text : List ℕ) (a : IsAccepted text) → IsSafeText a.of
+safe_text safe text a = safe (scoping_of a.of.program) a.of.program.items a.scoped (straight_is text a.of) a.valid

@@ -1,5 +1,7 @@
 pub mod Plain
 pub mod Asserted
+pub mod Counting
+pub mod BinderNames
 pub mod Points
 pub mod Staged
 pub mod Judged

@@ -1,5 +1,5 @@
 -- Texts that are not judged, and the lines on refusals.
-use Rattle.std.proofs.Common.{◌≡◌, ◌⊎◌, inl, inr, ℕ, suc, List, [], ◌∷◌, length, Some, None, Result, Err, refl, sym, ap, subst, ◌∙◌}
+use Rattle.std.proofs.Common.{◌≡◌, ◌⊎◌, inl, inr, ℕ, List, length, Some, None, Result, Err, refl, sym, ap, subst, ◌∙◌}
 use Rattle.lq_lex.specs.Places.{place_at}
 use Rattle.lq_lex.specs.Reading.{IsTokens, HasFault}
 use Rattle.lq_lex.specs.declared.error.LexError.{LexError}
@@ -13,17 +13,19 @@ use Rattle.lq_parse.specs.declared.error.ParseError.TheVariants as parsing
 use Rattle.lq_report.specs.Refusals.{code_of, refusal_line}
 use Rattle.lq_report.specs.Stages.{Then}
 use Rattle.lq_report.specs.declared.refused.Refused.{Refused}
-use Rattle.lq_straight.specs.Forms as form
-use Rattle.lq_straight.specs.Forms.{Found, then_found, item_in, items_in}
-use Rattle.lq_straight.specs.declared.item.Item.{Item}
-use Rattle.lq_straight.specs.declared.item.NameAt.{NameAt}
+use Rattle.lq_resolved.specs.Resolution.{Resolution, refused, IsResolution}
+use Rattle.lq_resolved.specs.Views.{error_view}
+use Rattle.lq_resolved.specs.declared.program.ResolveError.{ResolveError}
+use Rattle.lq_resolved.specs.declared.program.ResolveError.TheVariants as resolving
+use Rattle.lq_scope.specs.Views.{complaint_view}
+use Rattle.lq_scope.specs.declared.complaint.Complaint.{Complaint}
 use Rattle.lq_tree.specs.Items.{ItemTree}
 use Rattle.lq_app.specs.declared.stages.NotJudged.{NotJudged}
 use Rattle.lq_app.specs.declared.stages.NotJudged.TheVariants as not_judged
 use Rattle.lq_app.specs.declared.verdict.Refusal.{Refusal}
 use Rattle.lq_app.specs.declared.verdict.Refusal.TheVariants as refusal
 use Rattle.lq_app.specs.NotJudged.{IsOf, IsBy}
-use Rattle.lq_app.specs.Stages.{fault_refusal, stop_refusal, ParsesTo, ResolvesTo}
+use Rattle.lq_app.specs.Stages.{fault_refusal, stop_refusal, ParsesTo, RecognisesTo}
 use Rattle.lq_app.specs.Judgement.{IsJudgement}
 use Rattle.lq_app.specs.Report.{IsVerdict}
 use Rattle.lq_app.specs.declared.status.Status.TheVariants.{Refused as RefusedStatus}
@@ -57,28 +59,17 @@ pub still_by : {A B C : Type 0} (R : A → Result B Refused → Type 0) (S : B �
 still_by {A} {B} {C} R S a not_judged.Memory is = tt
 still_by {A} {B} {C} R S a (not_judged.Refused r) is = inl is
 
--- what a choice after another comes from
-then_is : {A B : Type 0} (f : Found A) (g : A → Found B) (b : B) → then_found f g ≡ form.is b → (a : A) × (f ≡ form.is a) × (g a ≡ form.is b)
-then_is (form.is a) g b e = (a, refl, e)
-then_is (form.unbuilt p) g b e = absurd cc
-
-abbrev found_items : Found (List (Item NameAt)) → List (Item NameAt)
-found_items (form.is m) = m
-found_items (form.unbuilt p) = []
-
--- as many items as trees
-pub items_count : (ts : List ItemTree) (l : List (Item NameAt)) → items_in ts ≡ form.is l → length l ≡ length ts
-items_count [] [] e = refl
-items_count [] (i ∷ l) e = absurd cc
-items_count (t ∷ ts) l e =
-    let first = then_is (item_in t) (λ i. then_found (items_in ts) (λ m. form.is (i ∷ m))) l e in
-    let rest = then_is (items_in ts) (λ m. form.is (first.0 ∷ m)) l first.2 in
-    let count = items_count ts rest.0 rest.1 in
-    let same : first.0 ∷ rest.0 ≡ l = ap (λ (f : Found (List (Item NameAt))). found_items f) rest.2 in
-    subst (λ (m : List (Item NameAt)). length m ≡ length (t ∷ ts)) same (ap suc count)
+-- what is told of a program is its least complaint
+pub told_is : (names : List (List ℕ)) (trees : List ItemTree) (e : ResolveError) (x : Complaint) → e ≡ resolving.Complaint x
+    → (e ≡ resolving.Memory) ⊎ ((due : Resolution) × (error_view e ≡ Some due) × IsResolution names trees due) → IsResolution names trees (refused (complaint_view x))
+told_is names trees e x is (inl memory) = absurd (let wrong : resolving.Complaint x ≡ resolving.Memory = sym is ∙ memory in cc)
+told_is names trees e x is (inr due) =
+    let told : Some (refused (complaint_view x)) ≡ Some due.0 = ap error_view (sym is) ∙ due.1 in
+    let same : refused (complaint_view x) ≡ due.0 = cc in
+    subst (IsResolution names trees) (sym same) due.2
 
 -- a refusal with its line is due
-pub refused_due : (text : List ℕ) (r : Refused) (answer : Refusal) → ResolvesTo text (Err r) → (answer ≡ refusal.Memory) ⊎ (answer ≡ refusal.Code (code_of r) (refusal_line r))
+pub refused_due : (text : List ℕ) (r : Refused) (answer : Refusal) → RecognisesTo text (Err r) → (answer ≡ refusal.Memory) ⊎ (answer ≡ refusal.Code (code_of r) (refusal_line r))
     → (answer ≡ refusal.Memory) ⊎ IsJudgement text (Err answer)
 refused_due text r answer by (inl memory) = inl memory
 refused_due text r answer by (inr is) = inr (subst (λ (f : Refusal). IsJudgement text (Err f)) (sym is) (r, by, refl, refl))

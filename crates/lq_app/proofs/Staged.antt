@@ -1,5 +1,5 @@
 -- Each stage of judging has one answer, and so have all of them.
-use Rattle.std.proofs.Common.{◌≡◌, ℕ, List, [], length, Some, None, Ok, Err, sym, ap, subst, ◌∙◌}
+use Rattle.std.proofs.Common.{◌≡◌, ℕ, List, [], length, Some, Ok, Err, sym, ap, subst, ◌∙◌}
 use Rattle.std.proofs.lemmas.List.{length-map}
 use Rattle.lq_action.specs.Value as value
 use Rattle.lq_action.specs.Value.{Value}
@@ -13,7 +13,6 @@ use Rattle.lq_lex.specs.Places.{place_at}
 use Rattle.lq_lex.specs.Reading.{HasOneReading}
 use Rattle.lq_lex.specs.declared.token.Token.{Token}
 use Rattle.lq_name.specs.declared.limits.TheConstants.{LEVEL_LIMIT}
-use Rattle.lq_name.specs.declared.name.Binder.{Binder}
 use Rattle.lq_name.specs.declared.place.Place.{Place}
 use Rattle.lq_name.specs.declared.place.TextKind.TheVariants as kind
 use Rattle.lq_parse.specs.declared.error.ParseError.{ParseError}
@@ -23,15 +22,15 @@ use Rattle.lq_parse.specs.Texts.{place_of}
 use Rattle.lq_parse.specs.Trees.{IsRead}
 use Rattle.lq_report.specs.Stages.{HasOneAnswer, one_then}
 use Rattle.lq_report.specs.declared.refused.Refused.{Refused}
-use Rattle.lq_report.specs.declared.refused.Refused.TheVariants.{At, Named}
+use Rattle.lq_report.specs.declared.refused.Refused.TheVariants.{At}
+use Rattle.lq_resolved.specs.Resolution.{Resolution, resolved, refused, OneResolution}
+use Rattle.lq_scope.specs.Complaints.{Complaint}
+use Rattle.lq_scoped.specs.Scoping.{Scoping}
 use Rattle.lq_straight.specs.Forms as form
 use Rattle.lq_straight.specs.Forms.{Found}
-use Rattle.lq_straight.specs.Names.{text_in}
-use Rattle.lq_straight.specs.Scope.{IsOneScope, IsOneUnknown, IsUnknownOrResolved}
-use Rattle.lq_straight.specs.declared.item.NameAt.{NameAt}
 use Rattle.lq_straight.specs.declared.item.Item.{Item}
 use Rattle.lq_tree.specs.Items.{ItemTree}
-use Rattle.lq_app.specs.Stages.{Parsed, Recognised, Scoped, fault_refusal, IsLexed, stop_refusal, IsStop, IsParsed, IsNamed, complaint_refusal, IsRecognised, IsResolved, ParsesTo, NamesTo, RecognisesTo, ResolvesTo, parsed_with}
+use Rattle.lq_app.specs.Stages.{Parsed, Recognised, Scoped, fault_refusal, IsLexed, stop_refusal, IsStop, IsParsed, IsNamed, complaint_refusal, IsRecognised, ParsesTo, NamesTo, RecognisesTo, parsed_with}
 
 -- the laws of reading and binding
 pub record Laws : Type 0 where
@@ -42,9 +41,7 @@ pub record Laws : Type 0 where
   pub one : (ks : List Kind) (at to : ℕ) → levels.IsSyntax (start_of kind.Program) LEVEL_LIMIT ks at → levels.IsTooDeep (start_of kind.Program) LEVEL_LIMIT ks to → ⊥
   pub stops : (ks : List Kind) (at to : ℕ) → levels.IsSyntax (start_of kind.Program) LEVEL_LIMIT ks at → levels.IsSyntax (start_of kind.Program) LEVEL_LIMIT ks to → at ≡ to
   pub depths : (ks : List Kind) (at to : ℕ) → levels.IsTooDeep (start_of kind.Program) LEVEL_LIMIT ks at → levels.IsTooDeep (start_of kind.Program) LEVEL_LIMIT ks to → at ≡ to
-  pub scope : IsOneScope
-  pub unknown : IsOneUnknown
-  pub either : IsUnknownOrResolved
+  pub names : OneResolution
 
 one_lexed : Laws → HasOneAnswer IsLexed
 one_lexed laws text (Ok ts) (Ok us) a b = ap (λ (l : List Token). Ok l) ((laws.lexing text).tokens ts us a b)
@@ -88,30 +85,43 @@ one_parsed laws text tokens (Err e) (Err f) a b =
     let same : Some e ≡ Some f = sym a.2 ∙ ap stop_refusal (stops_once laws text tokens a.0 b.0 a.1 b.1) ∙ b.2 in
     cc
 
-one_named : HasOneAnswer IsNamed
-one_named p (Ok q) (Ok r) a b = ap (λ (x : Parsed). Ok x) (a.0 ∙ sym b.0)
-one_named p (Ok q) (Err e) a b = absurd (let wrong : None ≡ Some b.0 = sym a.1 ∙ b.1 in cc)
-one_named p (Err e) (Ok q) a b = absurd (let wrong : None ≡ Some a.0 = sym b.1 ∙ a.1 in cc)
-one_named p (Err e) (Err f) a b =
-    let least : Some a.0 ≡ Some b.0 = sym a.1 ∙ b.1 in
-    let complaint : a.0 ≡ b.0 = cc in
+abbrev with_names : Parsed → Scoping → Scoped
+with_names p s = record { parsed = p; scoping = s }
+
+abbrev scoping_in : Scoping → Resolution → Scoping
+scoping_in other (resolved s) = s
+scoping_in other (refused c) = other
+
+abbrev complaint_in : Complaint → Resolution → Complaint
+complaint_in other (resolved s) = other
+complaint_in other (refused c) = c
+
+one_named : Laws → HasOneAnswer IsNamed
+one_named laws p (Ok s) (Ok t) a b =
+    let scoping : s.scoping ≡ t.scoping = ap (scoping_in s.scoping) (laws.names p.names p.trees (resolved s.scoping) (resolved t.scoping) a.1 b.1) in
+    let same : s ≡ t = ap (λ (q : Parsed). with_names q s.scoping) (a.0 ∙ sym b.0) ∙ ap (with_names t.parsed) scoping in
+    ap (λ (x : Scoped). Ok x) same
+one_named laws p (Ok s) (Err e) a b = absurd (let wrong = laws.names p.names p.trees (resolved s.scoping) (refused b.0) a.1 b.1 in cc)
+one_named laws p (Err e) (Ok s) a b = absurd (let wrong = laws.names p.names p.trees (resolved s.scoping) (refused a.0) b.1 a.1 in cc)
+one_named laws p (Err e) (Err f) a b =
+    let complaint : a.0 ≡ b.0 = ap (complaint_in a.0) (laws.names p.names p.trees (refused a.0) (refused b.0) a.1 b.1) in
     ap (λ (x : Refused). Err x) (a.2 ∙ ap (complaint_refusal p.names) complaint ∙ sym b.2)
 
-abbrev items_found : Found (List (Item NameAt)) → List (Item NameAt)
+abbrev items_found : Found (List Item) → List Item
 items_found (form.is l) = l
 items_found (form.unbuilt p) = []
 
-abbrev place_found : Place → Found (List (Item NameAt)) → Place
+abbrev place_found : Place → Found (List Item) → Place
 place_found other (form.is l) = other
 place_found other (form.unbuilt p) = p
 
-abbrev with_items : Parsed → List (Item NameAt) → Recognised
-with_items p items = record { parsed = p; items = items }
+abbrev with_items : Scoped → List Item → Recognised
+with_items s items = record { scoped = s; items = items }
 
 one_recognised : HasOneAnswer IsRecognised
 one_recognised p (Ok r) (Ok s) a b =
     let items : r.items ≡ s.items = ap items_found (sym a.1 ∙ b.1) in
-    let same : r ≡ s = ap (λ (q : Parsed). with_items q r.items) (a.0 ∙ sym b.0) ∙ ap (with_items s.parsed) items in
+    let same : r ≡ s = ap (λ (q : Scoped). with_items q r.items) (a.0 ∙ sym b.0) ∙ ap (with_items s.scoped) items in
     ap (λ (x : Recognised). Ok x) same
 one_recognised p (Ok r) (Err e) a b = absurd (let wrong : form.is r.items ≡ form.unbuilt b.0 = sym a.1 ∙ b.1 in cc)
 one_recognised p (Err e) (Ok s) a b = absurd (let wrong : form.is s.items ≡ form.unbuilt a.0 = sym b.1 ∙ a.1 in cc)
@@ -120,24 +130,8 @@ one_recognised p (Err e) (Err f) a b =
     let same : e ≡ f = a.2 ∙ ap (At 17) place ∙ sym b.2 in
     ap (λ (x : Refused). Err x) same
 
-abbrev with_scoped : Recognised → List (Item Binder) → Scoped
-with_scoped r scoped = record { read = r; scoped = scoped }
-
-one_resolved : Laws → HasOneAnswer IsResolved
-one_resolved laws r (Ok s) (Ok t) a b =
-    let scoped = laws.scope r.items s.scoped t.scoped a.1 b.1 in
-    let same : s ≡ t = ap (λ (q : Recognised). with_scoped q s.scoped) (a.0 ∙ sym b.0) ∙ ap (with_scoped t.read) scoped in
-    ap (λ (x : Scoped). Ok x) same
-one_resolved laws r (Ok s) (Err e) a b = absurd (laws.either r.items s.scoped b.0 b.1 a.1)
-one_resolved laws r (Err e) (Ok t) a b = absurd (laws.either r.items t.scoped a.0 a.1 b.1)
-one_resolved laws r (Err e) (Err f) a b =
-    let name = laws.unknown r.items a.0 b.0 a.1 b.1 in
-    let same : e ≡ f = a.2 ∙ ap (λ (x : NameAt). Named 6 x.place (text_in r.parsed.names x.name.0)) name ∙ sym b.2 in
-    ap (λ (x : Refused). Err x) same
-
 one_tree_of : Laws → HasOneAnswer ParsesTo
 one_tree_of laws text = one_then IsLexed (IsParsed text) (one_lexed laws) (one_parsed laws text) text
 
-pub one_program : Laws → HasOneAnswer ResolvesTo
-one_program laws =
-    one_then RecognisesTo IsResolved (one_then NamesTo IsRecognised (one_then ParsesTo IsNamed (one_tree_of laws) one_named) one_recognised) (one_resolved laws)
+pub one_program : Laws → HasOneAnswer RecognisesTo
+one_program laws = one_then NamesTo IsRecognised (one_then ParsesTo IsNamed (one_tree_of laws) (one_named laws)) one_recognised

@@ -1,7 +1,6 @@
 -- The judgement on a text.
-use Rattle.std.specs.Prelude.{◌≡◌, ◌⊎◌, ℕ, ℤ, ◌+◌, ◌<◌, Bool, true, false, List, [], ◌∷◌, ◌++◌, map, All, Some, slice_get, Result, Ok, Err, codes, decimal}
+use Rattle.std.specs.Prelude.{◌≡◌, ◌⊎◌, ℕ, ℤ, ◌+◌, ◌<◌, Bool, true, false, List, [], ◌∷◌, ◌++◌, map, All, Option, Some, slice_get, Result, Ok, Err, codes, decimal}
 use Rattle.lq_math.specs.LowestTerms.{IsLowest}
-use Rattle.lq_name.specs.declared.name.Binder.{Binder}
 use Rattle.lq_name.specs.declared.place.Place.{Place}
 use Rattle.lq_num.specs.declared.past.NumberPast.{NumberPast}
 use Rattle.lq_num.specs.Past.{IsPast}
@@ -12,48 +11,46 @@ use Rattle.lq_pred.specs.ClosedImplication.{ClosedImplication, IsValid, terms_in
 use Rattle.lq_demand.specs.Answer.{CanBeGathered, sizes_of, IsFirstFailing, IsFirstUngathered, IsFirstLarge}
 use Rattle.lq_report.specs.Refusals.{code_of, place_text, refusal_line}
 use Rattle.lq_report.specs.declared.refused.Refused.{Refused}
-use Rattle.lq_straight.specs.declared.item.NameAt.{NameAt}
 use Rattle.lq_straight.specs.declared.item.Assertion.{Assertion}
-use Rattle.lq_straight.specs.declared.item.Item.{Item}
-use Rattle.lq_straight.specs.Meaning.{item_tree, IsSafe}
 use Rattle.lq_straight.specs.Demands.{implications_of, assertions_of}
-use Rattle.lq_sound.specs.SameTree.{AreSameItems}
-use Rattle.lq_tree.specs.Items.{ItemTree}
+use Rattle.lq_scoped.specs.Scoping.{Scoping, IsScoped}
+use Rattle.lq_sound.specs.Safety.{IsSafe}
 use Rattle.lq_app.specs.declared.verdict.Judgement.{Judgement}
 use Rattle.lq_app.specs.declared.verdict.Judgement.TheVariants.{Accepted, Rejected, Undecided}
 use Rattle.lq_app.specs.declared.verdict.Refusal.{Refusal}
 use Rattle.lq_app.specs.declared.verdict.Refusal.TheVariants.{Code, Memory}
-use Rattle.lq_app.specs.Stages.{Scoped, ResolvesTo}
+use Rattle.lq_app.specs.Stages.{Recognised, RecognisesTo}
 use Rattle.lq_app.specs.Texts.{fraction_text, past_text, term_text, formula_text}
 use Rattle.lq_linear.specs.declared.limits.TheConstants.{SUM_LIMIT}
 
--- The program that a text is: its trees, the texts of its names, its items, and these with their names bound.
+-- The program that a text is: its trees, the texts of its names, the same with its names bound, and its items.
 pub record Bound (text : List ℕ) : Type 0 where
-  pub program : Scoped
-  pub is : ResolvesTo text (Ok program)
+  pub program : Recognised
+  pub is : RecognisesTo text (Ok program)
 
-abbrev pub trees_of : Scoped → List ItemTree
-trees_of p = p.read.parsed.trees
+abbrev pub names_of : Recognised → List (List ℕ)
+names_of p = p.scoped.parsed.names
 
-abbrev pub names_of : Scoped → List (List ℕ)
-names_of p = p.read.parsed.names
+abbrev pub scoping_of : Recognised → Scoping
+scoping_of p = p.scoped.scoping
 
-abbrev pub items_of : Scoped → List (Item NameAt)
-items_of p = p.read.items
+abbrev pub sources_of : Recognised → List (Option ℕ)
+sources_of p = (scoping_of p).sources
 
 -- what the program demands
 abbrev pub demands : {text : List ℕ} → Bound text → List ClosedImplication
-demands b = implications_of b.program.scoped
+demands b = implications_of b.program.items
 
--- The text is a program whose names are all defined before they are used, and its demands are valid.
+-- The text is a program whose names are all bound, nodes and binders numbered in order, and its demands are valid.
 pub record IsAccepted (text : List ℕ) : Type 0 where
   pub of : Bound text
+  pub scoped : IsScoped (scoping_of of.program)
   pub gathered : All CanBeGathered (demands of)
   pub valid : All IsValid (demands of)
 
--- The program is safe by the meaning of its own trees, with each use bound and each primitive in the place of its call.
+-- The program is safe by the meaning of its own definitions with their names bound.
 abbrev pub IsSafeText : {text : List ℕ} → Bound text → Type 0
-IsSafeText b = AreSameItems (trees_of b.program) (map item_tree b.program.scoped) × IsSafe b.program.scoped
+IsSafeText b = IsSafe (scoping_of b.program).items
 
 -- the first line and the line on a demand, counted from 0, whose assertion stands at this place
 abbrev pub head_lines : List ℕ → ℕ → Place → List ℕ
@@ -61,11 +58,11 @@ head_lines first number place =
     first ++ codes "demand " ++ decimal (number + 1) ++ codes " at " ++ place_text place ++ codes ": assertion\n"
 
 -- a line for each term, with its number at the point in lowest terms
-abbrev pub ShowsPoint : List (List ℕ) → List (Item NameAt) → Point → List Term → List ℕ → Type 0
-ShowsPoint names items p [] lines = lines ≡ []
-ShowsPoint names items p (t ∷ ts) lines =
+abbrev pub ShowsPoint : List (List ℕ) → List (Option ℕ) → Point → List Term → List ℕ → Type 0
+ShowsPoint names sources p [] lines = lines ≡ []
+ShowsPoint names sources p (t ∷ ts) lines =
     (n : ℤ) × (d : ℕ) × (rest : List ℕ) × IsLowest (p.number t) n d
-    × (lines ≡ term_text names items t ++ codes " = " ++ fraction_text n d ++ codes "\n" ++ rest) × ShowsPoint names items p ts rest
+    × (lines ≡ term_text names sources t ++ codes " = " ++ fraction_text n d ++ codes "\n" ++ rest) × ShowsPoint names sources p ts rest
 
 -- All literals can be gathered, the demand is the first that isn't valid, and the report shows a point at which it fails.
 pub record IsRejected (text report : List ℕ) : Type 0 where
@@ -73,10 +70,10 @@ pub record IsRejected (text report : List ℕ) : Type 0 where
   pub number : ℕ
   pub point : Point
   pub first : IsFirstFailing (demands of) number point
-  pub assertion : Assertion Binder
-  pub asserted : slice_get (assertions_of of.program.scoped) number ≡ Some assertion
+  pub assertion : Assertion
+  pub asserted : slice_get (assertions_of of.program.items) number ≡ Some assertion
   pub lines : List ℕ
-  pub shows : ShowsPoint (names_of of.program) (items_of of.program) point (terms_in first.failing) lines
+  pub shows : ShowsPoint (names_of of.program) (sources_of of.program) point (terms_in first.failing) lines
   pub written : report ≡ head_lines (codes "rejected\n") number assertion.place ++ lines
 
 -- The demand is the first with a literal that can't be gathered, and the report has the first such comparison.
@@ -85,10 +82,10 @@ pub record IsUngathered (text report : List ℕ) : Type 0 where
   pub number : ℕ
   pub formula : Formula
   pub first : IsFirstUngathered (demands of) number formula
-  pub assertion : Assertion Binder
-  pub asserted : slice_get (assertions_of of.program.scoped) number ≡ Some assertion
+  pub assertion : Assertion
+  pub asserted : slice_get (assertions_of of.program.items) number ≡ Some assertion
   pub written : report ≡ head_lines (codes "undecided\n") number assertion.place
-      ++ codes "number past in " ++ formula_text (names_of of.program) (items_of of.program) formula ++ codes "\n"
+      ++ codes "number past in " ++ formula_text (names_of of.program) (sources_of of.program) formula ++ codes "\n"
 
 -- All literals can be gathered, the demands before this one are valid, and the sizes of its constants sum to the limit of sums or more. The
 -- report has an operation on two fractions whose result has no form within 128 bits.
@@ -98,13 +95,13 @@ pub record IsPastNumber (text report : List ℕ) : Type 0 where
   pub first : IsFirstLarge (demands of) number
   pub past : NumberPast
   pub is_past : IsPast past
-  pub assertion : Assertion Binder
-  pub asserted : slice_get (assertions_of of.program.scoped) number ≡ Some assertion
+  pub assertion : Assertion
+  pub asserted : slice_get (assertions_of of.program.items) number ≡ Some assertion
   pub written : report ≡ head_lines (codes "undecided\n") number assertion.place ++ codes "number past " ++ past_text past ++ codes "\n"
 
 -- the text is refused by this number and this report
 abbrev pub IsRefused : List ℕ → ℕ → List ℕ → Type 0
-IsRefused text code report = (r : Refused) × ResolvesTo text (Err r) × (code ≡ code_of r) × (report ≡ refusal_line r)
+IsRefused text code report = (r : Refused) × RecognisesTo text (Err r) × (code ≡ code_of r) × (report ≡ refusal_line r)
 
 -- A judgement that is due. No types and no explanations are reported yet.
 abbrev pub IsJudgement : List ℕ → Result Judgement Refusal → Type 0

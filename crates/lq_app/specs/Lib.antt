@@ -1,4 +1,5 @@
 pub mod Texts
+pub mod Counts
 pub mod Steps
 pub mod Stages
 pub mod NotJudged

@@ -1,5 +1,4 @@
--- The stages in which a text is judged: its tokens, its trees, whose names are looked at, its straight-line items, and these with their
--- names bound.
+-- The stages in which a text is judged: its tokens, its trees, these with their names bound, and its straight-line items.
 use Rattle.std.specs.Prelude.{◌≡◌, ◌++◌, codes, ℕ, List, length, Option, Some, None, Result, Ok, Err}
 use Rattle.lq_action.specs.Value as value
 use Rattle.lq_lex.specs.Places.{place_at}
@@ -7,7 +6,7 @@ use Rattle.lq_lex.specs.Reading.{IsTokens, HasFault}
 use Rattle.lq_lex.specs.declared.error.LexError.{LexError}
 use Rattle.lq_lex.specs.declared.error.LexError.TheVariants as lexing
 use Rattle.lq_lex.specs.declared.token.Token.{Token}
-use Rattle.lq_name.specs.declared.name.Binder.{Binder}
+use Rattle.lq_name.specs.NameTable.{predeclared}
 use Rattle.lq_name.specs.declared.place.Place.{Place}
 use Rattle.lq_name.specs.declared.place.TextKind.TheVariants as kind
 use Rattle.lq_parse.specs.Texts.{IsSyntax, IsTooDeep}
@@ -17,13 +16,13 @@ use Rattle.lq_parse.specs.declared.error.ParseError.TheVariants as parsing
 use Rattle.lq_report.specs.Stages.{Then}
 use Rattle.lq_report.specs.declared.refused.Refused.{Refused}
 use Rattle.lq_report.specs.declared.refused.Refused.TheVariants.{At, Named, Wanted}
-use Rattle.lq_scope.specs.Complaints.{Cause, unknown, unknown_in, twice, arity, not_positive, Complaint, least}
-use Rattle.lq_scope.specs.Uses.{of_program}
-use Rattle.lq_straight.specs.declared.item.NameAt.{NameAt}
+use Rattle.lq_resolved.specs.Resolution.{IsResolution, resolved, refused}
+use Rattle.lq_scope.specs.Complaints.{Cause, unknown, unknown_in, twice, arity, not_positive, Complaint}
+use Rattle.lq_scope.specs.Known.{text_of}
+use Rattle.lq_scoped.specs.Scoping.{Scoping}
 use Rattle.lq_straight.specs.declared.item.Item.{Item}
-use Rattle.lq_straight.specs.Forms.{is, unbuilt, items_in}
-use Rattle.lq_straight.specs.Names.{first_names, text_in}
-use Rattle.lq_straight.specs.Scope.{Resolves, IsFirstUnknown}
+use Rattle.lq_straight.specs.Forms.{is, unbuilt}
+use Rattle.lq_straight.specs.Program.{program_in}
 use Rattle.lq_tree.specs.Items.{ItemTree}
 
 -- a text's trees, and the texts of its names in the order of their numbers
@@ -31,15 +30,15 @@ pub record Parsed : Type 0 where
   pub trees : List ItemTree
   pub names : List (List ℕ)
 
+-- the same with its names bound
+pub record Scoped : Type 0 where
+  pub parsed : Parsed
+  pub scoping : Scoping
+
 -- the same with its straight-line items
 pub record Recognised : Type 0 where
-  pub parsed : Parsed
-  pub items : List (Item NameAt)
-
--- the same with these with their names bound
-pub record Scoped : Type 0 where
-  pub read : Recognised
-  pub scoped : List (Item Binder)
+  pub scoped : Scoped
+  pub items : List Item
 
 -- how a first fault is refused
 abbrev pub fault_refusal : LexError → Option Refused
@@ -67,64 +66,52 @@ IsStop text tokens parsing.Memory = ⊥
 
 -- the trees that the tokens are, or where they are none
 abbrev pub IsParsed : List ℕ → List Token → Result Parsed Refused → Type 0
-IsParsed text tokens (Ok p) = (p.names ≡ with_names text tokens first_names) × IsRead kind.Program text p.names tokens (value.items p.trees)
+IsParsed text tokens (Ok p) = (p.names ≡ with_names text tokens predeclared) × IsRead kind.Program text p.names tokens (value.items p.trees)
 IsParsed text tokens (Err r) = (e : ParseError) × IsStop text tokens e × (stop_refusal e ≡ Some r)
 
 -- how a complaint about a name is refused
 abbrev pub cause_refusal : List (List ℕ) → Place → Cause → Refused
-cause_refusal names p (unknown x) = Named 6 p (text_in names x)
-cause_refusal names p (unknown_in m x) = Named 6 p (text_in names m ++ codes "." ++ text_in names x)
-cause_refusal names p (twice x) = Named 7 p (text_in names x)
+cause_refusal names p (unknown x) = Named 6 p (text_of names x)
+cause_refusal names p (unknown_in m x) = Named 6 p (text_of names m ++ codes "." ++ text_of names x)
+cause_refusal names p (twice x) = Named 7 p (text_of names x)
 cause_refusal names p (arity wanted found) = Wanted 8 p wanted found
 cause_refusal names p not_positive = At 9 p
 
 abbrev pub complaint_refusal : List (List ℕ) → Complaint → Refused
 complaint_refusal names c = cause_refusal names c.place c.cause
 
--- the trees, where nothing is wrong with their names, or the least complaint
-abbrev pub IsNamed : Parsed → Result Parsed Refused → Type 0
-IsNamed p (Ok q) = (q ≡ p) × (least (of_program p.names p.trees) ≡ None)
-IsNamed p (Err r) = (c : Complaint) × (least (of_program p.names p.trees) ≡ Some c) × (r ≡ complaint_refusal p.names c)
+-- the trees with their names bound, where nothing is wrong with these, or the least complaint
+abbrev pub IsNamed : Parsed → Result Scoped Refused → Type 0
+IsNamed p (Ok s) = (s.parsed ≡ p) × IsResolution p.names p.trees (resolved s.scoping)
+IsNamed p (Err r) = (c : Complaint) × IsResolution p.names p.trees (refused c) × (r ≡ complaint_refusal p.names c)
 
--- the items that the trees are, or the first form that isn't judged yet
-abbrev pub IsRecognised : Parsed → Result Recognised Refused → Type 0
-IsRecognised p (Ok r) = (r.parsed ≡ p) × (items_in p.trees ≡ is r.items)
-IsRecognised p (Err r) = (place : Place) × (items_in p.trees ≡ unbuilt place) × (r ≡ At 17 place)
+-- the straight-line items, or the first form that isn't judged yet
+abbrev pub IsRecognised : Scoped → Result Recognised Refused → Type 0
+IsRecognised s (Ok r) = (r.scoped ≡ s) × (program_in s.parsed.trees s.scoping.items ≡ is r.items)
+IsRecognised s (Err r) = (place : Place) × (program_in s.parsed.trees s.scoping.items ≡ unbuilt place) × (r ≡ At 17 place)
 
--- the items with their names bound, or the first name with no definition before its use
-abbrev pub IsResolved : Recognised → Result Scoped Refused → Type 0
-IsResolved r (Ok s) = (s.read ≡ r) × Resolves r.items s.scoped
-IsResolved r (Err e) = (x : NameAt) × IsFirstUnknown r.items x × (e ≡ Named 6 x.place (text_in r.parsed.names x.name.0))
-
--- the text up to its trees, up to these with their names looked at, up to its items, and up to these with their names bound
+-- the text up to its trees, up to these with their names bound, and up to its items
 abbrev pub ParsesTo : List ℕ → Result Parsed Refused → Type 0
 ParsesTo text = Then IsLexed (IsParsed text) text
 
-abbrev pub NamesTo : List ℕ → Result Parsed Refused → Type 0
+abbrev pub NamesTo : List ℕ → Result Scoped Refused → Type 0
 NamesTo = Then ParsesTo IsNamed
 
 abbrev pub RecognisesTo : List ℕ → Result Recognised Refused → Type 0
 RecognisesTo = Then NamesTo IsRecognised
 
-abbrev pub ResolvesTo : List ℕ → Result Scoped Refused → Type 0
-ResolvesTo = Then RecognisesTo IsResolved
-
 -- the trees with the texts of these names
 abbrev pub parsed_with : List ItemTree → List (List ℕ) → Parsed
 parsed_with trees names = record { trees = trees; names = names }
 
--- the same with these items
-abbrev pub recognised_with : List ItemTree → List (List ℕ) → List (Item NameAt) → Recognised
-recognised_with trees names items = record { parsed = parsed_with trees names; items = items }
-
 -- the same with these bound
-abbrev pub scoped_with : List ItemTree → List (List ℕ) → List (Item NameAt) → List (Item Binder) → Scoped
-scoped_with trees names items scoped = record { read = recognised_with trees names items; scoped = scoped }
+abbrev pub scoped_with : List ItemTree → List (List ℕ) → Scoping → Scoped
+scoped_with trees names s = record { parsed = parsed_with trees names; scoping = s }
 
--- the text is a program of these items and names
-abbrev pub IsReadAs : List ℕ → List (List ℕ) → List (Item NameAt) → Type 0
-IsReadAs text names items = (trees : List ItemTree) × RecognisesTo text (Ok (recognised_with trees names items))
+-- the same with these items
+abbrev pub recognised_with : List ItemTree → List (List ℕ) → Scoping → List Item → Recognised
+recognised_with trees names s items = record { scoped = scoped_with trees names s; items = items }
 
--- the same with its names bound
-abbrev pub IsBoundAs : List ℕ → List (List ℕ) → List (Item NameAt) → List (Item Binder) → Type 0
-IsBoundAs text names items scoped = (trees : List ItemTree) × ResolvesTo text (Ok (scoped_with trees names items scoped))
+-- the text is a program of these names, which are bound so, and of these items
+abbrev pub IsReadAs : List ℕ → List (List ℕ) → Scoping → List Item → Type 0
+IsReadAs text names s items = (trees : List ItemTree) × RecognisesTo text (Ok (recognised_with trees names s items))

@@ -14,17 +14,17 @@ use Rattle.lq_straight.specs.declared.item.ItemNode.{ItemNode}
 use Rattle.lq_straight.specs.declared.item.ItemNode.TheVariants.{Define, Assert, Print}
 use Rattle.lq_straight.specs.Demands.{term_of, goal_of}
 
-abbrev pub definition_steps : Binder → Right Binder → List LineView
+abbrev pub definition_steps : Binder → Right → List LineView
 definition_steps x (Read place) = []
 definition_steps x (Operand s) = assume (compare Eq (var (Bound x)) (term_of s)) ∷ []
 
-abbrev pub node_steps : ItemNode Binder → List LineView
+abbrev pub node_steps : ItemNode → List LineView
 node_steps (Define x r) = definition_steps x r
 node_steps (Assert a) = demand (goal_of a) ∷ []
 node_steps (Print e) = []
 
-abbrev pub item_steps : Item Binder → List LineView
+abbrev pub item_steps : Item → List LineView
 item_steps i = node_steps i.node
 
-abbrev pub steps_in : List (Item Binder) → List LineView
+abbrev pub steps_in : List Item → List LineView
 steps_in items = flat_map item_steps items

@@ -1,5 +1,5 @@
 -- How numbers, names and comparisons are written.
-use Rattle.std.specs.Prelude.{ℕ, ℤ, ◌==◌, nat_lt, List, [], ◌++◌, Option, Some, None, slice_get, codes, decimal, if◌then◌else◌}
+use Rattle.std.specs.Prelude.{◌≡◌, ℕ, ℤ, ◌+◌, ◌==◌, nat_lt, Bool, false, List, [], ◌++◌, length, take, count_by, Option, Some, None, slice_get, codes, decimal, if◌then◌else◌}
 use Rattle.std.specs.Fmt.{signed_decimal}
 use Rattle.lq_num.specs.declared.frac.Frac.{Frac}
 use Rattle.lq_num.specs.Value.{numer_of, denom_of}
@@ -11,12 +11,7 @@ use Rattle.lq_name.specs.declared.operation.CompareOp.TheVariants.{Eq, Ne, Lt, L
 use Rattle.lq_pred.specs.declared.symbol.Symbol.TheVariants.{Value, Bound, Position}
 use Rattle.lq_pred.specs.Sum.{Sum as Term, whole, var, neg, add, sub, mul, div, rem, len, measure}
 use Rattle.lq_pred.specs.Formula.{Formula, truth, falsity, flag, compare, objects, negation, conjunction, disjunction, equivalence}
-use Rattle.lq_straight.specs.declared.item.NameAt.{NameAt}
-use Rattle.lq_straight.specs.declared.item.Item.{Item}
-use Rattle.lq_straight.specs.declared.item.ItemNode.{ItemNode}
-use Rattle.lq_straight.specs.declared.item.ItemNode.TheVariants.{Define, Assert, Print}
-use Rattle.lq_straight.specs.Names.{text_in}
-use Rattle.lq_straight.specs.Scope.{ordinal}
+use Rattle.lq_scope.specs.Known.{text_of}
 
 -- a whole number alone, else with its denominator
 abbrev pub fraction_text : ℤ → ℕ → List ℕ
@@ -40,34 +35,44 @@ past_text e = operation_text e.op (frac_text e.left) (frac_text e.right)
 abbrev pub with_ordinal : List ℕ → ℕ → List ℕ
 with_ordinal name n = if nat_lt 1 n then name ++ codes "@" ++ decimal n else name
 
--- only a definition has a name
-abbrev pub node_name : List (List ℕ) → List (Item NameAt) → ℕ → ItemNode NameAt → List ℕ
-node_name names items k (Define x r) = with_ordinal (text_in names x.name.0) (ordinal items k x.name.0)
-node_name names items k (Assert a) = []
-node_name names items k (Print e) = []
+-- whether a binder with this source name has that name
+abbrev pub has_name : ℕ → Option ℕ → Bool
+has_name x None = false
+has_name x (Some y) = y == x
 
-abbrev pub item_name : List (List ℕ) → List (Item NameAt) → ℕ → Option (Item NameAt) → List ℕ
-item_name names items k None = []
-item_name names items k (Some i) = node_name names items k i.node
+-- which of the binders with its source name a binder is, counted from 1 in the order of the text
+abbrev pub ordinal : List (Option ℕ) → ℕ → ℕ → ℕ
+ordinal sources b x = count_by (has_name x) (take (b + 1) sources)
 
--- the name of the definition with this number
-abbrev pub binder_name : List (List ℕ) → List (Item NameAt) → ℕ → List ℕ
-binder_name names items k = item_name names items k (slice_get items k)
+-- a binder that was made has no name
+abbrev pub source_name : List (List ℕ) → List (Option ℕ) → ℕ → Option (Option ℕ) → List ℕ
+source_name names sources b None = []
+source_name names sources b (Some None) = []
+source_name names sources b (Some (Some x)) = with_ordinal (text_of names x) (ordinal sources b x)
+
+-- the name of a binder, where the binders have these source names
+abbrev pub binder_name : List (List ℕ) → List (Option ℕ) → ℕ → List ℕ
+binder_name names sources b = source_name names sources b (slice_get sources b)
+
+-- the ordinals of the binders that have names
+pub record AreOrdinals (sources : List (Option ℕ)) (numbers : List ℕ) : Type 0 where
+  pub count : length numbers ≡ length sources
+  pub each : (b x : ℕ) → slice_get sources b ≡ Some (Some x) → slice_get numbers b ≡ Some (ordinal sources b x)
 
 -- A term over binders. The forms with no text stand in no straight-line program.
-abbrev pub term_text : List (List ℕ) → List (Item NameAt) → Term → List ℕ
-term_text names items (whole n) = signed_decimal n
-term_text names items (var (Bound x)) = binder_name names items x.0
-term_text names items (add a b) = term_text names items a ++ codes " + " ++ term_text names items b
-term_text names items (sub a b) = term_text names items a ++ codes " - " ++ term_text names items b
-term_text names items (var Value) = []
-term_text names items (var (Position k)) = []
-term_text names items (neg a) = []
-term_text names items (mul a b) = []
-term_text names items (div a b) = []
-term_text names items (rem a b) = []
-term_text names items (len a) = []
-term_text names items (measure m a) = []
+abbrev pub term_text : List (List ℕ) → List (Option ℕ) → Term → List ℕ
+term_text names sources (whole n) = signed_decimal n
+term_text names sources (var (Bound x)) = binder_name names sources x.0
+term_text names sources (add a b) = term_text names sources a ++ codes " + " ++ term_text names sources b
+term_text names sources (sub a b) = term_text names sources a ++ codes " - " ++ term_text names sources b
+term_text names sources (var Value) = []
+term_text names sources (var (Position k)) = []
+term_text names sources (neg a) = []
+term_text names sources (mul a b) = []
+term_text names sources (div a b) = []
+term_text names sources (rem a b) = []
+term_text names sources (len a) = []
+term_text names sources (measure m a) = []
 
 abbrev pub compare_text : CompareOp → List ℕ
 compare_text Eq = codes " = "
@@ -78,13 +83,13 @@ compare_text Gt = codes " > "
 compare_text Ge = codes " >= "
 
 -- A comparison. The forms with no text stand in no straight-line program.
-abbrev pub formula_text : List (List ℕ) → List (Item NameAt) → Formula → List ℕ
-formula_text names items (compare o a b) = term_text names items a ++ compare_text o ++ term_text names items b
-formula_text names items truth = []
-formula_text names items falsity = []
-formula_text names items (flag x) = []
-formula_text names items (objects a b) = []
-formula_text names items (negation p) = []
-formula_text names items (conjunction p q) = []
-formula_text names items (disjunction p q) = []
-formula_text names items (equivalence p q) = []
+abbrev pub formula_text : List (List ℕ) → List (Option ℕ) → Formula → List ℕ
+formula_text names sources (compare o a b) = term_text names sources a ++ compare_text o ++ term_text names sources b
+formula_text names sources truth = []
+formula_text names sources falsity = []
+formula_text names sources (flag x) = []
+formula_text names sources (objects a b) = []
+formula_text names sources (negation p) = []
+formula_text names sources (conjunction p q) = []
+formula_text names sources (disjunction p q) = []
+formula_text names sources (equivalence p q) = []

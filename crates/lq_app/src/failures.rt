@@ -1,10 +1,10 @@
 // The reports on demands that fail and on those that aren't decided.
-ghost use Rattle.std.specs.Prelude.{◌≡◌, ℕ, List, ◌<◌, ◌^◌, ◌++◌, codes, IfOk, OnOk};
+ghost use Rattle.std.specs.Prelude.{◌≡◌, ℕ, List, ◌<◌, ◌+◌, ◌^◌, ◌++◌, codes, IfOk, OnOk};
 ghost use Rattle.lq_pred.specs.TermView.{sum_of};
 ghost use Rattle.lq_pred.specs.PredView.{formula_of};
 ghost use Rattle.lq_point.specs.Values.{as_point, values_of, table_of};
-ghost use Rattle.lq_straight.specs.Scope.{AreOrdinals};
-ghost use Rattle.lq_app.specs.Texts.{frac_text, past_text, term_text, formula_text};
+ghost use Rattle.lq_scoped.specs.Whole.{scoped_view};
+ghost use Rattle.lq_app.specs.Texts.{AreOrdinals, frac_text, past_text, term_text, formula_text};
 ghost use Rattle.lq_app.specs.Judgement.{head_lines, ShowsPoint};
 
 use crate::texts::{Naming, push_fraction, push_past, push_pred, push_term};
@@ -23,7 +23,7 @@ fn report_head(
     number: usize,
     place: Place,
 ) -> Result<Vec<u8>, AllocError>
-    requires number { number < 2 ^ 32 }
+    requires number { number + 1 < 2 ^ 64 }
     ensures { IfOk result (λ v. v.items ≡ head_lines first.now number place) }
 {
     let mut digits = Buffer::new();
@@ -43,9 +43,9 @@ fn push_value(
     term: &Term,
     number: &Frac,
 ) -> Result<(), AllocError>
-    requires { AreOrdinals names.now.items.now names.now.ordinals.now }
+    requires { AreOrdinals (scoped_view names.now.scoped.now).sources names.now.ordinals.now }
     ensures { OnOk result (line.new.items ≡ line.old.items
-        ++ (term_text names.now.table.now names.now.items.now (sum_of term.now) ++ codes " = "
+        ++ (term_text names.now.table.now (scoped_view names.now.scoped.now).sources (sum_of term.now) ++ codes " = "
         ++ frac_text number.now ++ codes "\n")) }
 {
     push_term(line, names, term)?;
@@ -57,9 +57,9 @@ fn push_value(
 
 // A line for each term of a point.
 fn push_point(line: &mut Vec<u8>, names: &Naming, point: &Point) -> Result<(), AllocError>
-    requires { AreOrdinals names.now.items.now names.now.ordinals.now }
+    requires { AreOrdinals (scoped_view names.now.scoped.now).sources names.now.ordinals.now }
     ensures { OnOk result ((lines : List ℕ) × (line.new.items ≡ line.old.items ++ lines)
-        × ShowsPoint names.now.table.now names.now.items.now (as_point point.now) (table_of
+        × ShowsPoint names.now.table.now (scoped_view names.now.scoped.now).sources (as_point point.now) (table_of
         (values_of point.now)) lines) }
 {
     let values = point.values();
@@ -78,10 +78,10 @@ pub(crate) fn rejected_report(
     place: Place,
     point: &Point,
 ) -> Result<TextBuf, AllocError>
-    requires number { number < 2 ^ 32 }
-    requires ordinals { AreOrdinals names.now.items.now names.now.ordinals.now }
+    requires number { number + 1 < 2 ^ 64 }
+    requires ordinals { AreOrdinals (scoped_view names.now.scoped.now).sources names.now.ordinals.now }
     ensures { IfOk result (λ r. (lines : List ℕ) × (r ≡ head_lines (codes "rejected\n") number place ++ lines)
-        × ShowsPoint names.now.table.now names.now.items.now (as_point point.now) (table_of
+        × ShowsPoint names.now.table.now (scoped_view names.now.scoped.now).sources (as_point point.now) (table_of
         (values_of point.now)) lines) }
 {
     let mut report = report_head(alloc, b"rejected\n", number, place)?;
@@ -97,11 +97,11 @@ pub(crate) fn ungathered_report(
     place: Place,
     pred: &Pred,
 ) -> Result<TextBuf, AllocError>
-    requires number { number < 2 ^ 32 }
-    requires ordinals { AreOrdinals names.now.items.now names.now.ordinals.now }
+    requires number { number + 1 < 2 ^ 64 }
+    requires ordinals { AreOrdinals (scoped_view names.now.scoped.now).sources names.now.ordinals.now }
     ensures { IfOk result (λ r. r ≡ head_lines (codes "undecided\n") number place
         ++ codes "number past in "
-        ++ formula_text names.now.table.now names.now.items.now (formula_of pred.now) ++ codes "\n") }
+        ++ formula_text names.now.table.now (scoped_view names.now.scoped.now).sources (formula_of pred.now) ++ codes "\n") }
 {
     let mut report = report_head(alloc, b"undecided\n", number, place)?;
     report.extend_from_slice(b"number past in ")?;
@@ -117,7 +117,7 @@ pub(crate) fn past_report(
     place: Place,
     past: &NumberPast,
 ) -> Result<TextBuf, AllocError>
-    requires number { number < 2 ^ 32 }
+    requires number { number + 1 < 2 ^ 64 }
     ensures { IfOk result (λ r. r ≡ head_lines (codes "undecided\n") number place
         ++ codes "number past " ++ past_text past.now ++ codes "\n") }
 {

@@ -4,6 +4,7 @@
 mod answer;
 mod failures;
 mod laws;
+mod ordinal;
 mod report;
 mod run;
 mod send;

@@ -11,7 +11,7 @@ use crate::laws::one_judgement;
 use crate::send::send;
 use crate::{Status, Words};
 use lq_io::{Folder, Sink};
-use lq_sound::{bound_trees_are_the_texts, valid_programs_are_safe};
+use lq_sound::valid_programs_are_safe;
 use std::alloc::Global;
 
 /// Does all that the program does: reads the file that the words name, judges it, and writes the
@@ -60,7 +60,6 @@ pub fn run_words<F: Folder, K: Sink>(
 {
     one_judgement();
     valid_programs_are_safe();
-    bound_trees_are_the_texts();
     run(alloc, words, folder, out)
 }
 

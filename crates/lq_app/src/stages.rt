@@ -1,22 +1,24 @@
-// The stages in which a text is judged: its tokens, its trees, whose names are looked at, its straight-line items, and these with their
-// names bound.
-ghost use Rattle.std.specs.Prelude.{◌≡◌, ◌++◌, codes, ◌≤◌, ◌<◌, ◌^◌, ℕ, List, length, Ok, IfOk, IfErr};
+// The stages in which a text is judged: its tokens, its trees, these with their names bound, and its straight-line items.
+ghost use Rattle.std.specs.Prelude.{◌≡◌, ◌++◌, codes, ◌≤◌, List, ℕ, length, Ok, IfOk, IfErr};
 ghost use Rattle.lq_app.specs.declared.stages.NotJudged.TheVariants.{Memory};
 ghost use Rattle.lq_lex.specs.declared.limits.TheConstants.{TEXT_LIMIT};
-ghost use Rattle.lq_straight.specs.Uses.{AreSmall};
+ghost use Rattle.lq_scope.specs.Known.{text_of};
 ghost use Rattle.lq_scope.specs.Views.{complaint_view};
-ghost use Rattle.lq_straight.specs.Names.{text_in};
+ghost use Rattle.lq_scoped.specs.Whole.{scoped_view};
+ghost use Rattle.lq_straight.specs.Small.{AreSmall};
 ghost use Rattle.lq_tree.specs.Texts.{program_view};
-ghost use Rattle.lq_app.specs.Stages.{fault_refusal, stop_refusal, complaint_refusal, parsed_with, ParsesTo, NamesTo, RecognisesTo, ResolvesTo, IsReadAs, IsBoundAs};
+ghost use Rattle.lq_app.specs.Stages.{fault_refusal, stop_refusal, complaint_refusal, parsed_with, scoped_with, ParsesTo, NamesTo, RecognisesTo, IsReadAs};
 ghost use Rattle.lq_app.specs.NotJudged.{IsOf, IsBy};
 
 use crate::texts::text_of;
 use lq_lex::{LexError, lex};
-use lq_name::{Binder, Name, NameTable, NameText, TextKind};
+use lq_name::{Name, NameTable, NameText, TextKind};
 use lq_parse::{ParseError, parse_program};
 use lq_report::Refused;
-use lq_scope::{Cause, Complaint, first_complaint};
-use lq_straight::{FormError, Item, NameAt, ScopeError, name_table, recognise, resolve};
+use lq_resolved::{ResolveError, resolve};
+use lq_scope::{Cause, Complaint};
+use lq_scoped::Scoped;
+use lq_straight::{FormError, Item, recognise};
 use lq_tree::Program;
 use std::alloc::{AllocError, Global};
 
@@ -42,11 +44,19 @@ pub(crate) struct Parsed {
     pub(crate) names: NameTable,
 }
 
-// The items of a program with the table of its names.
+// The same with its names bound.
+#[derive(Drop)]
+pub(crate) struct Named {
+    pub(crate) parsed: Parsed,
+    pub(crate) scoped: Scoped,
+}
+
+// A program with its names bound, with the table of its names and its straight-line items.
 #[derive(Drop)]
 pub(crate) struct Source {
-    pub(crate) items: Vec<Item<NameAt>>,
     pub(crate) names: NameTable,
+    pub(crate) scoped: Scoped,
+    pub(crate) items: Vec<Item>,
 }
 
 fn no_tokens(error: LexError) -> NotJudged
@@ -74,14 +84,13 @@ fn no_program(error: ParseError) -> NotJudged
 fn program_of(alloc: Global, text: &[u8]) -> Result<Parsed, NotJudged>
     requires { length text.now ≤ TEXT_LIMIT }
     ensures ok { IfOk result (λ p. ParsesTo text.now (Ok (parsed_with (program_view p.program) p.names))) }
-    ensures count { IfOk result (λ p. length (program_view p.program) < 2 ^ 32) }
     ensures refused { IfErr result (λ e. IsBy (ParsesTo text.now) e) }
 {
     let tokens = match lex(alloc, text, TextKind::Program) {
         Ok(tokens) => tokens,
         Err(error) => return Err(no_tokens(error)),
     };
-    let mut names = name_table(alloc)?;
+    let mut names = NameTable::new(alloc)?;
     match parse_program(alloc, &tokens, text, &mut names) {
         Ok(program) => Ok(Parsed { program, names }),
         Err(error) => Err(no_program(error)),
@@ -90,7 +99,7 @@ fn program_of(alloc: Global, text: &[u8]) -> Result<Parsed, NotJudged>
 
 // An upper and a lower name with a dot between them.
 fn dotted(alloc: Global, names: &NameTable, front: Name, name: Name) -> Result<NameText, AllocError>
-    ensures { IfOk result (λ t. t ≡ text_in names.now front.0 ++ codes "." ++ text_in names.now name.0) }
+    ensures { IfOk result (λ t. t ≡ text_of names.now front.0 ++ codes "." ++ text_of names.now name.0) }
 {
     let mut text = String::from_str(alloc, text_of(names, front))?;
     text.push_str(".")?;
@@ -125,63 +134,39 @@ fn complaint_refusal(
     }
 }
 
-// The tree of the text, where nothing is wrong with its names.
-fn named_of(alloc: Global, text: &[u8]) -> Result<Parsed, NotJudged>
+// The tree of the text with its names bound, where nothing is wrong with them.
+fn named_of(alloc: Global, text: &[u8]) -> Result<Named, NotJudged>
     requires { length text.now ≤ TEXT_LIMIT }
-    ensures ok { IfOk result (λ p. NamesTo text.now (Ok (parsed_with (program_view p.program) p.names))) }
-    ensures count { IfOk result (λ p. length (program_view p.program) < 2 ^ 32) }
+    ensures ok { IfOk result (λ n. NamesTo text.now (Ok (scoped_with (program_view n.parsed.program)
+        n.parsed.names (scoped_view n.scoped)))) }
     ensures refused { IfErr result (λ e. IsBy (NamesTo text.now) e) }
 {
     let parsed = program_of(alloc, text)?;
-    match first_complaint(alloc, &parsed.program, &parsed.names)? {
-        None => Ok(parsed),
-        Some(complaint) => {
+    match resolve(alloc, &parsed.program, &parsed.names) {
+        Ok(scoped) => Ok(Named { parsed, scoped }),
+        Err(ResolveError::Complaint(complaint)) => {
             let refused = complaint_refusal(alloc, &parsed.names, complaint)?;
             Err(NotJudged::Refused(refused))
         }
+        Err(ResolveError::Memory) => Err(NotJudged::Memory),
     }
 }
 
 // The items of the text, where all of its forms are judged.
 pub(crate) fn source_of(alloc: Global, text: &[u8]) -> Result<Source, NotJudged>
     requires { length text.now ≤ TEXT_LIMIT }
-    ensures ok { IfOk result (λ s. IsReadAs text.now s.names s.items.items) }
+    ensures ok { IfOk result (λ s. IsReadAs text.now s.names (scoped_view s.scoped) s.items.items) }
     ensures small { IfOk result (λ s. AreSmall s.items.items) }
-    ensures count { IfOk result (λ s. length s.items.items < 2 ^ 32) }
     ensures refused { IfErr result (λ e. IsBy (RecognisesTo text.now) e) }
 {
-    let parsed = named_of(alloc, text)?;
-    match recognise(alloc, &parsed.program) {
+    let Named { parsed, scoped } = named_of(alloc, text)?;
+    match recognise(alloc, &parsed.program, &scoped) {
         Ok(items) => Ok(Source {
-            items,
             names: parsed.names,
+            scoped,
+            items,
         }),
         Err(FormError::Unbuilt(place)) => Err(NotJudged::Refused(Refused::At(17, place))),
         Err(FormError::Memory) => Err(NotJudged::Memory),
-    }
-}
-
-// The items with their names bound.
-pub(crate) fn scoped_of(
-    alloc: Global,
-    names: &NameTable,
-    items: &[Item<NameAt>],
-) -> Result<Vec<Item<Binder>>, NotJudged>
-    requires count { length items.now < 2 ^ 32 }
-    requires small { AreSmall items.now }
-    ensures ok { (text : List ℕ) → IsReadAs text names.now items.now
-        → IfOk result (λ scoped. IsBoundAs text names.now items.now scoped.items) }
-    ensures small { IfOk result (λ scoped. AreSmall scoped.items) }
-    ensures count { IfOk result (λ scoped. length scoped.items ≡ length items.now) }
-    ensures refused { (text : List ℕ) → IsReadAs text names.now items.now
-        → IfErr result (λ e. IsBy (ResolvesTo text) e) }
-{
-    match resolve(alloc, items) {
-        Ok(scoped) => Ok(scoped),
-        Err(ScopeError::Unknown(x)) => {
-            let name = NameText::new(alloc, text_of(names, x.name))?;
-            Err(NotJudged::Refused(Refused::Named(6, x.place, name)))
-        }
-        Err(ScopeError::Memory) => Err(NotJudged::Memory),
     }
 }

@@ -5,14 +5,13 @@ ghost use Rattle.lq_pred.specs.PredView.{formula_of};
 ghost use Rattle.lq_demand.specs.Straight.{implications_of};
 ghost use Rattle.lq_demand.specs.LinesView.{lines_view};
 ghost use Rattle.lq_demand.specs.Plain.{IsPlainStep};
-ghost use Rattle.lq_straight.specs.Uses.{IsSmallSum, IsSmallItem, AreSmall};
-ghost use Rattle.lq_straight.specs.Demands.{term_of, goal_of, implications_of as demands_of};
-ghost use Rattle.lq_straight.specs.Meaning.{op_of};
+ghost use Rattle.lq_straight.specs.Small.{IsSmallSum, IsSmallItem, AreSmall};
+ghost use Rattle.lq_straight.specs.Demands.{term_of, op_of, goal_of, implications_of as demands_of};
 ghost use Rattle.lq_app.specs.Steps.{item_steps};
 ghost use Rattle.lq_name.specs.declared.limits.TheConstants.{LITERAL_LIMIT};
 
 use lq_demand::{Line, Lines};
-use lq_name::{Binder, CompareOp};
+use lq_name::CompareOp;
 use lq_pred::{Pred, Symbol, Term};
 use lq_straight::{Assertion, Item, ItemNode, Operand, Order, Right};
 use std::alloc::{AllocError, Global};
@@ -32,7 +31,7 @@ fn negative(n: u128) -> i128
 }
 
 // The term that a sum is.
-fn term_of(alloc: Global, sum: Operand<Binder>) -> Result<Term, AllocError>
+fn term_of(alloc: Global, sum: Operand) -> Result<Term, AllocError>
     requires { IsSmallSum sum }
     ensures { IfOk result (λ t. sum_of t ≡ term_of sum) }
 {
@@ -63,7 +62,7 @@ fn op_of(order: Order) -> CompareOp
 }
 
 // What an assertion demands.
-fn goal_of(alloc: Global, assertion: &Assertion<Binder>) -> Result<Pred, AllocError>
+fn goal_of(alloc: Global, assertion: &Assertion) -> Result<Pred, AllocError>
     requires left { IsSmallSum assertion.now.left }
     requires right { IsSmallSum assertion.now.right }
     ensures { IfOk result (λ p. formula_of p ≡ goal_of assertion.now) }
@@ -74,7 +73,7 @@ fn goal_of(alloc: Global, assertion: &Assertion<Binder>) -> Result<Pred, AllocEr
 }
 
 // Adds what is known or asked at an item.
-fn push_item(alloc: Global, lines: &mut Lines, item: &Item<Binder>) -> Result<(), AllocError>
+fn push_item(alloc: Global, lines: &mut Lines, item: &Item) -> Result<(), AllocError>
     requires { IsSmallItem item.now }
     ensures { OnOk result (lines_view lines.new ≡ lines_view lines.old ++ item_steps item.now) }
 {
@@ -90,7 +89,7 @@ fn push_item(alloc: Global, lines: &mut Lines, item: &Item<Binder>) -> Result<()
 }
 
 // The demands of a program with what is known at each, as a list that can be asked.
-pub(crate) fn lines_of(alloc: Global, items: &[Item<Binder>]) -> Result<Lines, AllocError>
+pub(crate) fn lines_of(alloc: Global, items: &[Item]) -> Result<Lines, AllocError>
     requires { AreSmall items.now }
     ensures demands { IfOk result (λ lines. implications_of (lines_view lines) ≡ demands_of items.now) }
     ensures plain { IfOk result (λ lines. All IsPlainStep (lines_view lines)) }

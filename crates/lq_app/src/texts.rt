@@ -3,22 +3,22 @@ ghost use Rattle.std.specs.Prelude.{◌≡◌, ◌++◌, slice_get, codes, decim
 ghost use Rattle.std.specs.Fmt.{signed_decimal};
 ghost use Rattle.lq_pred.specs.TermView.{sum_of};
 ghost use Rattle.lq_pred.specs.PredView.{formula_of};
-ghost use Rattle.lq_straight.specs.Names.{text_in};
-ghost use Rattle.lq_straight.specs.Scope.{AreOrdinals};
-ghost use Rattle.lq_app.specs.Texts.{frac_text, past_text, with_ordinal, binder_name, term_text, compare_text, formula_text};
+ghost use Rattle.lq_scope.specs.Known.{text_of};
+ghost use Rattle.lq_scoped.specs.Whole.{scoped_view};
+ghost use Rattle.lq_app.specs.Texts.{frac_text, past_text, with_ordinal, AreOrdinals, binder_name, term_text, compare_text, formula_text};
 
 use itoa::Buffer;
 use lq_name::{Binder, CompareOp, Name, NameTable};
 use lq_num::{Frac, NumOp, NumberPast};
 use lq_pred::{Pred, Symbol, Term};
-use lq_straight::{Item, ItemNode, NameAt};
+use lq_scoped::Scoped;
 use std::alloc::AllocError;
 
 // What the names of a report are told by.
 #[derive(Clone, Copy)]
 pub(crate) struct Naming<'a> {
     pub(crate) table: &'a NameTable,
-    pub(crate) items: &'a [Item<NameAt>],
+    pub(crate) scoped: &'a Scoped,
     pub(crate) ordinals: &'a [usize],
 }
 
@@ -95,19 +95,13 @@ fn push_with_ordinal(line: &mut Vec<u8>, name: &[u8], ordinal: usize) -> Result<
 
 // The text of a name.
 pub(crate) fn text_of(table: &NameTable, name: Name) -> &str
-    ensures { result.now ≡ text_in table.now name.0 }
+    ensures { result.now ≡ text_of table.now name.0 }
 {
     if name.0 < table.len() {
         table.text(name)
     } else {
         ""
     }
-}
-
-fn item_at(items: &[Item<NameAt>], number: usize) -> Option<Item<NameAt>>
-    ensures { result ≡ slice_get items.now number }
-{
-    items.get(number).copied()
 }
 
 fn ordinal_at(ordinals: &[usize], number: usize) -> Option<usize>
@@ -117,29 +111,24 @@ fn ordinal_at(ordinals: &[usize], number: usize) -> Option<usize>
 }
 
 fn push_name(line: &mut Vec<u8>, names: &Naming, binder: Binder) -> Result<(), AllocError>
-    requires { AreOrdinals names.now.items.now names.now.ordinals.now }
+    requires { AreOrdinals (scoped_view names.now.scoped.now).sources names.now.ordinals.now }
     ensures { OnOk result (line.new.items ≡ line.old.items
-        ++ binder_name names.now.table.now names.now.items.now binder.0) }
+        ++ binder_name names.now.table.now (scoped_view names.now.scoped.now).sources binder.0) }
 {
     let number = binder.0 as usize;
-    let Some(item) = item_at(names.items, number) else {
+    let Some(ordinal) = ordinal_at(names.ordinals, number) else {
         return Ok(());
     };
-    match item.node {
-        ItemNode::Assert(_) | ItemNode::Print(_) => Ok(()),
-        ItemNode::Define(x, _) => {
-            let Some(ordinal) = ordinal_at(names.ordinals, number) else {
-                unreachable!()
-            };
-            push_with_ordinal(line, text_of(names.table, x.name).as_bytes(), ordinal)
-        }
+    match names.scoped.source_of(binder) {
+        Some(name) => push_with_ordinal(line, text_of(names.table, name).as_bytes(), ordinal),
+        None => Ok(()),
     }
 }
 
 pub(crate) fn push_term(line: &mut Vec<u8>, names: &Naming, term: &Term) -> Result<(), AllocError>
-    requires { AreOrdinals names.now.items.now names.now.ordinals.now }
+    requires { AreOrdinals (scoped_view names.now.scoped.now).sources names.now.ordinals.now }
     ensures { OnOk result (line.new.items ≡ line.old.items
-        ++ term_text names.now.table.now names.now.items.now (sum_of term.now)) }
+        ++ term_text names.now.table.now (scoped_view names.now.scoped.now).sources (sum_of term.now)) }
 {
     match term {
         Term::Whole(n) => push_whole(line, *n),
@@ -175,9 +164,9 @@ fn sign_of(op: CompareOp) -> &'static [u8]
 }
 
 pub(crate) fn push_pred(line: &mut Vec<u8>, names: &Naming, pred: &Pred) -> Result<(), AllocError>
-    requires { AreOrdinals names.now.items.now names.now.ordinals.now }
+    requires { AreOrdinals (scoped_view names.now.scoped.now).sources names.now.ordinals.now }
     ensures { OnOk result (line.new.items ≡ line.old.items
-        ++ formula_text names.now.table.now names.now.items.now (formula_of pred.now)) }
+        ++ formula_text names.now.table.now (scoped_view names.now.scoped.now).sources (formula_of pred.now)) }
 {
     match pred {
         Pred::Compare(op, a, b) => {

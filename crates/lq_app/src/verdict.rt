@@ -1,5 +1,5 @@
 // The judgement on a text.
-ghost use Rattle.std.specs.Prelude.{◌≡◌, ◌⊎◌, ◌≤◌, ◌<◌, ◌^◌, ℕ, List, [], length, slice_get, Some, Result, Ok, Err, IfOk, IfErr};
+ghost use Rattle.std.specs.Prelude.{◌≡◌, ◌⊎◌, ◌≤◌, ◌<◌, ◌+◌, ◌^◌, ℕ, List, [], length, slice_get, Some, Result, Ok, Err, IfOk, IfErr};
 ghost use Rattle.lq_app.specs.declared.verdict.Judgement.{Judgement};
 ghost use Rattle.lq_app.specs.declared.verdict.Refusal.{Refusal};
 ghost use Rattle.lq_app.specs.declared.verdict.Refusal.TheVariants.{Memory};
@@ -8,31 +8,33 @@ ghost use Rattle.lq_num.specs.Past.{IsPast};
 ghost use Rattle.lq_pred.specs.PredView.{formula_of};
 ghost use Rattle.lq_demand.specs.Answer.{IsFirstUngathered, IsFirstLarge};
 ghost use Rattle.lq_demand.specs.AskedView.{FailsAt};
-ghost use Rattle.lq_name.specs.declared.name.Binder.{Binder};
 ghost use Rattle.lq_pred.specs.ClosedImplication.{ClosedImplication};
 ghost use Rattle.lq_straight.specs.declared.item.Assertion.{Assertion};
 ghost use Rattle.lq_straight.specs.declared.item.Item.{Item};
-ghost use Rattle.lq_straight.specs.declared.item.NameAt.{NameAt};
-ghost use Rattle.lq_straight.specs.Uses.{AreSmall};
+ghost use Rattle.lq_scoped.specs.Scoping.{Scoping, IsScoped};
+ghost use Rattle.lq_scoped.specs.Whole.{scoped_view};
+ghost use Rattle.lq_straight.specs.Small.{AreSmall};
 ghost use Rattle.lq_straight.specs.Demands.{implications_of, assertions_of};
 ghost use Rattle.lq_report.specs.Refusals.{code_of, refusal_line};
-ghost use Rattle.lq_app.specs.Stages.{ResolvesTo, IsBoundAs};
+ghost use Rattle.lq_app.specs.Stages.{RecognisesTo, IsReadAs};
 ghost use Rattle.lq_app.specs.NotJudged.{IsBy};
 ghost use Rattle.lq_app.specs.Judgement.{IsAccepted, IsSafeText, IsRejected, IsUngathered, IsJudgement, Agree, IsByNumber, HasSmallDemands};
 
 use crate::failures::{past_report, rejected_report, ungathered_report};
 use crate::laws::one_judgement;
-use crate::stages::{NotJudged, scoped_of, source_of};
+use crate::ordinal::ordinals;
+use crate::stages::{NotJudged, source_of};
 use crate::steps::lines_of;
 use crate::texts::Naming;
 use lq_demand::{Asked, ask};
-use lq_name::{Binder, NameTable, Place, TextBuf};
+use lq_name::{NameTable, Place, TextBuf};
 use lq_num::NumberPast;
 use lq_point::Point;
 use lq_pred::{Pred, Stop};
 use lq_report::{Refused, refusal_text};
-use lq_sound::{bound_trees_are_the_texts, valid_programs_are_safe};
-use lq_straight::{Assertion, Item, ItemNode, NameAt, ordinals};
+use lq_scoped::Scoped;
+use lq_sound::valid_programs_are_safe;
+use lq_straight::{Assertion, Item, ItemNode};
 use std::alloc::{AllocError, Global};
 use thiserror::Error;
 
@@ -102,7 +104,6 @@ pub fn judge(
 {
     one_judgement();
     valid_programs_are_safe();
-    bound_trees_are_the_texts();
     reported(alloc, program)
 }
 
@@ -132,20 +133,14 @@ fn reported(alloc: Global, text: &[u8]) -> Result<Judgement, Refusal>
 fn judge_program(alloc: Global, text: &[u8]) -> Result<Judgement, NotJudged>
     requires { length text.now ≤ TEXT_LIMIT }
     ensures ok { IfOk result (λ j. IsJudgement text.now (Ok j)) }
-    ensures refused { IfErr result (λ e. IsBy (ResolvesTo text.now) e) }
+    ensures refused { IfErr result (λ e. IsBy (RecognisesTo text.now) e) }
 {
     let source = source_of(alloc, text)?;
-    match scoped_of(alloc, &source.names, &source.items) {
-        Ok(scoped) => Ok(judge_bound(alloc, &source.names, &source.items, &scoped)?),
-        Err(error) => Err(error),
-    }
+    Ok(judge_items(alloc, &source.names, &source.scoped, &source.items)?)
 }
 
 // The assertions of a program, in order.
-fn assertions_of(
-    alloc: Global,
-    items: &[Item<Binder>],
-) -> Result<Vec<Assertion<Binder>>, AllocError>
+fn assertions_of(alloc: Global, items: &[Item]) -> Result<Vec<Assertion>, AllocError>
     ensures { IfOk result (λ v. v.items ≡ assertions_of items.now) }
 {
     items
@@ -158,14 +153,11 @@ fn assertions_of(
 }
 
 // The place of the assertion of this number, counted from 0.
-fn place_of_demand(
-    alloc: Global,
-    items: &[Item<Binder>],
-    number: usize,
-) -> Result<Place, AllocError>
+fn place_of_demand(alloc: Global, items: &[Item], number: usize) -> Result<Place, AllocError>
     requires { (i : ClosedImplication) × (slice_get (implications_of items.now) number ≡ Some i) }
-    ensures { IfOk result (λ p. (a : Assertion Binder)
+    ensures place { IfOk result (λ p. (a : Assertion)
         × (slice_get (assertions_of items.now) number ≡ Some a) × (a.place ≡ p)) }
+    ensures small { IfOk result (λ p. number + 1 < 2 ^ 64) }
 {
     let assertions = assertions_of(alloc, items)?;
     Ok(assertions[number].place)
@@ -175,22 +167,21 @@ fn place_of_demand(
 fn rejected(
     alloc: Global,
     table: &NameTable,
-    items: &[Item<NameAt>],
-    scoped: &[Item<Binder>],
+    scoped: &Scoped,
+    items: &[Item],
     number: usize,
     point: &Point,
 ) -> Result<Judgement, AllocError>
-    requires items { length items.now < 2 ^ 32 }
-    requires count { length scoped.now ≡ length items.now }
-    requires fails { FailsAt (implications_of scoped.now) number point.now }
-    ensures { (text : List ℕ) → IsBoundAs text table.now items.now scoped.now
+    requires few { length (scoped_view scoped.now).sources ≤ 2 ^ 31 }
+    requires fails { FailsAt (implications_of items.now) number point.now }
+    ensures { (text : List ℕ) → IsReadAs text table.now (scoped_view scoped.now) items.now
         → IfOk result (λ j. IsJudgement text (Ok j)) }
 {
-    let place = place_of_demand(alloc, scoped, number)?;
-    let numbers = ordinals(alloc, items)?;
+    let place = place_of_demand(alloc, items, number)?;
+    let numbers = ordinals(alloc, scoped)?;
     let names = Naming {
         table,
-        items,
+        scoped,
         ordinals: &numbers,
     };
     let report = rejected_report(alloc, &names, number, place, point)?;
@@ -202,22 +193,21 @@ fn rejected(
 fn ungathered(
     alloc: Global,
     table: &NameTable,
-    items: &[Item<NameAt>],
-    scoped: &[Item<Binder>],
+    scoped: &Scoped,
+    items: &[Item],
     number: usize,
     pred: &Pred,
 ) -> Result<Judgement, AllocError>
-    requires items { length items.now < 2 ^ 32 }
-    requires count { length scoped.now ≡ length items.now }
-    requires first { IsFirstUngathered (implications_of scoped.now) number (formula_of pred.now) }
-    ensures { (text : List ℕ) → IsBoundAs text table.now items.now scoped.now
+    requires few { length (scoped_view scoped.now).sources ≤ 2 ^ 31 }
+    requires first { IsFirstUngathered (implications_of items.now) number (formula_of pred.now) }
+    ensures { (text : List ℕ) → IsReadAs text table.now (scoped_view scoped.now) items.now
         → IfOk result (λ j. IsJudgement text (Ok j)) }
 {
-    let place = place_of_demand(alloc, scoped, number)?;
-    let numbers = ordinals(alloc, items)?;
+    let place = place_of_demand(alloc, items, number)?;
+    let numbers = ordinals(alloc, scoped)?;
     let names = Naming {
         table,
-        items,
+        scoped,
         ordinals: &numbers,
     };
     let report = ungathered_report(alloc, &names, number, place, pred)?;
@@ -227,43 +217,40 @@ fn ungathered(
 // The judgement on a demand whose solving met a number past 128 bits.
 fn past_number(
     alloc: Global,
-    scoped: &[Item<Binder>],
+    items: &[Item],
     number: usize,
     past: &NumberPast,
 ) -> Result<Judgement, AllocError>
-    requires count { length scoped.now < 2 ^ 32 }
-    requires first { IsFirstLarge (implications_of scoped.now) number }
+    requires first { IsFirstLarge (implications_of items.now) number }
     requires past { IsPast past.now }
-    ensures { (text : List ℕ) (names : List (List ℕ)) (items : List (Item NameAt))
-        → IsBoundAs text names items scoped.now
+    ensures { (text : List ℕ) (names : List (List ℕ)) (s : Scoping) → IsReadAs text names s items.now
         → IfOk result (λ j. IsJudgement text (Ok j)) }
 {
-    let place = place_of_demand(alloc, scoped, number)?;
+    let place = place_of_demand(alloc, items, number)?;
     let report = past_report(alloc, number, place, past)?;
     Ok(Judgement::Undecided(report))
 }
 
-// Judges a program whose names are bound.
-fn judge_bound(
+// Judges a program by its straight-line items.
+fn judge_items(
     alloc: Global,
     table: &NameTable,
-    items: &[Item<NameAt>],
-    scoped: &[Item<Binder>],
+    scoped: &Scoped,
+    items: &[Item],
 ) -> Result<Judgement, AllocError>
-    requires items { length items.now < 2 ^ 32 }
-    requires count { length scoped.now ≡ length items.now }
-    requires small { AreSmall scoped.now }
-    ensures { (text : List ℕ) → IsBoundAs text table.now items.now scoped.now
+    requires scoped { IsScoped (scoped_view scoped.now) }
+    requires small { AreSmall items.now }
+    ensures { (text : List ℕ) → IsReadAs text table.now (scoped_view scoped.now) items.now
         → IfOk result (λ j. IsJudgement text (Ok j)) }
 {
-    let lines = lines_of(alloc, scoped)?;
+    let lines = lines_of(alloc, items)?;
     match ask(alloc, &lines)? {
         Asked::Valid => Ok(Judgement::Accepted(TextBuf::from_bytes(Vec::new(alloc)))),
-        Asked::Fails(number, point) => rejected(alloc, table, items, scoped, number, &point),
+        Asked::Fails(number, point) => rejected(alloc, table, scoped, items, number, &point),
         Asked::Stops(number, Stop::Gather(pred)) => {
-            ungathered(alloc, table, items, scoped, number, &pred)
+            ungathered(alloc, table, scoped, items, number, &pred)
         }
-        Asked::Stops(number, Stop::Number(past)) => { past_number(alloc, scoped, number, &past) }
+        Asked::Stops(number, Stop::Number(past)) => past_number(alloc, items, number, &past),
         Asked::Stops(_, Stop::Pivots(_)) | Asked::Stops(_, Stop::Memory) => unreachable!(),
     }
 }

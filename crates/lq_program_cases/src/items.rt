@@ -1,15 +1,14 @@
 // The straight-line items of a text, with their names bound.
 use lq_app::FILE_LIMIT;
 use lq_lex::lex;
-use lq_name::{Binder, TextKind};
+use lq_name::{Binder, NameTable, TextKind};
 use lq_parse::parse_program;
-use lq_straight::{
-    FormError, Item, ItemNode, NameAt, Operand, Order, Printed, Right, ScopeError, name_table,
-    ordinals, recognise, resolve,
-};
+use lq_resolved::{ResolveError, resolve};
+use lq_scoped::Scoped;
+use lq_straight::{FormError, Item, ItemNode, Operand, Order, Printed, Right, recognise};
 use std::alloc::{AllocError, Global};
 
-fn sum_text(alloc: Global, sum: Operand<Binder>) -> Result<String, AllocError> {
+fn sum_text(alloc: Global, sum: Operand) -> Result<String, AllocError> {
     match sum {
         Operand::Use(Binder(x)) => format!(in alloc; "#{x}"),
         Operand::Add(Binder(x), n) => format!(in alloc; "#{x} + {n}"),
@@ -19,7 +18,7 @@ fn sum_text(alloc: Global, sum: Operand<Binder>) -> Result<String, AllocError> {
     }
 }
 
-fn right_text(alloc: Global, right: Right<Binder>) -> Result<String, AllocError> {
+fn right_text(alloc: Global, right: Right) -> Result<String, AllocError> {
     match right {
         Right::Read(place) => {
             let (line, column) = (place.line, place.column);
@@ -29,7 +28,7 @@ fn right_text(alloc: Global, right: Right<Binder>) -> Result<String, AllocError>
     }
 }
 
-fn printed_text(alloc: Global, printed: Printed<Binder>) -> Result<String, AllocError> {
+fn printed_text(alloc: Global, printed: Printed) -> Result<String, AllocError> {
     match printed {
         Printed::Operand(sum) => sum_text(alloc, sum),
         Printed::Add(m, n) => format!(in alloc; "{m} + {n}"),
@@ -46,9 +45,25 @@ fn order_text(order: Order) -> &'static str {
     }
 }
 
-fn item_text(alloc: Global, item: Item<Binder>, ordinal: usize) -> Result<String, AllocError> {
+// Which of the binders with its source name the binder is, counted from 1.
+fn ordinal_of(scoped: &Scoped, binder: Binder) -> usize {
+    let mut count: usize = 0;
+    if (binder.0 as usize) < scoped.binders() {
+        let name = scoped.source_of(binder);
+        for other in 0..=binder.0 {
+            if scoped.source_of(Binder(other)) == name {
+                count = count.saturating_add(1);
+            }
+        }
+    }
+    count
+}
+
+fn item_text(alloc: Global, scoped: &Scoped, item: Item) -> Result<String, AllocError> {
     match item.node {
-        ItemNode::Define(Binder(x), right) => {
+        ItemNode::Define(binder, right) => {
+            let Binder(x) = binder;
+            let ordinal = ordinal_of(scoped, binder);
             let right = right_text(alloc, right)?;
             format!(in alloc; "define #{x} (its name's {ordinal}) = {right}")
         }
@@ -66,26 +81,14 @@ fn item_text(alloc: Global, item: Item<Binder>, ordinal: usize) -> Result<String
     }
 }
 
-// The items with their names bound, one behind the other.
-fn bound_text(alloc: Global, items: &[Item<NameAt>]) -> Result<String, AllocError> {
-    if items.len() >= 1 << 32 {
-        return String::from_str(alloc, "too many");
-    }
-    let scoped = match resolve(alloc, items) {
-        Ok(scoped) => scoped,
-        Err(ScopeError::Unknown(x)) => {
-            let (line, column) = (x.place.line, x.place.column);
-            return format!(in alloc; "unknown at {line}:{column}");
-        }
-        Err(ScopeError::Memory) => return Err(AllocError),
-    };
-    let numbers = ordinals(alloc, items)?;
+// The items one behind the other.
+fn all_text(alloc: Global, scoped: &Scoped, items: &[Item]) -> Result<String, AllocError> {
     let mut text = String::new(alloc);
-    for (item, ordinal) in scoped.iter().zip(numbers.iter()) {
+    for item in items {
         if !text.is_empty() {
             text.push_str("; ")?;
         }
-        text.push_str(item_text(alloc, *item, *ordinal)?.as_str())?;
+        text.push_str(item_text(alloc, scoped, *item)?.as_str())?;
     }
     Ok(text)
 }
@@ -98,12 +101,20 @@ pub(crate) fn items_text(alloc: Global, text: &[u8]) -> Result<String, AllocErro
     let Ok(tokens) = lex(alloc, text, TextKind::Program) else {
         return String::from_str(alloc, "no tokens");
     };
-    let mut names = name_table(alloc)?;
+    let mut names = NameTable::new(alloc)?;
     let Ok(program) = parse_program(alloc, &tokens, text, &mut names) else {
         return String::from_str(alloc, "no program");
     };
-    match recognise(alloc, &program) {
-        Ok(items) => bound_text(alloc, &items),
+    let scoped = match resolve(alloc, &program, &names) {
+        Ok(scoped) => scoped,
+        Err(ResolveError::Complaint(complaint)) => {
+            let (line, column) = (complaint.place.line, complaint.place.column);
+            return format!(in alloc; "unknown at {line}:{column}");
+        }
+        Err(ResolveError::Memory) => return Err(AllocError),
+    };
+    match recognise(alloc, &program, &scoped) {
+        Ok(items) => all_text(alloc, &scoped, &items),
         Err(FormError::Unbuilt(place)) => {
             let (line, column) = (place.line, place.column);
             format!(in alloc; "unbuilt at {line}:{column}")

@@ -1,8 +1,6 @@
 // What a table can't say: calls below a run, and the fakes that never fail.
 use lq_app::{Judgement, Refusal, Status, Words, judge, run_words};
 use lq_io::{CalmFolder, CalmSink};
-use lq_name::Name;
-use lq_straight::name_table;
 use std::collections::BTreeMap;
 use std::test::Fail;
 
@@ -37,14 +35,5 @@ fn calm_runs(rt: HostRuntime) -> Result<(), Fail> {
     let mut folder = CalmFolder::new(files);
     let ended = run_words(alloc, &words, &mut folder, &mut CalmSink);
     assert_eq!(rt; ended, Status::Good);
-    Ok(())
-}
-
-#[test]
-fn begins_with_the_primitives(rt: HostRuntime) -> Result<(), Fail> {
-    let table = name_table(rt.alloc())?;
-    assert!(rt; table.len() == 14);
-    assert_eq!(rt; table.text(Name(12)), "read_int");
-    assert_eq!(rt; table.text(Name(13)), "print_int");
     Ok(())
 }

@@ -11,6 +11,7 @@ use Rattle.lq_pred.specs.TableView.{terms_of}
 use Rattle.lq_pred.specs.TermView.{sum_of}
 use Rattle.lq_point.specs.declared.values.PointValues.{PointValues}
 use Rattle.lq_point.specs.Values.{as_point, values_of, table_of, numbers_of}
+use Rattle.lq_scoped.specs.Whole.{scoped_view}
 use Rattle.lq_app.specs.Judgement.{ShowsPoint}
 use Rattle.lq_app.proofs.Points.{value_line, shows_more, take_at}
 use Rattle.lq_app.proofs.failures.push_point.Goals as goal
@@ -18,12 +19,12 @@ use Rattle.lq_app.proofs.failures.push_point.Goals as goal
 pub loop-at-preserved : goal.loop-at-preserved
 loop-at-preserved c =
     let names = c.args.names.now.table.now in
-    let items = c.args.names.now.items.now in
+    let sources = (scoped_view c.args.names.now.scoped.now).sources in
     let p = as_point c.args.point.now in
     let terms = table_of (values_of c.args.point.now) in
     let t = sum_of c.term.result.now in
     let f = c.number.result in
-    let line = value_line names items t (numer_of f) (denom_of f) in
+    let line = value_line names sources t (numer_of f) (denom_of f) in
     let before = c.loop-at.invariant in
     let same : terms_of c.table-table.result.now ≡ terms = c.table-table.ensures.table ∙ ap table_of c.values-values.ensures in
     let here : slice_get terms c.loop-at.at ≡ Some t = ap (λ (l : List Term). slice_get l c.loop-at.at) (sym same) ∙ c.term.ensures in
@@ -33,6 +34,6 @@ loop-at-preserved c =
     let lowest : IsLowest (p.number t) (numer_of f) (denom_of f) = subst (λ (q : ℚ). IsLowest q (numer_of f) (denom_of f)) value (lowest_of f) in (
       before.0 ++ line,
       c.in_ok-push_value.ensures ∙ ap (λ (l : List ℕ). l ++ line) before.1 ∙ append_assoc c.args.line.now.items before.0 line,
-      subst (λ (l : List Term). ShowsPoint names items p l (before.0 ++ line)) (sym (take_at terms c.loop-at.at t here))
-          (shows_more names items p _ t (numer_of f) (denom_of f) before.0 before.2 lowest),
+      subst (λ (l : List Term). ShowsPoint names sources p l (before.0 ++ line)) (sym (take_at terms c.loop-at.at t here))
+          (shows_more names sources p _ t (numer_of f) (denom_of f) before.0 before.2 lowest),
     )

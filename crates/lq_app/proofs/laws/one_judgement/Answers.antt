@@ -13,7 +13,5 @@ returns c = judged_once (record {
   one = λ ks at to. c.one_answer.ensures.either (start_of Program) LEVEL_LIMIT ks at to;
   stops = λ ks at to. c.one_answer.ensures.stops (start_of Program) LEVEL_LIMIT ks at to;
   depths = λ ks at to. c.one_answer.ensures.depths (start_of Program) LEVEL_LIMIT ks at to;
-  scope = c.one_scope.ensures.resolved;
-  unknown = c.one_scope.ensures.unknown;
-  either = c.one_scope.ensures.either;
+  names = c.one_resolution.ensures;
 })

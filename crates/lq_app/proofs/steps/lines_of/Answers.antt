@@ -1,6 +1,5 @@
 use Rattle.std.proofs.Common.{◌++◌, List, get_or, All, arith, sym, ap, subst, ◌∙◌}
 use Rattle.std.proofs.lemmas.Option.{slice_get-get_or}
-use Rattle.lq_name.specs.declared.name.Binder.{Binder}
 use Rattle.lq_demand.specs.Straight.{LineView, implications_of}
 use Rattle.lq_demand.specs.Plain.{IsPlainStep}
 use Rattle.lq_name.specs.declared.place.TextKind.TheVariants.{Program}
@@ -15,7 +14,7 @@ use Rattle.lq_app.proofs.steps.lines_of.Goals as goal
 abbrev somewhere : Place
 somewhere = record { text = Program; line = 0; column = 0 }
 
-abbrev filler : Item Binder
+abbrev filler : Item
 filler = record { place = somewhere; node = Define (record { 0 = 0 }) (Read somewhere) }
 
 pub push_item-requires : goal.push_item-requires

@@ -1,22 +1,19 @@
 use Rattle.std.specs.Prelude.{codes}
-use Rattle.std.proofs.Common.{◌++◌, inr, [], sym, ap, ◌∙◌, arith}
+use Rattle.std.proofs.Common.{◌++◌, inr, sym, ap, ◌∙◌}
 use Rattle.lq_name.specs.declared.place.Place.{Place}
 use Rattle.lq_app.specs.Texts.{past_text}
 use Rattle.lq_app.specs.Judgement.{head_lines}
-use Rattle.lq_app.specs.Stages.{scoped_with}
-use Rattle.lq_app.proofs.Asserted.{below}
+use Rattle.lq_app.specs.Stages.{recognised_with}
 use Rattle.lq_app.proofs.verdict.past_number.Goals as goal
 
 pub past_report-requires : goal.past_report-requires
-past_report-requires c =
-    let lt = below [] c.args.scoped.now c.args.number c.requires.first.large c.requires.first.at in
-    omega arith
+past_report-requires c = record { number = c.in_ok-place.ensures.small }
 
 pub returns : goal.returns
-returns c = λ text names items bound.
-    let at = c.in_ok-place.ensures in
+returns c = λ text names s read.
+    let at = c.in_ok-place.ensures.place in
     inr (record {
-      of = record { program = scoped_with bound.0 names items c.args.scoped.now; is = bound.1 };
+      of = record { program = recognised_with read.0 names s c.args.items.now; is = read.1 };
       number = c.args.number;
       first = c.requires.first;
       past = c.args.past.now;

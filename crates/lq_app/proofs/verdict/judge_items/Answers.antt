@@ -5,15 +5,17 @@ use Rattle.lq_demand.specs.declared.asking.Asked.{Asked}
 use Rattle.lq_demand.specs.declared.asking.Asked.TheVariants.{Stops}
 use Rattle.lq_demand.specs.Answer.{CanBeGathered, IsFirstLarge}
 use Rattle.lq_demand.specs.AskedView.{FailsAt}
-use Rattle.lq_app.specs.Stages.{scoped_with}
-use Rattle.lq_app.proofs.verdict.judge_bound.Goals as goal
+use Rattle.lq_scoped.specs.Whole.{scoped_view}
+use Rattle.lq_app.specs.Stages.{recognised_with}
+use Rattle.lq_app.proofs.verdict.judge_items.Goals as goal
 
 pub returns-in-Valid : goal.returns-in-Valid
-returns-in-Valid c = λ text bound.
+returns-in-Valid c = λ text read.
     let is = ap (λ (a : Asked). Ok a) c.in-Valid.is in
     let same = c.in_ok-lines.ensures.demands in (
       record {
-        of = record { program = scoped_with bound.0 c.args.table.now c.args.items.now c.args.scoped.now; is = bound.1 };
+        of = record { program = recognised_with read.0 c.args.table.now (scoped_view c.args.scoped.now) c.args.items.now; is = read.1 };
+        scoped = c.requires.scoped;
         gathered = subst (λ (l : List ClosedImplication). All CanBeGathered l) same (c.in_ok-ask.ensures.gathered is);
         valid = subst (λ (l : List ClosedImplication). All IsValid l) same (c.in_ok-ask.ensures.valid is);
       },
@@ -24,6 +26,12 @@ pub rejected-requires-clause-fails : goal.rejected-requires-clause-fails
 rejected-requires-clause-fails c =
     subst (λ (l : List ClosedImplication). FailsAt l c.in-Fails.number c.in-Fails.point) c.in_ok-lines.ensures.demands
     (c.in_ok-ask.ensures.fails c.in-Fails.number c.in-Fails.point (ap (λ (a : Asked). Ok a) c.in-Fails.is))
+
+pub rejected-requires-clause-few : goal.rejected-requires-clause-few
+rejected-requires-clause-few c = c.requires.scoped.few_binders
+
+pub ungathered-requires-clause-few : goal.ungathered-requires-clause-few
+ungathered-requires-clause-few c = c.requires.scoped.few_binders
 
 pub past_number-requires-clause-first : goal.past_number-requires-clause-first
 past_number-requires-clause-first c =
@@ -38,4 +46,4 @@ past_number-requires-clause-past c =
     (c.in_ok-ask.ensures.number stop.number stop.past (ap (λ (a : Asked). Ok a) is)).0
 
 pub returns-in-Stops-default-Number : goal.returns-in-Stops-default-Number
-returns-in-Stops-default-Number c = λ text bound. c.past_number.ensures text c.args.table.now c.args.items.now bound
+returns-in-Stops-default-Number c = λ text read. c.past_number.ensures text c.args.table.now (scoped_view c.args.scoped.now) read
