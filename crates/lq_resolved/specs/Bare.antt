@@ -11,6 +11,7 @@ use Rattle.lq_walk.specs.Visits.{place_of}
 use Rattle.lq_resolve.specs.Heads.{Head, read, print, length_of, make, make_of, find, find_of, add, add_of, add_to}
 use Rattle.lq_resolve.specs.Making.{Value, whole, partly, one_form, two_form, three_form}
 
+-- the form of a leaf, of a row and of arms
 abbrev pub leaf_form : Leaf → Form
 leaf_form (shape.whole m) = form.whole m
 leaf_form (shape.flag b) = form.flag b
@@ -34,6 +35,7 @@ cases_in (a ∷ as_) = more_cases a.pattern a.body (cases_in as_)
 abbrev pub bare_at : Tree → Form → Tree
 bare_at t f = tree 0 (place_of t) f
 
+-- what becomes of a node of each shape
 abbrev pub baring : Algebra Tree
 baring = record {
   leaf = λ t h. bare_at t (leaf_form h);
@@ -47,6 +49,7 @@ baring = record {
   match_on = λ t e as_. bare_at t (form.match_on e (cases_in as_));
 }
 
+-- a tree in which each node has the number 0
 abbrev pub bare : Tree → Tree
 bare = fold baring
 

@@ -14,6 +14,7 @@ use Rattle.lq_resolve.specs.Binding.{is_tuple}
 abbrev pub is_taken : Pattern → Bool
 is_taken p = is_parameter p || is_tuple p
 
+-- a function has such a parameter
 abbrev pub takes_well : Shape → Bool
 takes_well (shape.function p b) = is_taken p
 takes_well (shape.leaf h) = true
@@ -25,6 +26,7 @@ takes_well (shape.let_in p e b) = true
 takes_well (shape.let_rec f i q p e b) = true
 takes_well (shape.match_on e cs) = true
 
+-- an item binds such a pattern
 abbrev pub binds_well : ItemForm → Bool
 binds_well (type_of d) = true
 binds_well (let_of p e) = is_parameter p
@@ -43,6 +45,7 @@ stands (hide p) = true
 stands (show_name f) = true
 stands (hide_name f) = true
 
+-- all that is met has them so
 abbrev pub all_stand : List Visit → Bool
 all_stand [] = true
 all_stand (v ∷ vs) = stands v && all_stand vs

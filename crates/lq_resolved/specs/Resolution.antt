@@ -7,6 +7,7 @@ use Rattle.lq_scoped.specs.Scoping.{Scoping, scoping}
 use Rattle.lq_datatypes.specs.Datatypes.{datatypes_in}
 use Rattle.lq_resolve.specs.Making.{program_made}
 
+-- a scoped program, or the complaint that is told
 pub data Resolution : Type 0 where
   resolved : Scoping → Resolution
   refused : Complaint → Resolution

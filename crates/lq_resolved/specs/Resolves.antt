@@ -45,6 +45,7 @@ abbrev pub IsGiven : Place → Given → Value → Type 0
 IsGiven p (done f) v = IsNode p f v
 IsGiven p (lacking h) v = v ≡ partly h
 
+-- what is no primitive becomes nothing
 abbrev pub IsPrimitive : Place → Option Given → Value → Type 0
 IsPrimitive p None v = ⊥
 IsPrimitive p (Some g) v = IsGiven p g v
@@ -56,6 +57,7 @@ IsUse p None g v = IsPrimitive p g v
 
 -- ---- parts
 
+-- a call of what this part became
 abbrev pub IsCall : Place → Value → Tree → Value → Type 0
 IsCall p (whole f) a v = IsNode p (form.call f a) v
 IsCall p (partly h) a v = IsGiven p (given h a) v
@@ -64,9 +66,11 @@ IsCall p (partly h) a v = IsGiven p (given h a) v
 abbrev pub Calls : Place → Rule → Rule → Rule
 Calls p a b k s v r = (f : Value) × (e : Tree) × (m : Sources) × a k s f m × b k m (whole e) r × IsCall p f e v
 
+-- two parts, from left to right
 abbrev pub Pairs : Place → Two → Rule → Rule → Rule
 Pairs p h a b k s v r = (d : Tree) × (e : Tree) × (m : Sources) × a k s (whole d) m × b k m (whole e) r × IsNode p (two_form h d e) v
 
+-- a call, or what else has two parts
 abbrev pub Joins : Place → Two → Rule → Rule → Rule
 Joins p shape.call a b = Calls p a b
 Joins p (shape.arithmetic o) a b = Pairs p (shape.arithmetic o) a b
@@ -82,22 +86,25 @@ abbrev pub InRow : List Rule → Frame → Sources → List Tree → Sources →
 InRow [] k s ts r = (ts ≡ []) × (s ≡ r)
 InRow (a ∷ as_) k s ts r = (t : Tree) × (us : List Tree) × (m : Sources) × a k s (whole t) m × InRow as_ k m us r × (ts ≡ t ∷ us)
 
--- The arguments of a constructor with so many fields. The one part in its parentheses is an argument, or its own parts are, if it is a tuple
--- and the constructor has two fields or more.
+-- the parts of a tuple, or the tree itself
 abbrev pub parts_in : Tree → List Tree
 parts_in (tree i p (form.tuple us)) = listed us
 parts_in t = t ∷ []
 
+-- by whether the constructor has two fields or more
 abbrev pub arguments_in : Bool → List Tree → List Tree
 arguments_in true (t ∷ []) = parts_in t
 arguments_in true [] = []
 arguments_in true (t ∷ (u ∷ ts)) = t ∷ u ∷ ts
 arguments_in false ts = ts
 
+-- The arguments of a constructor with so many fields. The one part in its parentheses is an argument, or its own parts are, if it is a tuple
+-- and the constructor has two fields or more.
 abbrev pub arguments_of : Arguments → Option ℕ → List Tree → List Tree
 arguments_of Apart fields ts = ts
 arguments_of Listed fields ts = arguments_in (takes_more fields) ts
 
+-- a row of parts; of a constructor each part is an argument
 abbrev pub row_form : Row → List Arity → List Tree → Form
 row_form shape.tuple cs ts = form.tuple (trees_of ts)
 row_form (shape.build c w) cs ts = form.build c Apart (trees_of (arguments_of w (arity_in cs c) ts))
@@ -110,17 +117,19 @@ row_form shape.chain cs ts = form.chain (trees_of ts)
 abbrev pub Under : Rule → Pattern → Sources → Frame → Sources → Tree → Sources → Type 0
 Under a q before k s t r = a (shown (length before) q k) s (whole t) r
 
--- A function. A parameter that is a tuple becomes a binder that was made, and the body a match on it.
+-- a match on a binder, whose one arm has the names that stand behind it
 abbrev pub match_on_it : ℕ → Pattern → Tree → Tree
 match_on_it b q t =
     tree 0 (place_of_pattern q) (form.match_on (tree 0 (place_of_pattern q) (form.use_of b)) (more_cases (numbered (suc b) q) t no_cases))
 
+-- A function. A parameter that is a tuple becomes a binder that was made, and the body a match on it.
 abbrev pub IsFunction : Bool → Pattern → Rule → Frame → Sources → Pattern → Tree → Sources → Type 0
 IsFunction false q a k s p t r = Under a q s k (with_names s q) t r × (p ≡ numbered (length s) q)
 IsFunction true q a k s p t r =
     (u : Tree) × Under a q (s ++ None ∷ []) k (with_names (s ++ None ∷ []) q) u r × (p ≡ pattern (place_of_pattern q) (bind (length s)))
     × (t ≡ match_on_it (length s) q u)
 
+-- by whether the parameter is a tuple
 abbrev pub Functions : Pattern → Rule → Frame → Sources → Pattern → Tree → Sources → Type 0
 Functions q a = IsFunction (is_tuple q) q a
 
@@ -141,6 +150,7 @@ Matches true p a (b ∷ bs) k s v r =
 
 -- ---- items
 
+-- an item, and the function of a recursive definition
 abbrev pub item_at : Place → ItemForm → ItemTree
 item_at p f = record { place = p; form = f }
 
@@ -148,6 +158,7 @@ abbrev pub function_at : Place → Pattern → Tree → Recursive
 function_at p q t = record { id = 0; place = p; parameter = q; body = t }
 
 module _ (names : List (List ℕ)) where
+  -- a node without parts, by what is visible
   abbrev pub IsLeaf : Place → Leaf → Frame → Value → Type 0
   IsLeaf p (shape.use_of x) k v = IsUse p (arity_in k.variables x) (primitive_named (text_of names x)) v
   IsLeaf p (shape.qualified m x) k v = IsPrimitive p (primitive_in (text_of names m) (text_of names x)) v
@@ -157,6 +168,7 @@ module _ (names : List (List ℕ)) where
   IsLeaf p shape.assert_false k v = IsNode p form.assert_false v
   IsLeaf p shape.map_empty k v = IsNode p form.map_empty v
 
+  -- the rule of each shape
   abbrev pub ruling : Algebra Rule
   ruling = record {
     leaf = λ t h k s v r. IsLeaf (place_of t) h k v × (s ≡ r);
