@@ -1,10 +1,15 @@
 // A program with its names bound, as text.
+ghost use Rattle.std.specs.Prelude.{◌<◌, length};
+ghost use Rattle.lq_scoped.specs.Whole.{scoped_view};
+
 use crate::heads::{word_of_one, word_of_row, word_of_three, word_of_two};
 use lq_lex::lex;
-use lq_name::{Binder, Name, NameTable, TextKind};
+use lq_name::{Binder, NameTable, TextKind};
 use lq_parse::parse_program;
-use lq_resolve::{Bound, bind_program};
-use lq_tree::{Expr, Pat, PatNode, Pats};
+use lq_resolved::{ResolveError, resolve};
+use lq_scope::Complaint;
+use lq_scoped::Scoped;
+use lq_tree::{Expr, Pat, PatNode, Pats, Program};
 use lq_walk::{Leaf, Shape, Visit, Walk, shape_of};
 use std::alloc::{AllocError, Global};
 
@@ -88,40 +93,66 @@ fn put_visit(alloc: Global, out: &mut String, visit: Visit<'_, Binder>) -> Resul
 }
 
 // The source names of the binders; a binder that was made has `-`.
-fn put_sources(
-    out: &mut String,
-    names: &NameTable,
-    sources: &[Option<Name>],
-) -> Result<(), AllocError> {
+fn put_sources(out: &mut String, names: &NameTable, scoped: &Scoped) -> Result<(), AllocError> {
     out.push_str(" |")?;
-    for source in sources {
-        out.push_str(" ")?;
-        match source {
-            Some(name) => {
-                if name.0 < names.len() {
-                    out.push_str(names.text(*name))?;
-                }
-            }
-            None => out.push_str("-")?,
+    for at in 0..scoped.binders() {
+        if let Ok(number) = u32::try_from(at) {
+            put_source(out, names, scoped, Binder(number))?;
         }
     }
     Ok(())
 }
 
-fn printed(alloc: Global, names: &NameTable, bound: &Bound) -> Result<String, AllocError> {
+fn put_source(
+    out: &mut String,
+    names: &NameTable,
+    scoped: &Scoped,
+    binder: Binder,
+) -> Result<(), AllocError>
+    requires { binder.0 < length (scoped_view scoped.now).sources }
+{
+    out.push_str(" ")?;
+    match scoped.source_of(binder) {
+        Some(name) => {
+            if name.0 < names.len() {
+                out.push_str(names.text(name))?;
+            }
+            Ok(())
+        }
+        None => out.push_str("-"),
+    }
+}
+
+fn printed(alloc: Global, names: &NameTable, scoped: &Scoped) -> Result<String, AllocError> {
     let mut out = String::new(alloc);
-    let mut walk = Walk::of_items(alloc, &bound.items)?;
+    let mut walk = Walk::of_items(alloc, scoped.items())?;
     for _ in 0..u64::MAX {
         let Some(visit) = walk.next()? else {
             break;
         };
         put_visit(alloc, &mut out, visit)?;
     }
-    put_sources(&mut out, names, &bound.sources)?;
+    put_sources(&mut out, names, scoped)?;
     Ok(out)
 }
 
-/// The program with its names bound, or a word where the text is none.
+// What is wrong with a name.
+fn refused(alloc: Global, complaint: Complaint) -> Result<String, AllocError> {
+    let code = complaint.cause.code();
+    let line = complaint.place.line;
+    let column = complaint.place.column;
+    format!(in alloc; " refused {code} at {line}:{column}")
+}
+
+fn resolved(alloc: Global, program: &Program, names: &NameTable) -> Result<String, AllocError> {
+    match resolve(alloc, program, names) {
+        Ok(scoped) => printed(alloc, names, &scoped),
+        Err(ResolveError::Complaint(complaint)) => refused(alloc, complaint),
+        Err(ResolveError::Memory) => Err(AllocError),
+    }
+}
+
+/// The program with its names bound, what is wrong with them, or a word where the text is none.
 pub(crate) fn bound_of(alloc: Global, text: &[u8]) -> Result<String, AllocError> {
     if text.len() > 1000 {
         return String::from_str(alloc, " too long");
@@ -131,10 +162,7 @@ pub(crate) fn bound_of(alloc: Global, text: &[u8]) -> Result<String, AllocError>
     };
     let mut names = NameTable::new(alloc)?;
     match parse_program(alloc, &tokens, text, &mut names) {
-        Ok(program) => {
-            let bound = bind_program(alloc, &program, &names)?;
-            printed(alloc, &names, &bound)
-        }
+        Ok(program) => resolved(alloc, &program, &names),
         Err(_) => String::from_str(alloc, " no program"),
     }
 }
