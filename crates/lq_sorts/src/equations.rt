@@ -217,9 +217,11 @@ fn note_term(
     number: usize,
     equation: &Equation,
 ) -> Result<(), AllocError>
-    ensures { OnOk result ((ds : List DataTree) → seen made_view known.now.sorts.now.constructors ≡ constructor ds
+    ensures { OnOk result ((ds : List DataTree)
+        → seen made_view known.now.sorts.now.constructors ≡ constructor ds
         → found_view least.new.found ≡ least_with (found_view least.old.found)
-        (of_predicate (equation_setting known.now.names.now ds (seen measured_view known.now.measures.now) number
+        (of_predicate (equation_setting known.now.names.now ds
+        (seen measured_view known.now.measures.now) number
         (equation_view equation.now).pattern) (Some int) (equation_view equation.now).term)) }
 {
     let setting = Setting {
@@ -241,9 +243,11 @@ fn note_equations(
     datatype: Name,
     equations: &[Equation],
 ) -> Result<(), AllocError>
-    ensures { OnOk result ((ds : List DataTree) → seen made_view known.now.sorts.now.constructors ≡ constructor ds
+    ensures { OnOk result ((ds : List DataTree)
+        → seen made_view known.now.sorts.now.constructors ≡ constructor ds
         → found_view least.new.found ≡ least_with (found_view least.old.found)
-        (of_equations known.now.names.now ds (seen measured_view known.now.measures.now) number datatype.0 no_names
+        (of_equations known.now.names.now ds (seen measured_view known.now.measures.now) number
+        datatype.0 no_names
         (map equation_view equations.now))) }
 {
     let mut before = Table::new(alloc);
@@ -299,7 +303,8 @@ fn note_measure(
     ensures { OnOk result ((ds : List DataTree) → held known.now.sorts.now.sizes ≡ size ds
         → seen made_view known.now.sorts.now.constructors ≡ constructor ds
         → found_view least.new.found ≡ least_with (found_view least.old.found)
-        (of_measure known.now.names.now ds (seen measured_view known.now.measures.now) number (measure_view measure.now))) }
+        (of_measure known.now.names.now ds (seen measured_view known.now.measures.now) number
+        (measure_view measure.now))) }
 {
     note_definition(known.measures, least, number, measure);
     let wanted = known.sorts.sizes.get(measure.datatype);

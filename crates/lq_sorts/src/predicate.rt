@@ -97,7 +97,8 @@ fn note_placeholder(
     name: Name,
 )
     ensures { found_view least.new.found ≡ least_with (found_view least.old.found) (of_placeholder own
-        (place_of (pred_view spot.now.tree.now)) (asked_view spot.now.asked) name.0 (seen shape_view used.now name.0)) }
+        (place_of (pred_view spot.now.tree.now)) (asked_view spot.now.asked) name.0
+        (seen shape_view used.now name.0)) }
 {
     match own {
         Some(_) => least.note(spot.tree.place, Cause::Unknown(name)),
@@ -200,7 +201,8 @@ fn note_spot(
     ensures used { OnOk result ((x : ℕ) → seen shape_view used.new x ≡ or_else (seen shape_view used.old x)
         (first_in (used_in (asked_view spot.now.asked) (form_of (pred_view spot.now.tree.now))) x)) }
     ensures found { OnOk result (found_view least.new.found ≡ least_with (found_view least.old.found)
-        (of_form (setting_view setting.now) (seen shape_view used.new) (place_of (pred_view spot.now.tree.now))
+        (of_form (setting_view setting.now) (seen shape_view used.new)
+        (place_of (pred_view spot.now.tree.now))
         (asked_view spot.now.asked) (form_of (pred_view spot.now.tree.now)))) }
 {
     let place = spot.tree.place;

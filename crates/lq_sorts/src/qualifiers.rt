@@ -52,7 +52,8 @@ fn note_qualifier(
 ) -> Result<(), AllocError>
     ensures { OnOk result ((ds : List DataTree) → held known.now.sorts.now.sizes ≡ size ds
         → found_view least.new.found ≡ least_with (found_view least.old.found)
-        (of_qualifier known.now.names.now ds (seen measured_view known.now.measures.now) (qualifier_view qualifier.now))) }
+        (of_qualifier known.now.names.now ds (seen measured_view known.now.measures.now)
+        (qualifier_view qualifier.now))) }
 {
     let shape = known.sorts.shape_named(qualifier.shape);
     note_shape(least, qualifier.shape_place, qualifier.shape, shape);
@@ -75,7 +76,8 @@ fn note_qualifiers(
 ) -> Result<(), AllocError>
     ensures { OnOk result ((ds : List DataTree) → held known.now.sorts.now.sizes ≡ size ds
         → found_view least.new.found ≡ least_with (found_view least.old.found)
-        (of_all known.now.names.now ds (seen measured_view known.now.measures.now) (qualifiers_view qualifiers.now))) }
+        (of_all known.now.names.now ds (seen measured_view known.now.measures.now)
+        (qualifiers_view qualifiers.now))) }
 {
     for qualifier in qualifiers {
         note_qualifier(alloc, known, least, qualifier)?;
