@@ -1,6 +1,7 @@
 -- The open ones of the classes that are reached.
-use Rattle.std.proofs.Common.{◌≡◌, ℕ, zero, suc, ◌+◌, ◌-◌, ◌<◌, inl, inr, true, false, List, [], ◌∷◌, ◌++◌, Option, Some, None, IsSome, All, length, get_or, take, refl, sym, ap, subst, ◌∙◌, arith, below_more, length-append, length-take-le, get_or-take}
-use Rattle.std.proofs.lemmas.List.{get_or_append_left}
+use Rattle.std.proofs.Common.{◌≡◌, ℕ, zero, suc, ◌+◌, ◌-◌, ◌<◌, inl, inr, true, false, List, [], ◌∷◌, ◌++◌, Option, Some, None, IsSome, All, length, get_or, nat_lt, take, refl, sym, ap, subst, ◌∙◌, arith, below_more, length-append, length-take-le, get_or-take}
+use Rattle.std.proofs.lemmas.Bool.{cases_lt, lt-ltb, le-ltb}
+use Rattle.std.proofs.lemmas.List.{get_or_append_left, get_or_default}
 use Rattle.std.proofs.lemmas.List.Elements.{All-append}
 use Rattle.std.proofs.Math.Seq.{get_or-append_seam}
 use Rattle.lq_unify.specs.Simple.{Simple}
@@ -97,3 +98,13 @@ opens forms n parents shapes copies classes nodes all q o = record {
   every = λ k d h levels. all_in forms n parents shapes copies classes nodes all q o levels (get_or nodes k d) (q.begins k d h);
   only = λ seen inherited a. o.only seen (q.only seen inherited a);
 }
+
+below : (a b : ℕ) → nat_lt a b ≡ true → a < b
+below a b e = elim (cases_lt a b) [
+  | inl h ↦ h
+  | inr h ↦ absurd (let f = le-ltb a b h in let g : false ≡ true = sym f ∙ e in cc)
+]
+
+-- the open ones are nodes
+pub opens_in : (forms : ℕ → Option Form) (n : ℕ) (shapes classes all : List ℕ) → AreOpenOf forms shapes classes all → ((k : ℕ) → k < length classes → get_or classes k 0 < n) → All (λ r. r < n) all
+opens_in forms n shapes classes all o h k d l = below (get_or all k d) n (o.only (λ r. nat_lt r n) (λ j e m. lt-ltb (get_or classes j e) n (subst (λ (r : ℕ). r < n) (get_or_default classes j 0 e m) (h j m))) k d l)

@@ -59,6 +59,7 @@ impl Solver {
         requires knows { (equations : List Equation) × Knows arena.now equations self.old }
         ensures open { IfOk result (λ all. AreOpens (form_at arena.now) self.old.parents.items
             self.old.shapes.items nodes.now all.items) }
+        ensures inside { IfOk result (λ all. All (λ r. r < length arena.now.nodes.items) all.items) }
         ensures knows { OnOk result ((equations : List Equation) → Knows arena.now equations self.old
             → Knows arena.now equations self.new) }
     {

@@ -6,7 +6,7 @@ use Rattle.lq_unify.specs.Classes.{up, IsSame, IsKnown}
 use Rattle.lq_unify.specs.Reaching.{IsReached}
 use Rattle.lq_unify.specs.Opens.{AreOpenOf, AreOpens}
 use Rattle.lq_unify.proofs.Beginning.{same_known}
-use Rattle.lq_unify.proofs.Opening.{opens}
+use Rattle.lq_unify.proofs.Opening.{opens, opens_in}
 use Rattle.lq_unify.proofs.solver.Solver.open_classes.Goals as goal
 
 pub returns-clause-open : goal.returns-clause-open
@@ -35,3 +35,9 @@ returns-clause-knows c = λ equations k.
       copies_length = ap length r ∙ c.restore.ensures.length ∙ long;
       copies_low = λ i h. subst (λ l. up l i < n) (sym r) (low i h);
     }
+
+pub returns-clause-inside : goal.returns-clause-inside
+returns-clause-inside c =
+    let forms = form_at c.args.arena.now in
+    let found = subst (λ l. AreOpenOf forms l c.in_ok-classes.classes.items c.in_ok-all.all.items) c.deref-2.ensures.value (subst (λ l. AreOpenOf forms c.deref-2.result.now l c.in_ok-all.all.items) c.deref-3.ensures.value c.in_ok-all.ensures) in
+    opens_in forms (length c.args.arena.now.nodes.items) c.args.self.now.shapes.items c.in_ok-classes.classes.items c.in_ok-all.all.items found c.in_ok-classes.ensures.reached.listed.inside
