@@ -1,0 +1,5 @@
+-- Subtyping: definitions.
+pub mod Shaped
+pub mod Implication
+pub mod Subtype
+pub mod Splitting
