@@ -1,4 +1,4 @@
--- The union of two choices that make all flows valid makes them valid.
+-- The union of two selections that make all flows valid makes them valid.
 use Rattle.std.proofs.Common.{◌≡◌, ◌⊎◌, inl, inr, ℕ, ℤ, zero, suc, ◌+◌, ◌<◌, ◌≤◌, length, slice_get, arith, Bool, true, false, cond, List, [], ◌∷◌, ◌++◌, map, Option, Some, None, if◌then◌else◌, ◌||◌, refl, sym, ap, subst}
 use Rattle.lq_pred.specs.Sum.{Sum, whole, var, neg, add, sub, mul, div, rem, len, measure, same}
 use Rattle.lq_pred.specs.SameLaws.{same-is}
@@ -13,7 +13,7 @@ use Rattle.lq_parts.specs.Assignment.{Assignment, parts_under, joined, all_joine
 use Rattle.lq_parts.specs.Part.{Part, known, unknown, Parts}
 use Rattle.lq_parts.specs.Substitution.{Subst, formula_by}
 use Rattle.lq_parts.specs.Constraint.{Constraint, IsMet, AllMet, IfFlow, FlowsMet, IsFirstFailing}
-use Rattle.lq_parts.specs.Flowing.{Choice, picked, assigned, united, IsWithin, IsFlowing, IsStrongest, Decides, HoldsEach}
+use Rattle.lq_parts.specs.Flowing.{Selection, picked, assigned, united, IsWithin, IsFlowing, IsStrongest, Decides, HoldsEach}
 
 -- each term of the one is a term of the other
 abbrev Under : List Sum → List Sum → Type 0
@@ -246,7 +246,7 @@ picked_either p f g σ k (q ∷ ps) m = by (f k) (g k) (picked_either p f g σ (
         right (inr a) = inr (inr a)
     by false false h m = h m
 
-module _ (I : ℕ → List Formula) (c d : Choice) where
+module _ (I : ℕ → List Formula) (c d : Selection) where
   parts_left : (hs : Parts) → Sublist (parts_under (assigned I c) hs) (parts_under (assigned I (united c d)) hs)
   parts_left [] = nil
   parts_left (known p ∷ hs) = keep (parts_left hs)
@@ -271,7 +271,7 @@ module _ (I : ℕ → List Formula) (c d : Choice) where
   part_union (known p) hs v w = tt
   part_union (unknown u σ) hs v w = flow_union hs u σ v w
 
-pub flows_union : (I : ℕ → List Formula) (cs : List Constraint) (c d : Choice) → FlowsMet (assigned I c) cs → FlowsMet (assigned I d) cs → FlowsMet (assigned I (united c d)) cs
+pub flows_union : (I : ℕ → List Formula) (cs : List Constraint) (c d : Selection) → FlowsMet (assigned I c) cs → FlowsMet (assigned I d) cs → FlowsMet (assigned I (united c d)) cs
 flows_union I [] c d v w = tt
 flows_union I (k ∷ cs) c d v w =
     (part_union I c d k.goal (k.hypotheses) v.0 w.0, flows_union I cs c d v.1 w.1)
@@ -287,7 +287,7 @@ the a (Some x) = x
 some_is : {X : Type 0} (a b : X) → Some a ≡ Some b → a ≡ b
 some_is a b h = ap (the a) h
 
--- the choice of nothing makes all flows valid
+-- the selection of nothing makes all flows valid
 flows_none : (I : ℕ → List Formula) (cs : List Constraint) → FlowsMet (assigned I (λ u k. false)) cs
 flows_none I [] = tt
 flows_none I (c ∷ cs) = (by c.goal (c.hypotheses), flows_none I cs)
@@ -307,15 +307,15 @@ or_second : (a b : Bool) → b ≡ true → (a || b) ≡ true
 or_second true b h = refl
 or_second false b h = h
 
-holds_more : (I : ℕ → List Formula) (cs : List Constraint) (c d : Choice) (ds : List Choice) → HoldsEach I cs c ds → HoldsEach I cs (united d c) ds
+holds_more : (I : ℕ → List Formula) (cs : List Constraint) (c d : Selection) (ds : List Selection) → HoldsEach I cs c ds → HoldsEach I cs (united d c) ds
 holds_more I cs c d [] h = tt
 holds_more I cs c d (e ∷ ds) h = (λ m u k r x. or_second (d u k) (c u k) (h.0 m u k r x), holds_more I cs c d ds h.1)
 
-pub largest : (I : ℕ → List Formula) (cs : List Constraint) → Decides I cs → (ds : List Choice) → (c : Choice) × FlowsMet (assigned I c) cs × HoldsEach I cs c ds
+pub largest : (I : ℕ → List Formula) (cs : List Constraint) → Decides I cs → (ds : List Selection) → (c : Selection) × FlowsMet (assigned I c) cs × HoldsEach I cs c ds
 largest I cs decide [] = (λ u k. false, flows_none I cs, tt)
 largest I cs decide (d ∷ ds) = by (largest I cs decide ds) (decide d)
   where
-    by : ((c : Choice) × FlowsMet (assigned I c) cs × HoldsEach I cs c ds) → FlowsMet (assigned I d) cs ⊎ (FlowsMet (assigned I d) cs → ⊥) → (c : Choice) × FlowsMet (assigned I c) cs × HoldsEach I cs c (d ∷ ds)
+    by : ((c : Selection) × FlowsMet (assigned I c) cs × HoldsEach I cs c ds) → FlowsMet (assigned I d) cs ⊎ (FlowsMet (assigned I d) cs → ⊥) → (c : Selection) × FlowsMet (assigned I c) cs × HoldsEach I cs c (d ∷ ds)
     by r (inl m) =
         (united d r.0, flows_union I cs d r.0 m r.1, (λ m' u k w x. or_first (d u k) (r.0 u k) x, holds_more I cs r.0 d ds r.2))
     by r (inr n) = (r.0, r.1, (λ m. absurd (n m), r.2))
@@ -336,7 +336,7 @@ picked_within f g σ k (p ∷ ps) w =
     by false true h s = drop s
     by false false h s = s
 
-module _ (I : ℕ → List Formula) (d c : Choice) (within : IsWithin I d c) where
+module _ (I : ℕ → List Formula) (d c : Selection) (within : IsWithin I d c) where
   parts_within : (hs : Parts) → Sublist (parts_under (assigned I d) hs) (parts_under (assigned I c) hs)
   parts_within [] = nil
   parts_within (known p ∷ hs) = keep (parts_within hs)
@@ -369,13 +369,13 @@ flows_of : (A : Assignment) (cs : List Constraint) → AllMet A cs → FlowsMet 
 flows_of A [] m = tt
 flows_of A (c ∷ cs) m = (flow_of A c.goal (IsMet A c) m.0, flows_of A cs m.1)
 
-all_of_flows : (I : ℕ → List Formula) (cs : List Constraint) (c d : Choice) → IsFlowing I cs c → AllMet (assigned I d) cs → AllMet (assigned I c) cs
+all_of_flows : (I : ℕ → List Formula) (cs : List Constraint) (c d : Selection) → IsFlowing I cs c → AllMet (assigned I d) cs → AllMet (assigned I c) cs
 all_of_flows I cs c d f m = all_more I d c (f.greatest d (flows_of (assigned I d) cs m)) cs m f.meets
 
-pub flowing_is_strongest : (I : ℕ → List Formula) (cs : List Constraint) (c : Choice) → IsFlowing I cs c → AllMet (assigned I c) cs → IsStrongest I cs c
+pub flowing_is_strongest : (I : ℕ → List Formula) (cs : List Constraint) (c : Selection) → IsFlowing I cs c → AllMet (assigned I c) cs → IsStrongest I cs c
 flowing_is_strongest I cs c f m = record { meets = m; greatest = λ d n. f.greatest d (flows_of (assigned I d) cs n) }
 
-pub flowing_solves : (I : ℕ → List Formula) (cs : List Constraint) (c d : Choice) → IsFlowing I cs c → AllMet (assigned I d) cs → IsStrongest I cs c
+pub flowing_solves : (I : ℕ → List Formula) (cs : List Constraint) (c d : Selection) → IsFlowing I cs c → AllMet (assigned I d) cs → IsStrongest I cs c
 flowing_solves I cs c d f m = flowing_is_strongest I cs c f (all_of_flows I cs c d f m)
 
 met_at : (A : Assignment) (cs : List Constraint) (at : ℕ) (k : Constraint) → AllMet A cs → slice_get cs at ≡ Some k → IsMet A k
@@ -383,5 +383,5 @@ met_at A [] at k m e = absurd (cc)
 met_at A (c ∷ cs) zero k m e = subst (IsMet A) (some_is c k e) m.0
 met_at A (c ∷ cs) (suc at) k m e = met_at A cs at k m.1 e
 
-pub failing_refutes : (I : ℕ → List Formula) (cs : List Constraint) (c d : Choice) (at : ℕ) → IsFlowing I cs c → IsFirstFailing (assigned I c) cs at → AllMet (assigned I d) cs → ⊥
+pub failing_refutes : (I : ℕ → List Formula) (cs : List Constraint) (c d : Selection) (at : ℕ) → IsFlowing I cs c → IsFirstFailing (assigned I c) cs at → AllMet (assigned I d) cs → ⊥
 failing_refutes I cs c d at f x m = x.fails (met_at (assigned I c) cs at x.constraint (all_of_flows I cs c d f m) x.is)

@@ -15,12 +15,12 @@ pub fn truth_under_substitution()
     ensures { TruthBy }
 {}
 
-/// What two choices of instances make valid among the flows their union does, so of any choices one holds each that does. Where any
-/// choice makes all implications valid, the greatest one of the flows is the strongest solution, and a demand that isn't valid under
+/// What two selections of instances make valid among the flows their union does, so of any selections one holds each that does. Where
+/// any selection makes all implications valid, the greatest one of the flows is the strongest solution, and a demand that isn't valid under
 /// it leaves none.
 ///
 /// These are the fixed point and its use of Rondon, Kawaguchi and Jhala (PLDI 2008).
-pub fn unions_of_choices()
+pub fn unions_of_selections()
     ensures union { UnionMeets }
     ensures largest { LargestExists }
     ensures solves { FlowingSolves }

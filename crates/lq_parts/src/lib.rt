@@ -3,4 +3,4 @@
 
 mod laws;
 
-pub use laws::{substitutions, truth_under_substitution, unions_of_choices};
+pub use laws::{substitutions, truth_under_substitution, unions_of_selections};

@@ -1,5 +1,5 @@
 use Rattle.lq_parts.proofs.Flows.{failing_refutes, flowing_is_strongest, flowing_solves, flows_union, largest}
-use Rattle.lq_parts.proofs.laws.unions_of_choices.Goals as goal
+use Rattle.lq_parts.proofs.laws.unions_of_selections.Goals as goal
 
 pub returns-clause-union : goal.returns-clause-union
 returns-clause-union c = flows_union
