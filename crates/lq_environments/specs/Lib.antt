@@ -1,0 +1,3 @@
+-- Environments: definitions.
+pub mod Entries
+pub mod Whole
