@@ -3,3 +3,4 @@ pub mod Ends
 pub mod Fronts
 pub mod Lexing
 pub mod Unique
+pub mod Few

@@ -1,5 +1,5 @@
 -- The tokens of a text, and the first fault of a text that has none.
-use Rattle.std.specs.Prelude.{◌≡◌, ℕ, ◌+◌, ◌-◌, List, [], ◌∷◌, length, drop}
+use Rattle.std.specs.Prelude.{◌≡◌, ℕ, ◌+◌, ◌-◌, ◌≤◌, List, [], ◌∷◌, length, drop}
 use Rattle.lq_name.specs.declared.place.Place.{Place}
 use Rattle.lq_name.specs.declared.place.TextKind.{TextKind}
 use Rattle.lq_lex.specs.declared.token.TokenKind.{TokenKind}
@@ -56,3 +56,6 @@ pub record HasOneReading (kind : TextKind) (text : List ℕ) : Type 0 where
   pub tokens : (ts us : List Token) → IsTokens kind text ts → IsTokens kind text us → ts ≡ us
   pub faults : (e e' : LexError) → HasFault kind text e → HasFault kind text e' → e ≡ e'
   pub either : (ts : List Token) (e : LexError) → IsTokens kind text ts → HasFault kind text e → ⊥
+
+abbrev pub FewTokens : Type 0
+FewTokens = (kind : TextKind) (text : List ℕ) (tokens : List Token) → IsTokens kind text tokens → length tokens ≤ length text

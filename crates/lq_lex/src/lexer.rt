@@ -1,7 +1,7 @@
 // The lexer.
 ghost use Rattle.std.specs.Prelude.{◌≡◌, ◌≤◌, ℕ, List, length, IfOk, IfErr, ◌⊎◌};
 ghost use Rattle.lq_lex.specs.Places.{place_at};
-ghost use Rattle.lq_lex.specs.Reading.{IsTokens, HasFault, HasOneReading, tokens_of, end_place_of};
+ghost use Rattle.lq_lex.specs.Reading.{IsTokens, HasFault, FewTokens, HasOneReading, tokens_of, end_place_of};
 ghost use Rattle.lq_name.specs.declared.place.TextKind.{TextKind};
 ghost use Rattle.lq_lex.specs.declared.limits.TheConstants.{TEXT_LIMIT};
 
@@ -62,4 +62,9 @@ pub fn lex(alloc: Global, text: &[u8], kind: TextKind) -> Result<Tokens, LexErro
 /// Tokens and faults are determined by the text.
 pub fn one_reading()
     ensures { (kind : TextKind) (text : List ℕ) → HasOneReading kind text }
+{}
+
+/// A text has at most as many tokens as bytes.
+pub fn few_tokens()
+    ensures { FewTokens }
 {}

@@ -14,6 +14,6 @@ mod token;
 
 pub use error::LexError;
 pub use keyword::Keyword;
-pub use lexer::{lex, one_reading};
+pub use lexer::{few_tokens, lex, one_reading};
 pub use limits::TEXT_LIMIT;
 pub use token::{Token, TokenKind, Tokens};
