@@ -1,6 +1,6 @@
 -- Two judgements that are due agree.
 use Rattle.std.specs.Prelude.{slice_get, codes, false}
-use Rattle.std.proofs.Common.{◌≡◌, ◌⊎◌, inl, inr, ⊎_elim, ℕ, zero, suc, ◌<◌, ◌^◌, ◌++◌, List, [], ◌∷◌, take, All, Option, Some, None, Result, Ok, Err, refl, sym, ap, subst, ◌∙◌, map, arith}
+use Rattle.std.proofs.Common.{◌≡◌, ◌⊎◌, inl, inr, ⊎_elim, ℕ, zero, suc, ◌<◌, ◌≤◌, ◌^◌, ◌++◌, List, [], ◌∷◌, take, length, All, Option, Some, None, Result, Ok, Err, refl, sym, ap, subst, ◌∙◌, map, arith}
 use Rattle.std.proofs.lemmas.Bool.{cases_lt}
 use Rattle.std.proofs.lemmas.List.{append-nil}
 use Rattle.std.proofs.lemmas.List.Elements.{All-head, All-tail}
@@ -21,6 +21,9 @@ use Rattle.lq_app.specs.declared.verdict.Judgement.{Judgement}
 use Rattle.lq_app.specs.declared.verdict.Refusal.{Refusal}
 use Rattle.lq_app.specs.declared.verdict.Judgement.TheVariants.{Accepted, Rejected, Undecided}
 use Rattle.lq_app.specs.declared.verdict.Refusal.TheVariants.{Code, Memory}
+use Rattle.lq_lex.specs.declared.limits.TheConstants.{TEXT_LIMIT}
+use Rattle.lq_parsed.specs.Laws.{ParsedProgramsAreScoped}
+use Rattle.lq_scoped.specs.Scoping.{IsScoped}
 use Rattle.lq_sound.specs.Safety.{ValidIsSafe}
 use Rattle.lq_straight.specs.Forms as form
 use Rattle.lq_straight.specs.Forms.{Found, then_found, items_in}
@@ -242,6 +245,14 @@ straight_is text b =
     let items = no_datatypes (first_datatype s.parsed.trees) s.scoping.items b.program.items read.2.1 in
     subst (λ (q : Scoped). items_in q.scoping.items ≡ form.is b.program.items) (sym read.2.0) items
 
+-- a program whose names are bound is scoped
+scoped_is : ParsedProgramsAreScoped → (text : List ℕ) → length text ≤ TEXT_LIMIT → (b : Bound text) → IsScoped (scoping_of b.program)
+scoped_is scoped text short b =
+    let s = b.is.0 in let named = b.is.1 in let p = named.0 in let tokens = named.1 in
+    let one = scoped text p.names tokens.0 p.trees short tokens.1 tokens.2.1 p.names named.2.1.0 in
+    subst (λ (q : Scoped). IsScoped q.scoping) (sym b.is.2.0) (subst IsScoped (sym named.2.1.1) one)
+
 -- what is accepted is safe
-pub safe_text : ValidIsSafe → (text : List ℕ) (a : IsAccepted text) → IsSafeText a.of
-safe_text safe text a = safe (scoping_of a.of.program) a.of.program.items a.scoped (straight_is text a.of) a.valid
+pub safe_text : ValidIsSafe → ParsedProgramsAreScoped → (text : List ℕ) → length text ≤ TEXT_LIMIT → (a : IsAccepted text) → IsSafeText a.of
+safe_text safe scoped text short a =
+    safe (scoping_of a.of.program) a.of.program.items (scoped_is scoped text short a.of) (straight_is text a.of) a.valid

@@ -13,7 +13,7 @@ use Rattle.lq_report.specs.Refusals.{code_of, place_text, refusal_line}
 use Rattle.lq_report.specs.declared.refused.Refused.{Refused}
 use Rattle.lq_straight.specs.declared.item.Assertion.{Assertion}
 use Rattle.lq_straight.specs.Demands.{implications_of, assertions_of}
-use Rattle.lq_scoped.specs.Scoping.{Scoping, IsScoped}
+use Rattle.lq_scoped.specs.Scoping.{Scoping}
 use Rattle.lq_sound.specs.Safety.{IsSafe}
 use Rattle.lq_app.specs.declared.verdict.Judgement.{Judgement}
 use Rattle.lq_app.specs.declared.verdict.Judgement.TheVariants.{Accepted, Rejected, Undecided}
@@ -41,10 +41,9 @@ sources_of p = (scoping_of p).sources
 abbrev pub demands : {text : List ℕ} → Bound text → List ClosedImplication
 demands b = implications_of b.program.items
 
--- The text is a program whose names are all bound, nodes and binders numbered in order, and its demands are valid.
+-- The text is a program whose demands are valid.
 pub record IsAccepted (text : List ℕ) : Type 0 where
   pub of : Bound text
-  pub scoped : IsScoped (scoping_of of.program)
   pub gathered : All CanBeGathered (demands of)
   pub valid : All IsValid (demands of)
 

@@ -14,6 +14,7 @@ use crate::texts::text_of;
 use lq_lex::{LexError, lex};
 use lq_name::{Name, NameTable, NameText, TextKind};
 use lq_parse::{ParseError, parse_program};
+use lq_parsed::parsed_programs_have_places;
 use lq_report::Refused;
 use lq_resolved::{ResolveError, resolve};
 use lq_scope::{Cause, Complaint};
@@ -141,6 +142,7 @@ fn named_of(alloc: Global, text: &[u8]) -> Result<Named, NotJudged>
         n.parsed.names (scoped_view n.scoped)))) }
     ensures refused { IfErr result (λ e. IsBy (NamesTo text.now) e) }
 {
+    parsed_programs_have_places();
     let parsed = program_of(alloc, text)?;
     match resolve(alloc, &parsed.program, &parsed.names) {
         Ok(scoped) => Ok(Named { parsed, scoped }),

@@ -29,6 +29,7 @@ use crate::texts::Naming;
 use lq_demand::{Asked, ask};
 use lq_name::{NameTable, Place, TextBuf};
 use lq_num::NumberPast;
+use lq_parsed::parsed_programs_are_scoped;
 use lq_point::Point;
 use lq_pred::{Pred, Stop};
 use lq_report::{Refused, refusal_text};
@@ -104,6 +105,7 @@ pub fn judge(
 {
     one_judgement();
     valid_programs_are_safe();
+    parsed_programs_are_scoped();
     reported(alloc, program)
 }
 

@@ -3,6 +3,7 @@ use lq_app::FILE_LIMIT;
 use lq_lex::lex;
 use lq_name::{Binder, NameTable, TextKind};
 use lq_parse::parse_program;
+use lq_parsed::parsed_programs_have_places;
 use lq_resolved::{ResolveError, resolve};
 use lq_scoped::Scoped;
 use lq_straight::{FormError, Item, ItemNode, Operand, Order, Printed, Right, recognise};
@@ -98,6 +99,7 @@ pub(crate) fn items_text(alloc: Global, text: &[u8]) -> Result<String, AllocErro
     if text.len() > FILE_LIMIT {
         return String::from_str(alloc, "too long");
     }
+    parsed_programs_have_places();
     let Ok(tokens) = lex(alloc, text, TextKind::Program) else {
         return String::from_str(alloc, "no tokens");
     };

@@ -1,11 +1,14 @@
 // A program with its names bound, as text.
-ghost use Rattle.std.specs.Prelude.{◌<◌, length};
+ghost use Rattle.std.specs.Prelude.{◌≡◌, ◌<◌, true, length};
+ghost use Rattle.lq_resolved.specs.Parameters.{have_places};
+ghost use Rattle.lq_tree.specs.Texts.{program_view};
 ghost use Rattle.lq_scoped.specs.Whole.{scoped_view};
 
 use crate::heads::{word_of_one, word_of_row, word_of_three, word_of_two};
 use lq_lex::lex;
 use lq_name::{Binder, NameTable, TextKind};
 use lq_parse::parse_program;
+use lq_parsed::parsed_programs_have_places;
 use lq_resolved::{ResolveError, resolve};
 use lq_scope::Complaint;
 use lq_scoped::Scoped;
@@ -144,7 +147,9 @@ fn refused(alloc: Global, complaint: Complaint) -> Result<String, AllocError> {
     format!(in alloc; " refused {code} at {line}:{column}")
 }
 
-fn resolved(alloc: Global, program: &Program, names: &NameTable) -> Result<String, AllocError> {
+fn resolved(alloc: Global, program: &Program, names: &NameTable) -> Result<String, AllocError>
+    requires { have_places (program_view program.now) ≡ true }
+{
     match resolve(alloc, program, names) {
         Ok(scoped) => printed(alloc, names, &scoped),
         Err(ResolveError::Complaint(complaint)) => refused(alloc, complaint),
@@ -157,6 +162,7 @@ pub(crate) fn bound_of(alloc: Global, text: &[u8]) -> Result<String, AllocError>
     if text.len() > 1000 {
         return String::from_str(alloc, " too long");
     }
+    parsed_programs_have_places();
     let Ok(tokens) = lex(alloc, text, TextKind::Program) else {
         return String::from_str(alloc, " no tokens");
     };

@@ -1,14 +1,14 @@
 // Programs and what they resolve to.
-ghost use Rattle.std.specs.Prelude.{◌≡◌, ◌⊎◌, [], Some, Err, IfOk, IfErr};
+ghost use Rattle.std.specs.Prelude.{◌≡◌, ◌⊎◌, true, [], Some, Err, IfOk, IfErr};
 ghost use Rattle.lq_tree.specs.Texts.{program_view};
 ghost use Rattle.lq_scope.specs.Uses.{of_program};
 ghost use Rattle.lq_scoped.specs.Whole.{scoped_view};
+ghost use Rattle.lq_resolved.specs.Parameters.{have_places};
 ghost use Rattle.lq_resolved.specs.Resolution.{Resolution, IsResolution, resolved, scoping_of};
 ghost use Rattle.lq_resolved.specs.Views.{answer_view, error_view};
 ghost use Rattle.lq_resolved.specs.declared.program.ResolveError.TheVariants.{Memory};
 
 use crate::laws::{bound_programs_are_scoped, one_resolution};
-use crate::places::have_places;
 use lq_datatypes::datatypes_of;
 use lq_name::NameTable;
 use lq_resolve::{Bound, bind_program};
@@ -38,13 +38,11 @@ impl From<AllocError> for ResolveError {
 
 // The scoped program of one without complaints.
 fn scoped_of(alloc: Global, program: &Program, names: &NameTable) -> Result<Scoped, AllocError>
-    requires { of_program names.now (program_view program.now) ≡ [] }
+    requires places { have_places (program_view program.now) ≡ true }
+    requires fine { of_program names.now (program_view program.now) ≡ [] }
     ensures { IfOk result (λ s. scoped_view s ≡ scoping_of names.now (program_view program.now)) }
 {
     bound_programs_are_scoped();
-    if !have_places(alloc, program)? {
-        return Err(AllocError);
-    }
     let datatypes = datatypes_of(alloc, program.items())?;
     let Bound { items, sources } = bind_program(alloc, program, names)?;
     Ok(Scoped::new(items, datatypes, sources))
@@ -55,8 +53,10 @@ fn scoped_of(alloc: Global, program: &Program, names: &NameTable) -> Result<Scop
 /// Each use gets the binder of the nearest definition of its name, as the OCaml manual has it for the core language; where there is none,
 /// and the name is a primitive's with all its arguments, that primitive is a node. Where several things are wrong, the first in the order
 /// of the text is told, and of several at one place the one with the lowest code. Where a program has 2^32 nodes or more than 2^31
-/// binders, or a pattern where no text can have it, it answers that there is no memory.
+/// binders, it answers that there is no memory.
 pub fn resolve(alloc: Global, program: &Program, names: &NameTable) -> Result<Scoped, ResolveError>
+    // Its patterns stand where a text can have them, as those of every parsed program do.
+    requires { have_places (program_view program.now) ≡ true }
     // Nothing is wrong with the names of a program that is resolved, and its names are bound.
     ensures resolved { IfOk result (λ s. IsResolution names.now (program_view program.now)
         (resolved (scoped_view s))) }

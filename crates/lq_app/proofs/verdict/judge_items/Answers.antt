@@ -15,7 +15,6 @@ returns-in-Valid c = λ text read.
     let same = c.in_ok-lines.ensures.demands in (
       record {
         of = record { program = recognised_with read.0 c.args.table.now (scoped_view c.args.scoped.now) c.args.items.now; is = read.1 };
-        scoped = c.requires.scoped;
         gathered = subst (λ (l : List ClosedImplication). All CanBeGathered l) same (c.in_ok-ask.ensures.gathered is);
         valid = subst (λ (l : List ClosedImplication). All IsValid l) same (c.in_ok-ask.ensures.valid is);
       },

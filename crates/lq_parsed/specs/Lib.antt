@@ -1,0 +1,2 @@
+-- What holds of the trees of every parsed text.
+pub mod Laws
