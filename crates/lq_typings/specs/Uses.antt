@@ -2,7 +2,7 @@
 use Rattle.std.specs.Prelude.{◌≡◌, ℕ, Bool, true, false, ◌&&◌, ◌==◌, ◌+◌, if◌then◌else◌, List, [], ◌∷◌, All, Option, Some, None}
 use Rattle.lq_tree.specs.MlType as ml
 use Rattle.lq_tree.specs.MlType.{MlType, MlTypes}
-use Rattle.lq_tree.specs.Items.{ItemTree, ItemForm, type_of, let_of, let_rec_of}
+use Rattle.lq_tree.specs.Items.{ItemForm, type_of, let_of, let_rec_of}
 use Rattle.lq_tree.specs.Pattern.{Pattern, pattern, any, bind, nothing, tuple_of, build_of}
 use Rattle.lq_tree.specs.Tree.{Tree, tree}
 use Rattle.lq_tree.specs.Types.{Signature, put}

@@ -1,2 +1,8 @@
 //! The rules of a whole program's types, visit by visit.
 #![tactic(auto)]
+
+mod laws;
+
+pub use laws::{
+    front_items_are_rules, fronts_are_rules, ill_typed_places_are_first, visits_are_rules,
+};

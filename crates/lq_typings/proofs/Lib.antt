@@ -1,0 +1,9 @@
+mod Lists
+mod Trees
+mod Numbers
+mod Values
+mod Items
+mod Programs
+mod Leaving
+mod Fronts
+mod Places
