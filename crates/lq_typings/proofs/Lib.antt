@@ -7,3 +7,6 @@ mod Programs
 mod Leaving
 mod Fronts
 mod Places
+mod Alike
+mod Roots
+mod OneAnswer

@@ -25,16 +25,16 @@ use Rattle.lq_typings.proofs.Trees.{Inner, nodes_go}
 
 -- ---- lists
 
-abbrev head_of : {A : Type 0} → A → List A → A
+abbrev pub head_of : {A : Type 0} → A → List A → A
 head_of d [] = d
 head_of d (x ∷ xs) = x
 
-abbrev tail_of : {A : Type 0} → List A → List A
+abbrev pub tail_of : {A : Type 0} → List A → List A
 tail_of [] = []
 tail_of (x ∷ xs) = xs
 
 -- an element of two lists stands in the first or in the second
-data IsCut {A : Type 0} (xs ys front : List A) (v : A) (later : List A) : Type 0 where
+pub data IsCut {A : Type 0} (xs ys front : List A) (v : A) (later : List A) : Type 0 where
   in_first : (ws : List A) → xs ≡ front ++ v ∷ ws → IsCut xs ys front v later
   in_rest : (us : List A) → front ≡ xs ++ us → ys ≡ us ++ v ∷ later → IsCut xs ys front v later
 
@@ -42,7 +42,7 @@ cut_more : {A : Type 0} (x f v : A) (xs ys fs later : List A) → x ≡ f → Is
 cut_more x f v xs ys fs later same (in_first ws e) = in_first ws (ap₂ (λ (a : _) (as_ : List _). a ∷ as_) same e)
 cut_more x f v xs ys fs later same (in_rest us e rest) = in_rest us (ap₂ (λ (a : _) (as_ : List _). a ∷ as_) (sym same) e) rest
 
-cut_of : {A : Type 0} (xs ys front : List A) (v : A) (later : List A) → xs ++ ys ≡ front ++ v ∷ later → IsCut xs ys front v later
+pub cut_of : {A : Type 0} (xs ys front : List A) (v : A) (later : List A) → xs ++ ys ≡ front ++ v ∷ later → IsCut xs ys front v later
 cut_of [] ys front v later e = in_rest front refl e
 cut_of (x ∷ xs) ys [] v later e = in_first xs (ap (λ z. z ∷ xs) (ap (head_of x) e))
 cut_of (x ∷ xs) ys (f ∷ fs) v later e = cut_more x f v xs ys fs later (ap (head_of x) e) (cut_of xs ys fs v later (ap tail_of e))
@@ -55,11 +55,11 @@ abbrev has : {A : Type 0} → Option A → Bool
 has None = false
 has (Some x) = true
 
-abbrev some_of : {A : Type 0} → A → Option A → A
+abbrev pub some_of : {A : Type 0} → A → Option A → A
 some_of d None = d
 some_of d (Some x) = x
 
-not_there : {A : Type 0} {x : A} → None ≡ Some x → ⊥
+pub not_there : {A : Type 0} {x : A} → None ≡ Some x → ⊥
 not_there e = false≢true (ap has e)
 
 all_every : (xs : List ℕ) → AllOf Every xs

@@ -4,4 +4,5 @@ pub mod Fronts
 pub mod Principal
 pub mod Inference
 pub mod Places
+pub mod OneAnswer
 pub mod Laws

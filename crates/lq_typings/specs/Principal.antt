@@ -1,5 +1,5 @@
 -- Principal annotations: those that have every annotation that obeys the rules as an instance.
-use Rattle.std.specs.Prelude.{◌≡◌, ℕ, suc, ◌+◌, ◌<◌, ◌^◌, ◌-◌, min, Bool, true, false, not, ◌&&◌, ◌||◌, nat_lt, if◌then◌else◌, List, [], ◌∷◌, ◌++◌, All, length, Option, Some, None, ◌⊎◌}
+use Rattle.std.specs.Prelude.{◌≡◌, ℕ, suc, ◌+◌, ◌<◌, ◌^◌, ◌-◌, min, Bool, true, false, not, ◌&&◌, ◌||◌, nat_lt, if◌then◌else◌, List, [], ◌∷◌, ◌++◌, All, length, map, Option, Some, None, ◌⊎◌}
 use Rattle.lq_name.specs.declared.place.Place.{Place}
 use Rattle.lq_tree.specs.MlType as ml
 use Rattle.lq_tree.specs.MlType.{MlType, MlTypes}
@@ -140,6 +140,10 @@ own_node (type_of d) = []
 own_node (let_of q e) = number_of e ∷ []
 own_node (let_rec_of f r) = r.id ∷ []
 
--- the variables of a definition are numbered from 0: those of its own type first, then by first appearance in its nodes as they end
-abbrev pub IsNumbered : (ℕ → MlType) → ItemTree → Type 0
-IsNumbered types i = AreNumbered 0 (variables_at types (own_node i.form ++ nodes_of_form i.form))
+-- those of a definition's own type, of its nodes as they end, and of its binders
+abbrev pub in_order : ℕ → ItemTree → List ℕ
+in_order nodes i = own_node i.form ++ (nodes_of_form i.form ++ map (λ x. nodes + x) (binders_in (visits_of_item i)))
+
+-- The variables of a definition are numbered from 0: those of its own type first, then by first appearance in its nodes, then in its binders.
+abbrev pub IsNumbered : ℕ → (ℕ → MlType) → ItemTree → Type 0
+IsNumbered nodes types i = AreNumbered 0 (variables_at types (in_order nodes i))

@@ -1,5 +1,6 @@
 // What holds of the definitions.
 ghost use Rattle.lq_typings.specs.Laws.{FrontItemsAreRules, FrontsAreRules, VisitsAreRules};
+ghost use Rattle.lq_typings.specs.OneAnswer.{OneInference};
 ghost use Rattle.lq_typings.specs.Places.{IllTypedPlacesAreFirst};
 
 /// Types of a scoped program's nodes and binders obey the rules exactly where each visit obeys its rule, a use of a generalised definition
@@ -22,4 +23,9 @@ pub fn fronts_are_rules()
 /// the first item itself, such that the rules up to it can't hold together.
 pub fn ill_typed_places_are_first()
     ensures { IllTypedPlacesAreFirst }
+{}
+
+/// A program has at most one answer: one annotation as far as its nodes and binders go, or one cause and place.
+pub fn one_inference()
+    ensures { OneInference }
 {}
