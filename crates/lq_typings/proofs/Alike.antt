@@ -145,11 +145,11 @@ abbrev is_variable : MlType → Bool
 is_variable (ml.var i) = true
 is_variable a = false
 
-abbrev first_of_two : MlType → MlType
+abbrev pub first_of_two : MlType → MlType
 first_of_two (ml.arrow a b) = a
 first_of_two c = c
 
-abbrev second_of_two : MlType → MlType
+abbrev pub second_of_two : MlType → MlType
 second_of_two (ml.arrow a b) = b
 second_of_two c = c
 

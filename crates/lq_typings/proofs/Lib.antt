@@ -10,3 +10,4 @@ mod Places
 mod Alike
 mod Roots
 mod OneAnswer
+mod Samples

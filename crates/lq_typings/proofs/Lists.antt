@@ -1,5 +1,7 @@
 -- What holds of each element of a list.
+use Rattle.std.specs.Prelude.{All}
 use Rattle.std.proofs.Common.{List, [], ◌∷◌, ◌++◌}
+use Rattle.std.proofs.lemmas.List.Elements.{All-nil, All-cons, All-head, All-tail}
 
 abbrev pub AllOf : {A : Type 0} → (A → Type 0) → List A → Type 0
 AllOf P [] = Unit {0}
@@ -30,3 +32,12 @@ module _ {A : Type 0} (P : A → Type 0) where
 pub all_weaker : {A : Type 0} (P Q : A → Type 0) → ((x : A) → P x → Q x) → (xs : List A) → AllOf P xs → AllOf Q xs
 all_weaker P Q f [] h = tt
 all_weaker P Q f (x ∷ xs) h = (f x h.0, all_weaker P Q f xs h.1)
+
+-- the same by places
+pub from_all : {A : Type 0} (P : A → Type 0) (xs : List A) → All P xs → AllOf P xs
+from_all P [] h = tt
+from_all P (x ∷ xs) h = (All-head P x xs h, from_all P xs (All-tail P x xs h))
+
+pub to_all : {A : Type 0} (P : A → Type 0) (xs : List A) → AllOf P xs → All P xs
+to_all P [] h = All-nil P
+to_all P (x ∷ xs) h = All-cons P x xs h.0 (to_all P xs h.1)

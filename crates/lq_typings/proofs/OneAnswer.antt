@@ -2,7 +2,6 @@
 use Rattle.std.specs.Prelude.{All, min, ◌-◌, ◌^◌, ◌&&◌, nat_lt, not, if◌then◌else◌}
 use Rattle.std.proofs.Common.{◌≡◌, ℕ, ◌+◌, Bool, List, [], ◌∷◌, ◌++◌, map, Option, Some, refl, sym, ap, ap₂, subst, ◌∙◌, arith, append_assoc}
 use Rattle.std.proofs.lemmas.List.{map-append}
-use Rattle.std.proofs.lemmas.List.Elements.{All-nil, All-cons, All-head, All-tail}
 use Rattle.lq_name.specs.declared.place.Place.{Place}
 use Rattle.lq_tree.specs.MlType as ml
 use Rattle.lq_tree.specs.MlType.{MlType}
@@ -21,20 +20,12 @@ use Rattle.lq_typings.specs.Principal.{node_count, IsAnnotation, IsPrincipalAnno
 use Rattle.lq_typings.specs.Uses.{Known, none_known, behind, is_value, ObeysFrom}
 use Rattle.lq_typings.proofs.Alike.{name_of, Alike, alike_size, alike_open, each_list, list_each, leaves_stay, IsUndone, undone, variables_put, numbered_stay}
 use Rattle.lq_typings.proofs.Leaving.{items_left}
-use Rattle.lq_typings.proofs.Lists.{AllOf, all_both, all_left, all_right}
+use Rattle.lq_typings.proofs.Lists.{AllOf, all_both, all_left, all_right, from_all, to_all}
 use Rattle.lq_typings.proofs.Places.{in_first, in_rest, cut_of, head_of, some_of, not_there}
 use Rattle.lq_typings.proofs.Programs.{visits_are_rules}
 use Rattle.lq_typings.proofs.Roots.{root, own}
 
 -- ---- lists
-
-from_all : {A : Type 0} (P : A → Type 0) (xs : List A) → All P xs → AllOf P xs
-from_all P [] h = tt
-from_all P (x ∷ xs) h = (All-head P x xs h, from_all P xs (All-tail P x xs h))
-
-to_all : {A : Type 0} (P : A → Type 0) (xs : List A) → AllOf P xs → All P xs
-to_all P [] h = All-nil P
-to_all P (x ∷ xs) h = All-cons P x xs h.0 (to_all P xs h.1)
 
 all_map : (P : ℕ → Type 0) (f : ℕ → ℕ) (xs : List ℕ) → AllOf (λ x. P (f x)) xs → AllOf P (map f xs)
 all_map P f [] h = tt

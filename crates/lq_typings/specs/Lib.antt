@@ -5,4 +5,5 @@ pub mod Principal
 pub mod Inference
 pub mod Places
 pub mod OneAnswer
+pub mod Example
 pub mod Laws

@@ -1,4 +1,5 @@
 // What holds of the definitions.
+ghost use Rattle.lq_typings.specs.Example.{Examples};
 ghost use Rattle.lq_typings.specs.Laws.{FrontItemsAreRules, FrontsAreRules, VisitsAreRules};
 ghost use Rattle.lq_typings.specs.OneAnswer.{OneInference};
 ghost use Rattle.lq_typings.specs.Places.{IllTypedPlacesAreFirst};
@@ -28,4 +29,10 @@ pub fn ill_typed_places_are_first()
 /// A program has at most one answer: one annotation as far as its nodes and binders go, or one cause and place.
 pub fn one_inference()
     ensures { OneInference }
+{}
+
+/// A program with a definition that is used at two types has its annotation for an answer, and one that calls a variable with itself the
+/// place of the call.
+pub fn examples()
+    ensures { Examples }
 {}

@@ -4,6 +4,6 @@
 mod laws;
 
 pub use laws::{
-    front_items_are_rules, fronts_are_rules, ill_typed_places_are_first, one_inference,
+    examples, front_items_are_rules, fronts_are_rules, ill_typed_places_are_first, one_inference,
     visits_are_rules,
 };
