@@ -45,7 +45,7 @@ module _ (by : ℕ → MlType) where
 
   -- a type without variables stays
   mutual
-    closed_stays : (a : MlType) → is_open a ≡ false → put by a ≡ a
+    pub closed_stays : (a : MlType) → is_open a ≡ false → put by a ≡ a
     closed_stays ml.int h = refl
     closed_stays ml.bool h = refl
     closed_stays ml.unit h = refl

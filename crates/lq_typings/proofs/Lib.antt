@@ -11,3 +11,5 @@ mod Alike
 mod Roots
 mod OneAnswer
 mod Samples
+mod Turning
+mod Renaming

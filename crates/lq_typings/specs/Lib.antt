@@ -6,4 +6,5 @@ pub mod Inference
 pub mod Places
 pub mod OneAnswer
 pub mod Example
+pub mod Renaming
 pub mod Laws

@@ -3,6 +3,7 @@ ghost use Rattle.lq_typings.specs.Example.{Examples};
 ghost use Rattle.lq_typings.specs.Laws.{FrontItemsAreRules, FrontsAreRules, VisitsAreRules};
 ghost use Rattle.lq_typings.specs.OneAnswer.{OneInference};
 ghost use Rattle.lq_typings.specs.Places.{IllTypedPlacesAreFirst};
+ghost use Rattle.lq_typings.specs.Renaming.{RenamedArePrincipal};
 
 /// Types of a scoped program's nodes and binders obey the rules exactly where each visit obeys its rule, a use of a generalised definition
 /// that of a copy.
@@ -29,6 +30,11 @@ pub fn ill_typed_places_are_first()
 /// A program has at most one answer: one annotation as far as its nodes and binders go, or one cause and place.
 pub fn one_inference()
     ensures { OneInference }
+{}
+
+/// Where no definition is weak, a principal annotation stays one under other names for the variables of each item.
+pub fn renamed_are_principal()
+    ensures { RenamedArePrincipal }
 {}
 
 /// A program with a definition that is used at two types has its annotation for an answer, and one that calls a variable with itself the

@@ -5,5 +5,5 @@ mod laws;
 
 pub use laws::{
     examples, front_items_are_rules, fronts_are_rules, ill_typed_places_are_first, one_inference,
-    visits_are_rules,
+    renamed_are_principal, visits_are_rules,
 };
