@@ -242,7 +242,8 @@ module _ (by undo : ℕ → MlType) where
     | inr other ↦ s z (let l = less in below_but z n l other)
   ]
 
-  pub numbered_stay : (n : ℕ) (xs : List ℕ) → AllOf IsUndone xs → AreNumbered n xs → AreNumbered n (map (λ x. name_of (by x)) xs) → Stays n → AllOf (λ x. by x ≡ ml.var x) xs
+  pub numbered_stay : (n : ℕ) (xs : List ℕ) → AllOf IsUndone xs → AreNumbered n xs → AreNumbered n (map (λ x. name_of (by x)) xs) → Stays n
+      → AllOf (λ x. by x ≡ ml.var x) xs
   numbered_stay n [] h l r s = tt
   numbered_stay n (x ∷ xs) h (inl l) (inl r) s =
       let e = one_stays n x h.0 (inl l.0) (inl r.0) s in (h.0.0 ∙ ap ml.var e, numbered_stay n xs h.1 l.1 r.1 s)

@@ -62,7 +62,8 @@ module _ (g : Signature) (nodes : ℕ) (t : ℕ → MlType) where
 
   -- ---- items before
 
-  pub after_to : (before rest : List ItemTree) (tail : List Visit) (X : Names → Type 0) (k : Known) (ns : Names) (vs : List ℕ) (b : ℕ) → StateTo g nodes t k ns vs b
+  pub after_to : (before rest : List ItemTree) (tail : List Visit) (X : Names → Type 0) (k : Known) (ns : Names) (vs : List ℕ) (b : ℕ)
+      → StateTo g nodes t k ns vs b
       → are_scoped vs (before ++ rest) ≡ true → Rising b (binders_in (visits_of_items (before ++ rest))) → After g (annotation_of nodes t) ns before X
       → ((j : Known) (ms : Names) (us : List ℕ) (c : ℕ) → StateTo g nodes t j ms us c → are_scoped us rest ≡ true → Rising c (binders_in (visits_of_items rest)) → X ms
       → ObeysFrom g nodes j tail t) → ObeysFrom g nodes k (visits_of_items before ++ tail) t
@@ -79,8 +80,10 @@ module _ (g : Signature) (nodes : ℕ) (t : ℕ → MlType) where
       (around_to g nodes t k i (visits_of_form i.form) (visits_of_items is ++ tail) goes.inner kept out.1
       (after_to is rest tail X (behind_form k i.form) out.2.0 (visible_behind vs i.form) (above b (form_binders i.form)) out.2.1 both.1 later out.2.2 last))
 
-  pub after_back : (before rest : List ItemTree) (tail : List Visit) (X : Names → Type 0) (k : Known) (ns : Names) (vs : List ℕ) (b : ℕ) → StateBack g nodes t k ns vs b
-      → are_scoped vs (before ++ rest) ≡ true → Rising b (binders_in (visits_of_items (before ++ rest))) → ObeysFrom g nodes k (visits_of_items before ++ tail) t
+  pub after_back : (before rest : List ItemTree) (tail : List Visit) (X : Names → Type 0) (k : Known) (ns : Names) (vs : List ℕ) (b : ℕ)
+      → StateBack g nodes t k ns vs b
+      → are_scoped vs (before ++ rest) ≡ true → Rising b (binders_in (visits_of_items (before ++ rest)))
+      → ObeysFrom g nodes k (visits_of_items before ++ tail) t
       → ((j : Known) (ms : Names) (us : List ℕ) (c : ℕ) → StateBack g nodes t j ms us c → are_scoped us rest ≡ true → Rising c (binders_in (visits_of_items rest))
       → ObeysFrom g nodes j tail t → X ms) → After g (annotation_of nodes t) ns before X
   after_back [] rest tail X k ns vs b s scoped up h last = last k ns vs b s scoped up h
@@ -105,7 +108,8 @@ module _ (g : Signature) (nodes : ℕ) (t : ℕ → MlType) where
     inner_parts k = subst (AllOf Inner) split (nodes_go g nodes t W k i.form).inner
 
     pub place_to : (k : Known) (ns : Names) (vs : List ℕ) (b : ℕ) → StateTo g nodes t k ns vs b → are_scoped vs (i ∷ rest) ≡ true
-        → Rising b (binders_in (visits_of_items (i ∷ rest))) → NodesAre g (annotation_of nodes t) W ns i.form → ObeysFrom g nodes k (enter_item i ∷ us) t
+        → Rising b (binders_in (visits_of_items (i ∷ rest))) → NodesAre g (annotation_of nodes t) W ns i.form
+        → ObeysFrom g nodes k (enter_item i ∷ us) t
     place_to k ns vs b s scoped up h =
         let both = and_parts (is_scoped_form vs i.form) (are_scoped (visible_behind vs i.form) rest) scoped in
         let rises = subst (λ xs. Rising b xs) (split_binders i rest) up in
@@ -117,7 +121,8 @@ module _ (g : Signature) (nodes : ℕ) (t : ℕ → MlType) where
         (tt, subst (λ xs. ObeysFrom g nodes k xs t) (append-nil us) (inner_both g nodes t k us [] (all_left Inner us ws (inner_parts k)) now tt))
 
     pub place_back : (k : Known) (ns : Names) (vs : List ℕ) (b : ℕ) → StateBack g nodes t k ns vs b → are_scoped vs (i ∷ rest) ≡ true
-        → Rising b (binders_in (visits_of_items (i ∷ rest))) → ObeysFrom g nodes k (enter_item i ∷ us) t → NodesAre g (annotation_of nodes t) W ns i.form
+        → Rising b (binders_in (visits_of_items (i ∷ rest))) → ObeysFrom g nodes k (enter_item i ∷ us) t
+        → NodesAre g (annotation_of nodes t) W ns i.form
     place_back k ns vs b s scoped up h =
         let both = and_parts (is_scoped_form vs i.form) (are_scoped (visible_behind vs i.form) rest) scoped in
         let rises = subst (λ xs. Rising b xs) (split_binders i rest) up in
@@ -129,10 +134,12 @@ module _ (g : Signature) (nodes : ℕ) (t : ℕ → MlType) where
 
 -- ---- whole programs
 
-pub same_program : (s : Scoping) (is : List ItemTree) → s.items ≡ is → IsScoped s → (are_scoped [] is ≡ true) × Rising 0 (binders_in (visits_of_items is))
+pub same_program : (s : Scoping) (is : List ItemTree) → s.items ≡ is → IsScoped s
+    → (are_scoped [] is ≡ true) × Rising 0 (binders_in (visits_of_items is))
 same_program s is same scoped = (subst (λ xs. are_scoped [] xs ≡ true) same scoped.scoped, subst (λ xs. Rising 0 (binders_in (visits_of_items xs))) same (rising s scoped))
 
-pub front_items_are_rules : (g : Signature) (nodes : ℕ) (types : ℕ → MlType) (s : Scoping) → IsScoped s → (before rest : List ItemTree) → s.items ≡ before ++ rest
+pub front_items_are_rules : (g : Signature) (nodes : ℕ) (types : ℕ → MlType) (s : Scoping) → IsScoped s → (before rest : List ItemTree)
+    → s.items ≡ before ++ rest
     → AreItemRules g nodes types before
 front_items_are_rules g nodes types s scoped before rest split =
     let whole = same_program s (before ++ rest) split scoped in let obeys : List Visit → Type 0 = λ us. ObeysFrom g nodes none_known us types in
@@ -162,7 +169,8 @@ cut (j ∷ before) rest i us ws split =
     ∙ sym (append_assoc (visits_of_item j) (front_of before i us) later)
     ∙ ap (λ (xs : List Visit). xs ++ later) (sym (append_assoc (visits_of_item j) (visits_of_items before) (enter_item i ∷ us)))
 
-pub fronts_are_rules : (g : Signature) (nodes : ℕ) (types : ℕ → MlType) (s : Scoping) → IsScoped s → (before rest : List ItemTree) (i : ItemTree) → s.items ≡ before ++ i ∷ rest
+pub fronts_are_rules : (g : Signature) (nodes : ℕ) (types : ℕ → MlType) (s : Scoping) → IsScoped s → (before rest : List ItemTree) (i : ItemTree)
+    → s.items ≡ before ++ i ∷ rest
     → (us ws : List Visit) → visits_of_form i.form ≡ us ++ ws → AreFrontRules g nodes types before i us
 fronts_are_rules g nodes types s scoped before rest i split us ws inside =
     let whole = same_program s (before ++ i ∷ rest) split scoped in

@@ -72,7 +72,8 @@ always (hide_name x) = tt
 
 module _ (g : Signature) (nodes : ℕ) (t : ℕ → MlType) where
   -- what is known stays inside of an item
-  pub inner_both : (k : Known) (us ws : List Visit) → AllOf Inner us → AllOf (Kept g nodes t Every k) us → ObeysFrom g nodes k ws t → ObeysFrom g nodes k (us ++ ws) t
+  pub inner_both : (k : Known) (us ws : List Visit) → AllOf Inner us → AllOf (Kept g nodes t Every k) us → ObeysFrom g nodes k ws t
+      → ObeysFrom g nodes k (us ++ ws) t
   inner_both k [] ws inner kept rest = rest
   inner_both k (v ∷ us) ws inner kept rest =
       (kept.0 (always v), subst (λ j. ObeysFrom g nodes j (us ++ ws) t) (sym (still k v inner.0)) (inner_both k us ws inner.1 kept.1 rest))
@@ -96,7 +97,8 @@ module _ (g : Signature) (nodes : ℕ) (t : ℕ → MlType) where
   Least fixed ps = (by : ℕ → MlType) → All (λ p. Leaves by (t (nodes + p))) ps → Fixes fixed by
 
   general_at_to : (x y i : ℕ) (ns : Names) (vs : List ℕ) (k : Known) (fixed : List ℕ) (b : Bool) → (b ≡ true → x ≡ y) → Enough fixed k.plain
-      → AgreeTo g nodes t Every k ns vs → (b || is_visible vs y) ≡ true → IsUsedAt (if b then Some (general fixed (t (nodes + x))) else scheme_in ns y) (t i)
+      → AgreeTo g nodes t Every k ns vs → (b || is_visible vs y) ≡ true
+      → IsUsedAt (if b then Some (general fixed (t (nodes + x))) else scheme_in ns y) (t i)
       → RuleBy nodes (use_by i y (if b then Some k.plain else before_in k.general y)) t (IsUsedAt (scheme_in ((y, plain (t (nodes + y))) ∷ []) y) (t i))
   general_at_to x y i ns vs k fixed true same enough agree seen h =
       (h.0, enough h.0 h.1, subst (λ z. t i ≡ put h.0 (t (nodes + z))) (same refl) h.2)
@@ -132,7 +134,8 @@ module _ (g : Signature) (nodes : ℕ) (t : ℕ → MlType) where
     below = (less, below_more b c k.general (let l = low in let m = less in omega (arith, l, m)) s.below);
   }
 
-  to_plain : (k : Known) (ns : Names) (vs : List ℕ) (b c x : ℕ) → b ≤ x → x < c → StateTo k ns vs b → StateTo (with_plain k x) ((x, plain (t (nodes + x))) ∷ ns) (x ∷ vs) c
+  to_plain : (k : Known) (ns : Names) (vs : List ℕ) (b c x : ℕ) → b ≤ x → x < c → StateTo k ns vs b
+      → StateTo (with_plain k x) ((x, plain (t (nodes + x))) ∷ ns) (x ∷ vs) c
   to_plain k ns vs b c x low less s = record {
     agree = agree_to_one g nodes t Every k x ns vs (local b x k.general s.below low) s.agree;
     covered = λ f h. All-cons (λ p. IsWithin f (t (nodes + p))) x k.plain h.0 (s.covered f h.1);
@@ -174,7 +177,8 @@ module _ (g : Signature) (nodes : ℕ) (t : ℕ → MlType) where
     below = (less, below_more b c k.general (let l = low in let m = less in omega (arith, l, m)) s.below);
   }
 
-  back_plain : (k : Known) (ns : Names) (vs : List ℕ) (b c x : ℕ) → b ≤ x → x < c → StateBack k ns vs b → StateBack (with_plain k x) ((x, plain (t (nodes + x))) ∷ ns) (x ∷ vs) c
+  back_plain : (k : Known) (ns : Names) (vs : List ℕ) (b c x : ℕ) → b ≤ x → x < c → StateBack k ns vs b
+      → StateBack (with_plain k x) ((x, plain (t (nodes + x))) ∷ ns) (x ∷ vs) c
   back_plain k ns vs b c x low less s =
       let own = variables_of (t (nodes + x)) in
       record {
@@ -193,7 +197,8 @@ module _ (g : Signature) (nodes : ℕ) (t : ℕ → MlType) where
   IsLeftTo k f vs b rest = (ms : Names) × StateTo (behind_form k f) ms (visible_behind vs f) (above b (form_binders f)) × rest ms
 
   name_to : (k : Known) (ns : Names) (vs : List ℕ) (b c x : ℕ) (e : Tree) (s : Scheme) (value : Bool) → is_value e ≡ value → b ≤ x → x < c
-      → t (nodes + x) ≡ type_in (annotation_of nodes t) e → DefinesBy ns e (type_in (annotation_of nodes t) e) s → StateTo k ns vs b → StateTo (with_name k x value) ((x, s) ∷ ns) (x ∷ vs) c
+      → t (nodes + x) ≡ type_in (annotation_of nodes t) e → DefinesBy ns e (type_in (annotation_of nodes t) e) s → StateTo k ns vs b
+      → StateTo (with_name k x value) ((x, s) ∷ ns) (x ∷ vs) c
   name_to k ns vs b c x e (plain a) true is low less at d s = absurd (d.1 (value_is e is))
   name_to k ns vs b c x e (plain a) false is low less at d s =
       subst (λ o. StateTo (with_plain k x) ((x, plain o) ∷ ns) (x ∷ vs) c) (at ∙ sym d.0) (to_plain k ns vs b c x low less s)
@@ -202,7 +207,8 @@ module _ (g : Signature) (nodes : ℕ) (t : ℕ → MlType) where
   name_to k ns vs b c x e (general fixed a) false is low less at d s = absurd (false≢true (sym is ∙ value_true e d.1))
 
   -- the rules of an item hold exactly where its nodes obey theirs, it itself does, and what follows holds
-  pub item_to : (f : ItemForm) (k : Known) (ns : Names) (vs : List ℕ) (b : ℕ) → StateTo k ns vs b → Rising b (form_binders f) → is_scoped_form vs f ≡ true
+  pub item_to : (f : ItemForm) (k : Known) (ns : Names) (vs : List ℕ) (b : ℕ) → StateTo k ns vs b → Rising b (form_binders f)
+      → is_scoped_form vs f ≡ true
       → (rest : Names → Type 0) → ItemIs g (annotation_of nodes t) ns f rest
       → NodesAre g (annotation_of nodes t) Every ns f × ItemRule nodes f t × IsLeftTo k f vs b rest
   item_to (type_of d) k ns vs b s rising scoped rest h = absurd (false≢true scoped)
@@ -236,9 +242,11 @@ module _ (g : Signature) (nodes : ℕ) (t : ℕ → MlType) where
   scheme_back k ns e true is covers = (general (fixed_of k.plain) (type_in (annotation_of nodes t) e), (refl, value_is e is, covers))
   scheme_back k ns e false is covers = (plain (type_in (annotation_of nodes t) e), (refl, λ v. false≢true (sym is ∙ value_true e v)))
 
-  pub item_back : (f : ItemForm) (k : Known) (ns : Names) (vs : List ℕ) (b : ℕ) → StateBack k ns vs b → Rising b (form_binders f) → is_scoped_form vs f ≡ true
+  pub item_back : (f : ItemForm) (k : Known) (ns : Names) (vs : List ℕ) (b : ℕ) → StateBack k ns vs b → Rising b (form_binders f)
+      → is_scoped_form vs f ≡ true
       → (rest : Names → Type 0) → NodesAre g (annotation_of nodes t) Every ns f → ItemRule nodes f t
-      → ((ms : Names) → StateBack (behind_form k f) ms (visible_behind vs f) (above b (form_binders f)) → rest ms) → ItemIs g (annotation_of nodes t) ns f rest
+      → ((ms : Names) → StateBack (behind_form k f) ms (visible_behind vs f) (above b (form_binders f)) → rest ms)
+      → ItemIs g (annotation_of nodes t) ns f rest
   item_back (type_of d) k ns vs b s rising scoped rest inside rule behind_it = absurd (false≢true scoped)
   item_back (let_of (pattern p any) e) k ns vs b s rising scoped rest inside rule behind_it =
       let by = scheme_back k ns e (is_value e) refl s.covers in let f = let_of (pattern p any) e in
@@ -289,7 +297,8 @@ module _ (g : Signature) (nodes : ℕ) (t : ℕ → MlType) where
       let rest = inner_rest k us (leave_item i ∷ ws) inner all in
       (inner_front k us (leave_item i ∷ ws) inner all, rest.0, rest.1)
 
-  pub items_to : (is : List ItemTree) (k : Known) (ns : Names) (vs : List ℕ) (b : ℕ) → StateTo k ns vs b → are_scoped vs is ≡ true → Rising b (binders_in (visits_of_items is))
+  pub items_to : (is : List ItemTree) (k : Known) (ns : Names) (vs : List ℕ) (b : ℕ) → StateTo k ns vs b → are_scoped vs is ≡ true
+      → Rising b (binders_in (visits_of_items is))
       → ItemsAre g (annotation_of nodes t) ns is → ObeysFrom g nodes k (visits_of_items is) t
   items_to [] k ns vs b s scoped rising h = tt
   items_to (i ∷ is) k ns vs b s scoped rising h =
@@ -304,7 +313,8 @@ module _ (g : Signature) (nodes : ℕ) (t : ℕ → MlType) where
       around_to k i us (visits_of_items is) goes.inner kept out.1
       (items_to is (behind_form k i.form) out.2.0 (visible_behind vs i.form) (above b (form_binders i.form)) out.2.1 both.1 later out.2.2)
 
-  pub items_back : (is : List ItemTree) (k : Known) (ns : Names) (vs : List ℕ) (b : ℕ) → StateBack k ns vs b → are_scoped vs is ≡ true → Rising b (binders_in (visits_of_items is))
+  pub items_back : (is : List ItemTree) (k : Known) (ns : Names) (vs : List ℕ) (b : ℕ) → StateBack k ns vs b → are_scoped vs is ≡ true
+      → Rising b (binders_in (visits_of_items is))
       → ObeysFrom g nodes k (visits_of_items is) t → ItemsAre g (annotation_of nodes t) ns is
   items_back [] k ns vs b s scoped rising h = tt
   items_back (i ∷ is) k ns vs b s scoped rising h =

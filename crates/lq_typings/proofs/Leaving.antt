@@ -48,7 +48,8 @@ function_left : {us : List Visit} {ns : List ℕ} (r : Recursive) → LeavesNode
 function_left r h = both_left (bound_left r.parameter h) (record { is = refl })
 
 -- the first pattern of a match leaves none
-match_left : {ns : List ℕ} (w : Bool) (us : List Visit) (as_ : List (Arm (List Visit))) → LeavesNodes (us ++ in_arms as_) ns → LeavesNodes (in_match w us as_) ns
+match_left : {ns : List ℕ} (w : Bool) (us : List Visit) (as_ : List (Arm (List Visit))) → LeavesNodes (us ++ in_arms as_) ns
+    → LeavesNodes (in_match w us as_) ns
 match_left false us as_ h = h
 match_left true us [] h = h
 match_left true us (a ∷ as_) h =

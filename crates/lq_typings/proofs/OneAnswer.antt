@@ -37,7 +37,8 @@ map_all P f (x ∷ xs) h = (h.0, map_all P f xs h.1)
 
 -- ---- places
 
-obeys_left : (g : Signature) (nodes : ℕ) (t : ℕ → MlType) (k : Known) (us ws : List Visit) → ObeysFrom g nodes k (us ++ ws) t → ObeysFrom g nodes k us t
+obeys_left : (g : Signature) (nodes : ℕ) (t : ℕ → MlType) (k : Known) (us ws : List Visit) → ObeysFrom g nodes k (us ++ ws) t
+    → ObeysFrom g nodes k us t
 obeys_left g nodes t k [] ws h = tt
 obeys_left g nodes t k (u ∷ us) ws h = (h.0, obeys_left g nodes t (behind k u) us ws h.1)
 
@@ -49,7 +50,8 @@ module _ (s : Scoping) where
       ill.cannot types
       (obeys_left (signature_in s.datatypes) (node_count s) types none_known (ill.front ++ ill.visit ∷ []) ws (subst (λ xs. IsUpTo s xs types) parts h))
 
-  rest_same : (p q : Place) (a : IsIllTyped s p) (b : IsIllTyped s q) (us : List Visit) → b.front ≡ a.front ++ us → a.visit ∷ a.later ≡ us ++ b.visit ∷ b.later → p ≡ q
+  rest_same : (p q : Place) (a : IsIllTyped s p) (b : IsIllTyped s q) (us : List Visit) → b.front ≡ a.front ++ us
+      → a.visit ∷ a.later ≡ us ++ b.visit ∷ b.later → p ≡ q
   rest_same p q a b [] same rest = ap (some_of p) (sym a.there ∙ ap place_at (ap (head_of a.visit) rest) ∙ b.there)
   rest_same p q a b (u ∷ us) same rest =
       let first = ap (head_of a.visit) rest in
@@ -69,7 +71,8 @@ module _ (s : Scoping) where
 -- ---- two principal annotations
 
 module _ (nodes : ℕ) (t u : ℕ → MlType) where
-  becomes : (by undo : ℕ → MlType) (ks : List ℕ) → AllOf (λ k. u k ≡ put by (t k)) ks → AllOf (λ k. t k ≡ put undo (u k)) ks → AllOf (λ k. (u k ≡ put by (t k)) × (t k ≡ put undo (u k))) ks
+  becomes : (by undo : ℕ → MlType) (ks : List ℕ) → AllOf (λ k. u k ≡ put by (t k)) ks → AllOf (λ k. t k ≡ put undo (u k)) ks
+      → AllOf (λ k. (u k ≡ put by (t k)) × (t k ≡ put undo (u k))) ks
   becomes by undo [] h l = tt
   becomes by undo (k ∷ ks) h l = ((h.0, l.0), becomes by undo ks h.1 l.1)
 
@@ -83,7 +86,8 @@ module _ (nodes : ℕ) (t u : ℕ → MlType) where
       let ks = nodes_of_form i.form in
       becomes a.0 b.0 ks (from_all (λ k. u k ≡ put a.0 (t k)) ks a.1) (from_all (λ k. t k ≡ put b.0 (u k)) ks b.1)
 
-  all_alike : (is : List ItemTree) → AllOf (IsItemInstance nodes t u) is → AllOf (IsItemInstance nodes u t) is → AllOf (λ i. AllOf (λ k. Alike (t k) (u k)) (nodes_of_form i.form)) is
+  all_alike : (is : List ItemTree) → AllOf (IsItemInstance nodes t u) is → AllOf (IsItemInstance nodes u t) is
+      → AllOf (λ i. AllOf (λ k. Alike (t k) (u k)) (nodes_of_form i.form)) is
   all_alike [] h l = tt
   all_alike (i ∷ is) h l = (are_alike h.0.0 l.0.0 (nodes_of_form i.form) (pairs i h.0 l.0), all_alike is h.1 l.1)
 
@@ -98,7 +102,8 @@ module _ (nodes : ℕ) (t u : ℕ → MlType) where
   first_weak_same (i ∷ is) h =
       ap₂ (λ (b : Bool) (o : Option Place). if b then Some (weak_place i.form i.place) else o) (weak_same i.form h.0) (first_weak_same is h.1)
 
-  all_nodes : (is : List ItemTree) → AllOf (λ i. AllOf (λ k. Alike (t k) (u k)) (nodes_of_form i.form)) is → AllOf (λ k. Alike (t k) (u k)) (nodes_of_items is)
+  all_nodes : (is : List ItemTree) → AllOf (λ i. AllOf (λ k. Alike (t k) (u k)) (nodes_of_form i.form)) is
+      → AllOf (λ k. Alike (t k) (u k)) (nodes_of_items is)
   all_nodes [] h = tt
   all_nodes (i ∷ is) h = all_both (λ k. Alike (t k) (u k)) (nodes_of_form i.form) (nodes_of_items is) h.0 (all_nodes is h.1)
 
@@ -151,7 +156,8 @@ module _ (nodes : ℕ) (t u : ℕ → MlType) where
           to_all (λ x. t (nodes + x) ≡ u (nodes + x)) xs (map_all (λ k. t k ≡ u k) (λ x. nodes + x) xs (all_right (λ k. t k ≡ u k) ks (map (λ x. nodes + x) xs) same)),
         )
 
-  items_same : (is : List ItemTree) → AllOf (IsItemInstance nodes t u) is → AllOf (IsItemInstance nodes u t) is → AllOf (IsNumbered nodes t) is → AllOf (IsNumbered nodes u) is
+  items_same : (is : List ItemTree) → AllOf (IsItemInstance nodes t u) is → AllOf (IsItemInstance nodes u t) is → AllOf (IsNumbered nodes t) is
+      → AllOf (IsNumbered nodes u) is
       → AllOf (AreSameIn nodes t u) is
   items_same [] a b n m = tt
   items_same (i ∷ is) a b n m = (item_same i a.0 b.0 n.0 m.0, items_same is a.1 b.1 n.1 m.1)
@@ -195,7 +201,8 @@ module _ (s : Scoping) (scoped : IsScoped s) where
         to_all (AreSameIn nodes t u) s.items
         (items_same nodes t u s.items to_other from_other (from_all (IsNumbered nodes t) s.items n) (from_all (IsNumbered nodes u) s.items m))
 
-    past_at : {p q : Place} {n m : ℕ} → first_past t (placed_in (visits_of_items s.items)) ≡ Some (p, n) → first_past u (placed_in (visits_of_items s.items)) ≡ Some (q, m)
+    past_at : {p q : Place} {n m : ℕ} → first_past t (placed_in (visits_of_items s.items)) ≡ Some (p, n)
+        → first_past u (placed_in (visits_of_items s.items)) ≡ Some (q, m)
         → (p ≡ q) × (n ≡ m)
     past_at {p = p} {n = n} h l = let same = ap (some_of (p, n)) (sym h ∙ past_are ∙ l) in (ap (λ (x : Place × ℕ). x.0) same, ap (λ (x : Place × ℕ). x.1) same)
 

@@ -67,7 +67,8 @@ all_every [] = tt
 all_every (x ∷ xs) = (tt, all_every xs)
 
 -- the visits of items and of one more
-item_visits : (before : List ItemTree) (i : ItemTree) → visits_of_items (before ++ i ∷ []) ≡ front_of before i (visits_of_form i.form) ++ leave_item i ∷ []
+item_visits : (before : List ItemTree) (i : ItemTree)
+    → visits_of_items (before ++ i ∷ []) ≡ front_of before i (visits_of_form i.form) ++ leave_item i ∷ []
 item_visits [] i = append-nil (visits_of_item i)
 item_visits (j ∷ before) i =
     ap (λ (xs : List Visit). visits_of_item j ++ xs) (item_visits before i)
@@ -78,14 +79,18 @@ item_visits (j ∷ before) i =
 
 data IsAt (is : List ItemTree) (front : List Visit) (v : Visit) : Type 0 where
   entering : (before rest : List ItemTree) (i : ItemTree) → v ≡ enter_item i → IsAt is front v
-  inside : (before rest : List ItemTree) (i : ItemTree) (us ws : List Visit) → is ≡ before ++ i ∷ rest → visits_of_form i.form ≡ us ++ v ∷ ws → front ≡ front_of before i us → IsAt is front v
-  leaving : (before rest : List ItemTree) (i : ItemTree) → is ≡ before ++ i ∷ rest → front ≡ front_of before i (visits_of_form i.form) → v ≡ leave_item i → IsAt is front v
+  inside : (before rest : List ItemTree) (i : ItemTree) (us ws : List Visit) → is ≡ before ++ i ∷ rest → visits_of_form i.form ≡ us ++ v ∷ ws
+      → front ≡ front_of before i us → IsAt is front v
+  leaving : (before rest : List ItemTree) (i : ItemTree) → is ≡ before ++ i ∷ rest → front ≡ front_of before i (visits_of_form i.form)
+      → v ≡ leave_item i → IsAt is front v
 
-at_end : (i : ItemTree) (is : List ItemTree) (us fs ws : List Visit) (v : Visit) → fs ≡ visits_of_form i.form ++ us → leave_item i ∷ [] ≡ us ++ v ∷ ws → IsAt (i ∷ is) (enter_item i ∷ fs) v
+at_end : (i : ItemTree) (is : List ItemTree) (us fs ws : List Visit) (v : Visit) → fs ≡ visits_of_form i.form ++ us
+    → leave_item i ∷ [] ≡ us ++ v ∷ ws → IsAt (i ∷ is) (enter_item i ∷ fs) v
 at_end i is [] fs ws v same e = leaving [] is i refl (ap (λ xs. enter_item i ∷ xs) (same ∙ append-nil (visits_of_form i.form))) (sym (ap (head_of v) e))
 at_end i is (u ∷ us) fs ws v same e = absurd (nothing_there us v ws (ap tail_of e))
 
-in_item : (i : ItemTree) (is : List ItemTree) (fs ws : List Visit) (v : Visit) → IsCut (visits_of_form i.form) (leave_item i ∷ []) fs v ws → IsAt (i ∷ is) (enter_item i ∷ fs) v
+in_item : (i : ItemTree) (is : List ItemTree) (fs ws : List Visit) (v : Visit) → IsCut (visits_of_form i.form) (leave_item i ∷ []) fs v ws
+    → IsAt (i ∷ is) (enter_item i ∷ fs) v
 in_item i is fs ws v (in_first later e) = inside [] is i fs later refl e refl
 in_item i is fs ws v (in_rest us e rest) = at_end i is us fs ws v e rest
 
@@ -126,7 +131,8 @@ one_more : (before : List ItemTree) (i : ItemTree) (us : List Visit) (v : Visit)
 one_more before i us v = sym (append_assoc (visits_of_items before) (enter_item i ∷ us) (v ∷ []))
 
 module _ (s : Scoping) (place : Place) (scoped : IsScoped s) (ill : IsIllTyped s place) where
-  node_first : (before rest : List ItemTree) (i : ItemTree) (us ws : List Visit) (k : ℕ) → s.items ≡ before ++ i ∷ rest → visits_of_form i.form ≡ us ++ ill.visit ∷ ws
+  node_first : (before rest : List ItemTree) (i : ItemTree) (us ws : List Visit) (k : ℕ) → s.items ≡ before ++ i ∷ rest
+      → visits_of_form i.form ≡ us ++ ill.visit ∷ ws
       → ill.front ≡ front_of before i us → left_at ill.visit ≡ k ∷ [] → placed_at ill.visit ≡ (k, place) ∷ [] → IsFirstPlace s place
   node_first before rest i us ws k split own front left placed =
       let g = signature_in s.datatypes in let nodes = node_count s in
@@ -159,7 +165,8 @@ module _ (s : Scoping) (place : Place) (scoped : IsScoped s) (ill : IsIllTyped s
   placed : (v : Visit) → ill.visit ≡ v → place_at v ≡ Some place
   placed v same = ap place_at (sym same) ∙ ill.there
 
-  node_here : (before rest : List ItemTree) (i : ItemTree) (us ws : List Visit) → s.items ≡ before ++ i ∷ rest → visits_of_form i.form ≡ us ++ ill.visit ∷ ws
+  node_here : (before rest : List ItemTree) (i : ItemTree) (us ws : List Visit) → s.items ≡ before ++ i ∷ rest
+      → visits_of_form i.form ≡ us ++ ill.visit ∷ ws
       → ill.front ≡ front_of before i us → (v : Visit) → ill.visit ≡ v → Inner v → IsFirstPlace s place
   node_here before rest i us ws split own front (enter_item j) same inner = absurd inner
   node_here before rest i us ws split own front (leave_item j) same inner = absurd inner
@@ -174,7 +181,8 @@ module _ (s : Scoping) (place : Place) (scoped : IsScoped s) (ill : IsIllTyped s
   node_here before rest i us ws split own front (show_name x) same inner = absurd (not_there (placed (show_name x) same))
   node_here before rest i us ws split own front (hide_name x) same inner = absurd (not_there (placed (hide_name x) same))
 
-  item_here : (before rest : List ItemTree) (i : ItemTree) → s.items ≡ before ++ i ∷ rest → ill.front ≡ front_of before i (visits_of_form i.form) → ill.visit ≡ leave_item i → IsFirstPlace s place
+  item_here : (before rest : List ItemTree) (i : ItemTree) → s.items ≡ before ++ i ∷ rest → ill.front ≡ front_of before i (visits_of_form i.form)
+      → ill.visit ≡ leave_item i → IsFirstPlace s place
   item_here before rest i split front same =
       let g = signature_in s.datatypes in let nodes = node_count s in let types = ill.can.0 in let us = visits_of_form i.form in
       let whole = same_program s (before ++ i ∷ rest) split scoped in

@@ -94,7 +94,8 @@ module _ (g : Signature) (nodes : ℕ) (t u : ℕ → MlType) where
     covers : (x : ℕ) → Covers [] ((x, scheme) ∷ ms)
 
   stands : (q : Pattern) (e : Tree) (s : Scheme) (ns ms : Names) (by undo : ℕ → MlType) → is_weak t (let_of q e) ≡ false
-      → type_in (annotation_of nodes u) e ≡ put by (type_in (annotation_of nodes t) e) → type_in (annotation_of nodes t) e ≡ put undo (type_in (annotation_of nodes u) e)
+      → type_in (annotation_of nodes u) e ≡ put by (type_in (annotation_of nodes t) e)
+      → type_in (annotation_of nodes t) e ≡ put undo (type_in (annotation_of nodes u) e)
       → Covers [] ms → DefinesBy ns e (type_in (annotation_of nodes t) e) s → Stands e s ms
   stands q e (general fixed b) ns ms by undo weak to back covers d = record {
     scheme = general [] (type_in (annotation_of nodes u) e);
@@ -116,7 +117,8 @@ module _ (g : Signature) (nodes : ℕ) (t u : ℕ → MlType) where
   -- ---- items
 
   item_turn : (f : ItemForm) (by undo : ℕ → MlType) → AllOf (Same g nodes t u by) (nodes_of_form f) → AllOf (Same g nodes u t undo) (nodes_of_form f)
-      → AllOf (SameAt g nodes t u by) (visits_of_form f) → AllOf (SameAt g nodes u t undo) (visits_of_form f) → is_weak t f ≡ false → (ns ms : Names) → Ready ns ms → (X Y : Names → Type 0)
+      → AllOf (SameAt g nodes t u by) (visits_of_form f) → AllOf (SameAt g nodes u t undo) (visits_of_form f) → is_weak t f ≡ false → (ns ms : Names)
+      → Ready ns ms → (X Y : Names → Type 0)
       → ((ks ls : Names) → Ready ks ls → X ks → Y ls) → ItemIs g (annotation_of nodes t) ns f X → ItemIs g (annotation_of nodes u) ms f Y
   item_turn (type_of d) by undo s b v bv weak ns ms ready X Y rest h = rest ns ms ready h
   item_turn (let_of (pattern p any) e) by undo s b v bv weak ns ms ready X Y rest h =
@@ -175,7 +177,8 @@ module _ (g : Signature) (nodes : ℕ) (t u : ℕ → MlType) where
         let P : ℕ → Type 0 = λ x. t (nodes + x) ≡ put b.0 (u (nodes + x)) in
         all_left (SameAt g nodes u t b.0) (visits_of_form i.form) (leave_item i ∷ []) (at_visits P (visits_of_item i) (from_all P (binders_in (visits_of_item i)) b.2)).1
 
-  items_turn : (is : List ItemTree) (ns ms : Names) → Ready ns ms → AllOf (IsItemInstance nodes t u) is → AllOf (IsItemInstance nodes u t) is → first_weak t is ≡ None
+  items_turn : (is : List ItemTree) (ns ms : Names) → Ready ns ms → AllOf (IsItemInstance nodes t u) is → AllOf (IsItemInstance nodes u t) is
+      → first_weak t is ≡ None
       → ItemsAre g (annotation_of nodes t) ns is → ItemsAre g (annotation_of nodes u) ms is
   items_turn [] ns ms ready a b weak h = tt
   items_turn (i ∷ is) ns ms ready a b weak h =
@@ -201,7 +204,8 @@ module _ (nodes : ℕ) (t u w : ℕ → MlType) where
             (from_all (λ x. w (nodes + x) ≡ put a.0 (t (nodes + x))) xs a.2) (from_all (λ x. t (nodes + x) ≡ put b.0 (u (nodes + x))) xs b.2)),
       )
 
-  instances_both : (is : List ItemTree) → AllOf (IsItemInstance nodes t w) is → AllOf (IsItemInstance nodes u t) is → AllOf (IsItemInstance nodes u w) is
+  instances_both : (is : List ItemTree) → AllOf (IsItemInstance nodes t w) is → AllOf (IsItemInstance nodes u t) is
+      → AllOf (IsItemInstance nodes u w) is
   instances_both [] a b = tt
   instances_both (i ∷ is) a b = (instance_both i a.0 b.0, instances_both is a.1 b.1)
 

@@ -96,11 +96,13 @@ module _ (g : Signature) (nodes : ℕ) (t : ℕ → MlType) (W : ℕ → Type 0)
   pub agree_back_one : (x : ℕ) (ns : Names) (vs : List ℕ) → IsLocal x → AgreeBack ns vs → AgreeBack ((x, plain (t (nodes + x))) ∷ ns) (x ∷ vs)
   agree_back_one x ns vs none agree y i seen h = at_back x y i ns vs (x == y) (eqb-true x y) none agree seen h
 
-  agree_to : (xs : List ℕ) (ns : Names) (vs : List ℕ) → AllOf IsLocal xs → AgreeTo ns vs → AgreeTo (plain_names (annotation_of nodes t) xs ++ ns) (xs ++ vs)
+  agree_to : (xs : List ℕ) (ns : Names) (vs : List ℕ) → AllOf IsLocal xs → AgreeTo ns vs
+      → AgreeTo (plain_names (annotation_of nodes t) xs ++ ns) (xs ++ vs)
   agree_to [] ns vs h agree = agree
   agree_to (x ∷ xs) ns vs h agree = agree_to_one x (plain_names (annotation_of nodes t) xs ++ ns) (xs ++ vs) h.0 (agree_to xs ns vs h.1 agree)
 
-  agree_back : (xs : List ℕ) (ns : Names) (vs : List ℕ) → AllOf IsLocal xs → AgreeBack ns vs → AgreeBack (plain_names (annotation_of nodes t) xs ++ ns) (xs ++ vs)
+  agree_back : (xs : List ℕ) (ns : Names) (vs : List ℕ) → AllOf IsLocal xs → AgreeBack ns vs
+      → AgreeBack (plain_names (annotation_of nodes t) xs ++ ns) (xs ++ vs)
   agree_back [] ns vs h agree = agree
   agree_back (x ∷ xs) ns vs h agree = agree_back_one x (plain_names (annotation_of nodes t) xs ++ ns) (xs ++ vs) h.0 (agree_back xs ns vs h.1 agree)
 
@@ -115,7 +117,8 @@ module _ (g : Signature) (nodes : ℕ) (t : ℕ → MlType) (W : ℕ → Type 0)
   none_goes : Goes (λ ns. Unit {0}) [] (λ vs. true)
   none_goes = record { inner = tt; to = λ ns vs agree scoped fresh h. tt; back = λ ns vs agree scoped fresh h. tt }
 
-  map_goes : {A B : Names → Type 0} {us : List Visit} {sc : List ℕ → Bool} → ((ns : Names) → A ns → B ns) → ((ns : Names) → B ns → A ns) → Goes A us sc → Goes B us sc
+  map_goes : {A B : Names → Type 0} {us : List Visit} {sc : List ℕ → Bool} → ((ns : Names) → A ns → B ns) → ((ns : Names) → B ns → A ns)
+      → Goes A us sc → Goes B us sc
   map_goes f f' h = record {
     inner = h.inner;
     to = λ ns vs agree scoped fresh x. h.to ns vs agree scoped fresh (f' ns x);
@@ -129,7 +132,8 @@ module _ (g : Signature) (nodes : ℕ) (t : ℕ → MlType) (W : ℕ → Type 0)
     back = λ ns vs agree scoped fresh x. h.back ns vs agree (and_parts b (sc vs) scoped).1 fresh x;
   }
 
-  pair_goes : {A B : Names → Type 0} {us ws : List Visit} {sa sb : List ℕ → Bool} → Goes A us sa → Goes B ws sb → Goes (λ ns. A ns × B ns) (us ++ ws) (λ vs. sa vs && sb vs)
+  pair_goes : {A B : Names → Type 0} {us ws : List Visit} {sa sb : List ℕ → Bool} → Goes A us sa → Goes B ws sb
+      → Goes (λ ns. A ns × B ns) (us ++ ws) (λ vs. sa vs && sb vs)
   pair_goes {us = us} {ws = ws} {sa = sa} {sb = sb} a b = record {
     inner = all_both Inner us ws a.inner b.inner;
     to = λ ns vs agree scoped fresh x.
@@ -145,7 +149,8 @@ module _ (g : Signature) (nodes : ℕ) (t : ℕ → MlType) (W : ℕ → Type 0)
   triple_goes a b c = map_goes (λ ns x. (x.0, x.1.0, x.1.1)) (λ ns x. (x.0, (x.1, x.2))) (pair_goes a (pair_goes b c))
 
   -- a visit behind others
-  ended_goes : {A : Names → Type 0} {us : List Visit} {sc : List ℕ → Bool} (v : Visit) → Inner v → Goes A us sc → Goes (λ ns. Kept v × A ns) (us ++ v ∷ []) sc
+  ended_goes : {A : Names → Type 0} {us : List Visit} {sc : List ℕ → Bool} (v : Visit) → Inner v → Goes A us sc
+      → Goes (λ ns. Kept v × A ns) (us ++ v ∷ []) sc
   ended_goes {us = us} v in_it h = record {
     inner = all_both Inner us (v ∷ []) h.inner (in_it, tt);
     to = λ ns vs agree scoped fresh x. all_both Kept us (v ∷ []) (h.to ns vs agree scoped (all_left Fresh us (v ∷ []) fresh) x.1) (x.0, tt);
@@ -162,14 +167,16 @@ module _ (g : Signature) (nodes : ℕ) (t : ℕ → MlType) (W : ℕ → Type 0)
   }
 
   -- the parts of a node, with its own rule
-  node_goes : {A : Names → Type 0} {us : List Visit} {sc : List ℕ → Bool} (b : Bool) (e : Tree) → Goes A us sc → Goes (λ ns. Kept (leave e) × A ns) (around e us) (λ vs. b && sc vs)
+  node_goes : {A : Names → Type 0} {us : List Visit} {sc : List ℕ → Bool} (b : Bool) (e : Tree) → Goes A us sc
+      → Goes (λ ns. Kept (leave e) × A ns) (around e us) (λ vs. b && sc vs)
   node_goes b e h = begun_goes (enter e) tt (λ _. tt) (ended_goes (leave e) tt (guard_goes b h))
 
   leaf_goes : (b : Bool) (e : Tree) → Goes (λ ns. Kept (leave e) × Unit {0}) (around e []) (λ vs. b)
   leaf_goes true e = node_goes true e none_goes
   leaf_goes false e = node_goes false e none_goes
 
-  use_goes : (i : ℕ) (p : Place) (x : ℕ) → Goes (λ ns. TreeIs g (annotation_of nodes t) W ns (tree i p (form.use_of x))) (around (tree i p (form.use_of x)) []) (λ vs. is_visible vs x)
+  use_goes : (i : ℕ) (p : Place) (x : ℕ)
+      → Goes (λ ns. TreeIs g (annotation_of nodes t) W ns (tree i p (form.use_of x))) (around (tree i p (form.use_of x)) []) (λ vs. is_visible vs x)
   use_goes i p x = record {
     inner = (tt, (tt, tt));
     to = λ ns vs agree scoped fresh h. (λ _. tt, (λ w. agree x i scoped (h.0 w), tt));
@@ -199,7 +206,8 @@ module _ (g : Signature) (nodes : ℕ) (t : ℕ → MlType) (W : ℕ → Type 0)
   function_goes q b = map_goes (λ ns x. x.1) (λ ns x. (tt, x)) (let_goes q none_goes b)
 
   -- a name that is bound before others
-  pub named_goes : {A : Names → Type 0} {us : List Visit} {sc : List ℕ → Bool} (f : ℕ) → Goes A us sc → Goes (λ ns. A ((f, plain (t (nodes + f))) ∷ ns)) (show_name f ∷ us) (λ vs. sc (f ∷ vs))
+  pub named_goes : {A : Names → Type 0} {us : List Visit} {sc : List ℕ → Bool} (f : ℕ) → Goes A us sc
+      → Goes (λ ns. A ((f, plain (t (nodes + f))) ∷ ns)) (show_name f ∷ us) (λ vs. sc (f ∷ vs))
   named_goes f h = record {
     inner = (tt, h.inner);
     to = λ ns vs agree scoped fresh x. (λ _. tt, h.to ((f, plain (t (nodes + f))) ∷ ns) (f ∷ vs) (agree_to_one f ns vs fresh.0.0 agree) scoped fresh.1 x);
@@ -219,7 +227,8 @@ module _ (g : Signature) (nodes : ℕ) (t : ℕ → MlType) (W : ℕ → Type 0)
       (named_goes f (pair_goes (body_goes r b) (ended_goes (hide_name f) tt e)))
 
   -- the first pattern of a match before what is matched
-  match_goes : {A : Names → Type 0} {sc : List ℕ → Bool} (w : Bool) (us : List Visit) (as_ : List (Arm (List Visit))) → Goes A (us ++ in_arms as_) sc → Goes A (in_match w us as_) sc
+  match_goes : {A : Names → Type 0} {sc : List ℕ → Bool} (w : Bool) (us : List Visit) (as_ : List (Arm (List Visit))) → Goes A (us ++ in_arms as_) sc
+      → Goes A (in_match w us as_) sc
   match_goes false us as_ h = h
   match_goes true us [] h = h
   match_goes true us (a ∷ as_) h =

@@ -89,17 +89,20 @@ module _ (g : Signature) (nodes : ℕ) (t u by : ℕ → MlType) where
   SameAt v = AllOf SameBinder (binders_at v)
 
   mutual
-    pattern_turn : (q : Pattern) (a : MlType) → AllOf SameBinder (bound_in q) → PatternIs g (annotation_of nodes t) q a → PatternIs g (annotation_of nodes u) q (put by a)
+    pattern_turn : (q : Pattern) (a : MlType) → AllOf SameBinder (bound_in q) → PatternIs g (annotation_of nodes t) q a
+        → PatternIs g (annotation_of nodes u) q (put by a)
     pattern_turn (pattern p f) a s h = pattern_form_turn f a s h
 
-    pattern_form_turn : (f : PatternForm) (a : MlType) → AllOf SameBinder (bound_in_form f) → PatternFormIs g (annotation_of nodes t) f a → PatternFormIs g (annotation_of nodes u) f (put by a)
+    pattern_form_turn : (f : PatternForm) (a : MlType) → AllOf SameBinder (bound_in_form f) → PatternFormIs g (annotation_of nodes t) f a
+        → PatternFormIs g (annotation_of nodes u) f (put by a)
     pattern_form_turn any a s h = tt
     pattern_form_turn (bind x) a s h = s.0 ∙ ap (put by) h
     pattern_form_turn nothing a s h = ap (put by) h
     pattern_form_turn (tuple_of qs) a s h = (put_all by h.0, ap (put by) h.1, patterns_turn qs h.0 s h.2)
     pattern_form_turn (build_of c p qs) a s h = (put_all by h.0, builds_turn c h.0 a h.1, patterns_turn qs h.0 s h.2)
 
-    patterns_turn : (qs : Patterns) (ts : MlTypes) → AllOf SameBinder (bound_in_all qs) → PatternsAre g (annotation_of nodes t) qs ts → PatternsAre g (annotation_of nodes u) qs (put_all by ts)
+    patterns_turn : (qs : Patterns) (ts : MlTypes) → AllOf SameBinder (bound_in_all qs) → PatternsAre g (annotation_of nodes t) qs ts
+        → PatternsAre g (annotation_of nodes u) qs (put_all by ts)
     patterns_turn no_patterns ts s h = ap (put_all by) h
     patterns_turn (more_patterns q qs) ts s h = (
       put by h.0,
@@ -116,17 +119,20 @@ module _ (g : Signature) (nodes : ℕ) (t u by : ℕ → MlType) where
   pub at_tree : (e : Tree) → AllOf Same (nodes_of e) → type_in (annotation_of nodes u) e ≡ put by (type_in (annotation_of nodes t) e)
   at_tree (tree i p f) h = root Same (tree i p f) h
 
-  at_trees : (es : Trees) → AllOf Same (numbers_in (fold_all numbering es)) → types_in (annotation_of nodes u) es ≡ put_all by (types_in (annotation_of nodes t) es)
+  at_trees : (es : Trees) → AllOf Same (numbers_in (fold_all numbering es))
+      → types_in (annotation_of nodes u) es ≡ put_all by (types_in (annotation_of nodes t) es)
   at_trees no_trees h = refl
   at_trees (more_trees e es) h =
       let more_of = numbers_in (fold_all numbering es) in
       ap₂ ml.more_types (at_tree e (all_left Same (nodes_of e) more_of h)) (at_trees es (all_right Same (nodes_of e) more_of h))
 
-  at_last : (e : Tree) (es : Trees) → AllOf Same (numbers_in (fold_all numbering (more_trees e es))) → last_type (annotation_of nodes u) e es ≡ put by (last_type (annotation_of nodes t) e es)
+  at_last : (e : Tree) (es : Trees) → AllOf Same (numbers_in (fold_all numbering (more_trees e es)))
+      → last_type (annotation_of nodes u) e es ≡ put by (last_type (annotation_of nodes t) e es)
   at_last e no_trees h = at_tree e (all_left Same (nodes_of e) [] h)
   at_last e (more_trees d es) h = at_last d es (all_right Same (nodes_of e) (numbers_in (fold_all numbering (more_trees d es))) h)
 
-  cases_fit : (cs : Cases) (from a : MlType) → AllOf Same (numbers_in_arms (fold_cases numbering cs)) → AllOf SameAt (in_arms (fold_cases visiting cs))
+  cases_fit : (cs : Cases) (from a : MlType) → AllOf Same (numbers_in_arms (fold_cases numbering cs))
+      → AllOf SameAt (in_arms (fold_cases visiting cs))
       → CasesFit g (annotation_of nodes t) cs from a → CasesFit g (annotation_of nodes u) cs (put by from) (put by a)
   cases_fit no_cases from a s v h = tt
   cases_fit (more_cases q e cs) from a s v h =
@@ -144,7 +150,8 @@ module _ (g : Signature) (nodes : ℕ) (t u by : ℕ → MlType) where
   none_turn : Turns (λ ns. Unit {0}) (λ ns. Unit {0}) [] []
   none_turn = record { turn = λ ns ms agree s v h. tt }
 
-  pair_turn : {A B C D : Names → Type 0} {ks ls : List ℕ} {us ws : List Visit} → Turns A B ks us → Turns C D ls ws → Turns (λ ns. A ns × C ns) (λ ns. B ns × D ns) (ks ++ ls) (us ++ ws)
+  pair_turn : {A B C D : Names → Type 0} {ks ls : List ℕ} {us ws : List Visit} → Turns A B ks us → Turns C D ls ws
+      → Turns (λ ns. A ns × C ns) (λ ns. B ns × D ns) (ks ++ ls) (us ++ ws)
   pair_turn {ks = ks} {ls = ls} {us = us} {ws = ws} a b = record {
     turn = λ ns ms agree s v h.
         (a.turn ns ms agree (all_left Same ks ls s) (all_left SameAt us ws v) h.0, b.turn ns ms agree (all_right Same ks ls s) (all_right SameAt us ws v) h.1);
@@ -156,7 +163,8 @@ module _ (g : Signature) (nodes : ℕ) (t u by : ℕ → MlType) where
     turn = λ ns ms agree s v h. let out = all.turn ns ms agree s v (h.0, (h.1, h.2)) in (out.0, out.1.0, out.1.1);
   }
 
-  at_one : (x y : ℕ) (ns ms : Names) (a b c : MlType) (w : Bool) → b ≡ put by a → Agree ns ms → IsUsedAt (if w then Some (plain a) else scheme_in ns y) c
+  at_one : (x y : ℕ) (ns ms : Names) (a b c : MlType) (w : Bool) → b ≡ put by a → Agree ns ms
+      → IsUsedAt (if w then Some (plain a) else scheme_in ns y) c
       → IsUsedAt (if w then Some (plain b) else scheme_in ms y) (put by c)
   at_one x y ns ms a b c true e agree h = ap (put by) h ∙ sym e
   at_one x y ns ms a b c false e agree h = agree y c h
@@ -164,7 +172,8 @@ module _ (g : Signature) (nodes : ℕ) (t u by : ℕ → MlType) where
   agree_one : (x : ℕ) (ns ms : Names) (a b : MlType) → b ≡ put by a → Agree ns ms → Agree ((x, plain a) ∷ ns) ((x, plain b) ∷ ms)
   agree_one x ns ms a b e agree y c h = at_one x y ns ms a b c (x == y) e agree h
 
-  agree_many : (xs : List ℕ) (ns ms : Names) → AllOf SameBinder xs → Agree ns ms → Agree (plain_names (annotation_of nodes t) xs ++ ns) (plain_names (annotation_of nodes u) xs ++ ms)
+  agree_many : (xs : List ℕ) (ns ms : Names) → AllOf SameBinder xs → Agree ns ms
+      → Agree (plain_names (annotation_of nodes t) xs ++ ns) (plain_names (annotation_of nodes u) xs ++ ms)
   agree_many [] ns ms s agree = agree
   agree_many (x ∷ xs) ns ms s agree =
       agree_one x (plain_names (annotation_of nodes t) xs ++ ns) (plain_names (annotation_of nodes u) xs ++ ms) (t (nodes + x)) (u (nodes + x)) s.0 (agree_many xs ns ms s.1 agree)
@@ -198,10 +207,12 @@ module _ (g : Signature) (nodes : ℕ) (t u by : ℕ → MlType) where
   only_of : (e : Tree) (i : ℕ) → AllOf Same (nodes_of e ++ i ∷ []) → type_in (annotation_of nodes u) e ≡ put by (type_in (annotation_of nodes t) e)
   only_of e i s = at_tree e (all_left Same (nodes_of e) (i ∷ []) s)
 
-  first_of : (d e : Tree) (i : ℕ) → AllOf Same ((nodes_of d ++ nodes_of e) ++ i ∷ []) → type_in (annotation_of nodes u) d ≡ put by (type_in (annotation_of nodes t) d)
+  first_of : (d e : Tree) (i : ℕ) → AllOf Same ((nodes_of d ++ nodes_of e) ++ i ∷ [])
+      → type_in (annotation_of nodes u) d ≡ put by (type_in (annotation_of nodes t) d)
   first_of d e i s = at_tree d (all_left Same (nodes_of d) (nodes_of e) (all_left Same (nodes_of d ++ nodes_of e) (i ∷ []) s))
 
-  second_of : (d e : Tree) (i : ℕ) → AllOf Same ((nodes_of d ++ nodes_of e) ++ i ∷ []) → type_in (annotation_of nodes u) e ≡ put by (type_in (annotation_of nodes t) e)
+  second_of : (d e : Tree) (i : ℕ) → AllOf Same ((nodes_of d ++ nodes_of e) ++ i ∷ [])
+      → type_in (annotation_of nodes u) e ≡ put by (type_in (annotation_of nodes t) e)
   second_of d e i s = at_tree e (all_right Same (nodes_of d) (nodes_of e) (all_left Same (nodes_of d ++ nodes_of e) (i ∷ []) s))
 
   abbrev Three : Tree → Tree → Tree → ℕ → Type 0
@@ -214,7 +225,8 @@ module _ (g : Signature) (nodes : ℕ) (t u by : ℕ → MlType) where
       let all = all_left Same (nodes_of c ++ (nodes_of d ++ nodes_of e)) (i ∷ []) s in let rest = all_right Same (nodes_of c) (nodes_of d ++ nodes_of e) all in
       (at_tree c (all_left Same (nodes_of c) (nodes_of d ++ nodes_of e) all), at_tree d (all_left Same (nodes_of d) (nodes_of e) rest), at_tree e (all_right Same (nodes_of d) (nodes_of e) rest))
 
-  row_of : (es : Trees) (i : ℕ) → AllOf Same (numbers_in (fold_all numbering es) ++ i ∷ []) → types_in (annotation_of nodes u) es ≡ put_all by (types_in (annotation_of nodes t) es)
+  row_of : (es : Trees) (i : ℕ) → AllOf Same (numbers_in (fold_all numbering es) ++ i ∷ [])
+      → types_in (annotation_of nodes u) es ≡ put_all by (types_in (annotation_of nodes t) es)
   row_of es i s = at_trees es (all_left Same (numbers_in (fold_all numbering es)) (i ∷ []) s)
 
   match_all : (w : Bool) (us : List Visit) (as_ : List (Arm (List Visit))) → AllOf SameAt (in_match w us as_) → AllOf SameAt (us ++ in_arms as_)
@@ -278,7 +290,8 @@ module _ (g : Signature) (nodes : ℕ) (t u by : ℕ → MlType) where
 
   -- ---- trees
 
-  with_rule : {A B : Names → Type 0} {ks : List ℕ} {us : List Visit} (i : ℕ) (p : Place) (f : Form) → nodes_of (tree i p f) ≡ ks ++ i ∷ [] → visits_of (tree i p f) ≡ around (tree i p f) us
+  with_rule : {A B : Names → Type 0} {ks : List ℕ} {us : List Visit} (i : ℕ) (p : Place) (f : Form) → nodes_of (tree i p f) ≡ ks ++ i ∷ []
+      → visits_of (tree i p f) ≡ around (tree i p f) us
       → Turns A B ks us → Turns (λ ns. (Every i → RuleIs g (annotation_of nodes t) ns f (t i)) × A ns) (λ ns. (Every i → RuleIs g (annotation_of nodes u) ns f (u i)) × B ns)
       (nodes_of (tree i p f)) (visits_of (tree i p f))
   with_rule {ks = ks} {us = us} i p f listed visited a = record {
@@ -291,7 +304,8 @@ module _ (g : Signature) (nodes : ℕ) (t u by : ℕ → MlType) where
   abbrev pub TreeTurns : Tree → Type 0
   TreeTurns e = Turns (λ ns. TreeIs g (annotation_of nodes t) Every ns e) (λ ns. TreeIs g (annotation_of nodes u) Every ns e) (nodes_of e) (visits_of e)
 
-  function_is : (q : Pattern) (b : Tree) (j : ℕ) → Same j → AllOf Same (nodes_of b) → AllOf SameBinder (bound_in q) → FunctionIs g (annotation_of nodes t) q b (t j)
+  function_is : (q : Pattern) (b : Tree) (j : ℕ) → Same j → AllOf Same (nodes_of b) → AllOf SameBinder (bound_in q)
+      → FunctionIs g (annotation_of nodes t) q b (t j)
       → FunctionIs g (annotation_of nodes u) q b (u j)
   function_is q b j o s v h = (put by h.0, o ∙ ap (put by) h.1 ∙ ap (λ (a : MlType). ml.arrow (put by h.0) a) (sym (at_tree b s)), pattern_turn q h.0 v h.2)
 
@@ -321,7 +335,8 @@ module _ (g : Signature) (nodes : ℕ) (t u by : ℕ → MlType) where
             (out.0.0, out.0.1, out.1);
       }
 
-  match_turn : {A B : Names → Type 0} {ks : List ℕ} (w : Bool) (us : List Visit) (as_ : List (Arm (List Visit))) → Turns A B ks (us ++ in_arms as_) → Turns A B ks (in_match w us as_)
+  match_turn : {A B : Names → Type 0} {ks : List ℕ} (w : Bool) (us : List Visit) (as_ : List (Arm (List Visit))) → Turns A B ks (us ++ in_arms as_)
+      → Turns A B ks (in_match w us as_)
   match_turn w us as_ a = record { turn = λ ns ms agree s v h. a.turn ns ms agree s (match_all w us as_ v) h }
 
   mutual

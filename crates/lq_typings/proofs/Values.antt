@@ -102,7 +102,8 @@ mutual
   within_more fixed more_fixed (ml.named d ts) f h = all_within_more fixed more_fixed ts f h
   within_more fixed more_fixed (ml.map_of a) f h = within_more fixed more_fixed a f h
 
-  all_within_more : (fixed more_fixed : List ℕ) (ts : MlTypes) → ((i : ℕ) → IsIn fixed i → IsIn more_fixed i) → AreWithin fixed ts → AreWithin more_fixed ts
+  all_within_more : (fixed more_fixed : List ℕ) (ts : MlTypes) → ((i : ℕ) → IsIn fixed i → IsIn more_fixed i) → AreWithin fixed ts
+      → AreWithin more_fixed ts
   all_within_more fixed more_fixed ml.no_types f h = tt
   all_within_more fixed more_fixed (ml.more_types t ts) f h = (within_more fixed more_fixed t f h.0, all_within_more fixed more_fixed ts f h.1)
 

@@ -13,7 +13,8 @@ abbrev pub NodesAre : Signature → Annotation → (ℕ → Type 0) → Names �
 NodesAre g n wanted ns (type_of d) = Unit {0}
 NodesAre g n wanted ns (let_of q e) = TreeIs g n wanted ns e
 NodesAre g n wanted ns (let_rec_of f r) =
-    (wanted r.id → FunctionIs g n r.parameter r.body (n.nodes r.id)) × TreeIs g n wanted (plain_names n (bound_in r.parameter) ++ (f, plain (n.binders f)) ∷ ns) r.body
+    (wanted r.id → FunctionIs g n r.parameter r.body (n.nodes r.id))
+    × TreeIs g n wanted (plain_names n (bound_in r.parameter) ++ (f, plain (n.binders f)) ∷ ns) r.body
 
 -- items obey the rules, each under the names of those before it, and something holds under the names that they leave
 abbrev pub After : Signature → Annotation → Names → List ItemTree → (Names → Type 0) → Type 0

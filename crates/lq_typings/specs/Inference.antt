@@ -45,7 +45,8 @@ pub data Answer : Type 0 where
 -- A definition is weak where there is a principal annotation, and a type is too large where no definition is weak.
 abbrev pub IsInference : Scoping → Answer → Type 0
 IsInference s (typed types) =
-    IsPrincipalAnnotation s types × (first_weak types s.items ≡ None) × (first_past types (placed_in (visits_of_items s.items)) ≡ None) × All (IsNumbered (node_count s) types) s.items
+    IsPrincipalAnnotation s types × (first_weak types s.items ≡ None) × (first_past types (placed_in (visits_of_items s.items)) ≡ None)
+    × All (IsNumbered (node_count s) types) s.items
 IsInference s (ill_typed p) = IsIllTyped s p
 IsInference s (weak p) = (types : ℕ → MlType) × IsPrincipalAnnotation s types × (first_weak types s.items ≡ Some p)
 IsInference s (past p n) =

@@ -10,7 +10,9 @@ use Rattle.lq_typings.specs.Principal.{node_count}
 
 -- the same types at the nodes and binders of an item
 abbrev pub AreSameIn : ℕ → (ℕ → MlType) → (ℕ → MlType) → ItemTree → Type 0
-AreSameIn nodes types others i = All (λ k. types k ≡ others k) (nodes_of_form i.form) × All (λ x. types (nodes + x) ≡ others (nodes + x)) (binders_in (visits_of_item i))
+AreSameIn nodes types others i =
+    All (λ k. types k ≡ others k) (nodes_of_form i.form)
+    × All (λ x. types (nodes + x) ≡ others (nodes + x)) (binders_in (visits_of_item i))
 
 -- the same answer; of annotations what they say of the program counts
 abbrev pub AreSame : Scoping → Answer → Answer → Type 0

@@ -28,7 +28,8 @@ pub data IsFirstPlace (s : Scoping) (place : Place) : Type 0 where
       → placed_in (visits_of_form i.form) ≡ us ++ (k, place) ∷ ws → (types : ℕ → MlType) → HoldAt s before i (λ j. j < k) types
       → ((others : ℕ → MlType) → HoldAt s before i (λ j. j < suc k) others → ⊥) → IsFirstPlace s place
   -- the item itself: the rules of the items before and of all its nodes can, but not with what ties its binder to its type
-  item : (before rest : List ItemTree) (i : ItemTree) → s.items ≡ before ++ i ∷ rest → i.place ≡ place → (types : ℕ → MlType) → HoldAt s before i Every types
+  item : (before rest : List ItemTree) (i : ItemTree) → s.items ≡ before ++ i ∷ rest → i.place ≡ place → (types : ℕ → MlType)
+      → HoldAt s before i Every types
       → ((others : ℕ → MlType) → HoldThrough s (before ++ i ∷ []) others → ⊥) → IsFirstPlace s place
 
 abbrev pub IllTypedPlacesAreFirst : Type 0

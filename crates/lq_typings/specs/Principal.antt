@@ -32,7 +32,8 @@ BecomeBy by types others ks = All (λ k. others k ≡ put by (types k)) ks
 -- an item's nodes and its binders have types of their own: one replacement of variables serves all of them
 abbrev pub IsItemInstance : ℕ → (ℕ → MlType) → (ℕ → MlType) → ItemTree → Type 0
 IsItemInstance nodes types others i =
-    (by : ℕ → MlType) × BecomeBy by types others (nodes_of_form i.form) × BecomeBy by (λ x. types (nodes + x)) (λ x. others (nodes + x)) (binders_in (visits_of_item i))
+    (by : ℕ → MlType) × BecomeBy by types others (nodes_of_form i.form)
+    × BecomeBy by (λ x. types (nodes + x)) (λ x. others (nodes + x)) (binders_in (visits_of_item i))
 
 -- the others are an instance of the types
 abbrev pub IsInstance : Scoping → (ℕ → MlType) → (ℕ → MlType) → Type 0
