@@ -1,0 +1,5 @@
+mod Fields
+mod Looking
+mod Lookups
+mod Rows
+mod Working

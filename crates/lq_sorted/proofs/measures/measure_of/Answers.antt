@@ -1,0 +1,20 @@
+use Rattle.std.proofs.Common.{◌≡◌, ℕ, List, [], map, ap, ◌∙◌, unwrap_or}
+use Rattle.lq_scoped.specs.Views.{name_number}
+use Rattle.lq_tree.specs.MeasureTrees.{equation_view}
+use Rattle.lq_sorts.specs.Lookups.{first_in}
+use Rattle.lq_sorted.specs.Filing.{filed_view}
+use Rattle.lq_sorted.specs.Making.{filed, term_at}
+use Rattle.lq_sorted.specs.Sorted.{Measure, Term}
+use Rattle.lq_sorted.specs.Views.{measured_view, seen}
+use Rattle.lq_sorted.proofs.measures.measure_of.Goals as goal
+
+pub returns : goal.returns
+returns c = λ ds is.
+    let known = seen measured_view c.args.measures.now in
+    let m = c.args.measure.now in
+    let with_terms : List Term → Measure = λ ts. record { name = m.name.0; datatype = m.datatype.0; terms = ts } in
+    let names = ap (map name_number) c.deref-2.ensures.value ∙ c.in_ok-constructors.ensures ∙ ap (λ f. unwrap_or (f m.datatype.0) []) is in
+    let equations = c.in_ok-equations.ensures ∙ ap (λ es. first_in (filed (map equation_view es))) c.deref.ensures.value in
+    ap with_terms
+    (c.in_ok-terms_at.ensures ∙ ap (λ es. map (term_at known es) (map name_number c.deref-2.result.now)) equations
+    ∙ ap (map (term_at known (first_in (filed (map equation_view m.equations.items))))) names)
