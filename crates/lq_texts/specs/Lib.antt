@@ -1,0 +1,3 @@
+-- The definitions of what the three texts resolve to.
+pub mod Resolution
+pub mod Told
