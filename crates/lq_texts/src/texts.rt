@@ -1,9 +1,10 @@
 // A program, measures and qualifiers, and what they resolve to.
-ghost use Rattle.std.specs.Prelude.{◌≡◌, ◌⊎◌, [], Some, Err, IfOk, IfErr};
+ghost use Rattle.std.specs.Prelude.{◌≡◌, ◌⊎◌, true, [], Some, Err, IfOk, IfErr};
 ghost use Rattle.lq_scope.specs.Complaints.{Complaint as Told};
 ghost use Rattle.lq_scope.specs.Complaints.{least};
 ghost use Rattle.lq_scope.specs.Uses.{of_program};
 ghost use Rattle.lq_scoped.specs.Whole.{scoped_view};
+ghost use Rattle.lq_resolved.specs.Parameters.{have_places};
 ghost use Rattle.lq_resolved.specs.Resolution.{scoping_of};
 ghost use Rattle.lq_tree.specs.Texts.{measures_view, program_view, quals_view};
 ghost use Rattle.lq_texts.specs.Resolution.{IsResolution, Resolution, in_program, resolved, sources};
@@ -88,6 +89,7 @@ fn program_bound(
     program: &Program,
     names: &NameTable,
 ) -> Result<Scoped, ResolveError>
+    requires { have_places (program_view program.now) ≡ true }
     ensures bound { IfOk result (λ s. (of_program names.now (program_view program.now) ≡ [])
         × (scoped_view s ≡ scoping_of names.now (program_view program.now))) }
     ensures told { IfErr result (λ e. (e ≡ Memory) ⊎ ((c : Told) × (error_view e ≡ Some (in_program c))
@@ -111,6 +113,8 @@ pub fn resolve(
     quals: &Quals,
     names: &NameTable,
 ) -> Result<ScopedTexts, ResolveError>
+    // The program's patterns stand where a text can have them, as those of every parsed program do.
+    requires { have_places (program_view program.now) ≡ true }
     // Nothing is wrong with texts that are resolved, and their names are bound.
     ensures resolved { IfOk result (λ t. IsResolution (sources names.now (program_view program.now)
         (measures_view measures.now) (quals_view quals.now)) (resolved (texts_view t))) }
