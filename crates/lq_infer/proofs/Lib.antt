@@ -1,0 +1,10 @@
+-- Lemmas.
+pub mod Naming
+pub mod Reading
+pub mod Standing
+pub mod Opens
+pub mod Using
+pub mod Going
+pub mod Stepping
+pub mod Fronts
+pub mod Systems

@@ -1,0 +1,44 @@
+-- A copy of a definition's type for a use of it, as nodes and one equation.
+use Rattle.std.specs.Prelude.{◌≡◌, ℕ, ◌<◌, ◌≤◌, Bool, true, false, List, [], ◌∷◌, ◌++◌, All, slice_index_or}
+use Rattle.lq_unify.specs.declared.arena.Equation.{Equation}
+use Rattle.lq_unify.specs.Classes.{IsKnown}
+use Rattle.lq_unify.specs.Copying.{IsCopy}
+use Rattle.lq_unify.specs.Opens.{IsIn, AreOpens}
+use Rattle.lq_rules.specs.declared.system.System.{System}
+use Rattle.lq_rules.specs.Adding.{IsSystem, count_of, forms_of}
+
+-- no class is marked
+abbrev pub AreClear : List Bool → Type 0
+AreClear weak = (v : ℕ) → slice_index_or weak v false ≡ false
+
+-- these classes are marked, and no others
+pub record AreMarked (weak : List Bool) (classes : List ℕ) : Type 0 where
+  pub all_ : All (λ v. slice_index_or weak v false ≡ true) classes
+  pub only : (v : ℕ) → slice_index_or weak v false ≡ true → IsIn classes v
+
+-- More nodes are a copy of the definition's type that leaves the open classes that some slots reach, and one more equation says that a
+-- node has its type. What is open was asked before the copy was made, of classes that the same equations make.
+pub record AddsCopy (old new : System) (fixed : List ℕ) (definition node : ℕ) : Type 0 where
+  pub system : IsSystem new
+  pub longer : count_of old ≤ count_of new
+  pub definition_in : definition < count_of old
+  pub node_in : node < count_of old
+  pub fixed_in : All (λ i. i < count_of old) fixed
+  pub used : ℕ
+  pub inside : used < count_of new
+  pub equations_are : new.equations.items ≡ old.equations.items ++ (record { left = node; right = used }) ∷ []
+  pub open_ : List ℕ
+  pub weak : List Bool
+  pub marked : AreMarked weak open_
+  -- the classes when it was asked what is open
+  pub parents_before : List ℕ
+  pub shapes_before : List ℕ
+  pub found_before : List Equation
+  pub known_before : IsKnown (forms_of old) (count_of old) parents_before shapes_before found_before old.equations.items
+  pub opens : AreOpens (forms_of old) parents_before shapes_before fixed open_
+  -- the classes when the copy was made
+  pub parents : List ℕ
+  pub shapes : List ℕ
+  pub found : List Equation
+  pub known : IsKnown (forms_of old) (count_of old) parents shapes found old.equations.items
+  pub copy : IsCopy (forms_of old) (forms_of new) (count_of old) (count_of new) parents shapes weak definition used

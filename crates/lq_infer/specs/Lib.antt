@@ -1,0 +1,6 @@
+-- Definitions that the contracts cite.
+pub mod Uses
+pub mod Owning
+pub mod Defining
+pub mod Copying
+pub mod Gathering

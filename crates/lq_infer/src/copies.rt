@@ -1,0 +1,90 @@
+// Copies of the types of generalised definitions, for their uses.
+ghost use Rattle.std.specs.Prelude.{◌≡◌, ℕ, ◌+◌, ◌<◌, ◌≤◌, ◌^◌, All, length, reverse, slice_index_or, IfOk, OnOk, true, false};
+ghost use Rattle.lq_unify.specs.Knowing.{Knows};
+ghost use Rattle.lq_unify.specs.Opens.{IsIn};
+ghost use Rattle.lq_rules.specs.Adding.{IsSystem, count_of};
+ghost use Rattle.lq_infer.specs.Owning.{binder_slots};
+ghost use Rattle.lq_infer.specs.Copying.{AreClear, AreMarked, AddsCopy};
+
+use lq_rules::System;
+use lq_unify::{Equation, Solver};
+use std::alloc::{AllocError, Global};
+
+/// The slots of binders, the last first.
+pub fn slots_of(alloc: Global, nodes: u32, binders: &[u32]) -> Result<Vec<u32>, AllocError>
+    requires { All (λ p. nodes + p < 2 ^ 32) binders.now }
+    ensures { IfOk result (λ all. all.items ≡ binder_slots nodes (reverse binders.now)) }
+{
+    let mut all = Vec::new(alloc);
+    for binder in binders {
+        all.push(nodes + *binder)?;
+    }
+    all.reverse();
+    Ok(all)
+}
+
+// A table of so many, or more.
+fn widen(weak: &mut Vec<bool>, count: usize) -> Result<(), AllocError>
+    ensures long { OnOk result (count ≤ length weak.new.items) }
+    ensures clear { OnOk result (AreClear weak.old.items → AreClear weak.new.items) }
+{
+    for _ in weak.len()..count {
+        weak.push(false)?;
+    }
+    Ok(())
+}
+
+// These classes are marked.
+fn mark(weak: &mut [bool], classes: &[u32])
+    requires inside { All (λ r. r < length weak.old) classes.now }
+    requires clear { AreClear weak.old }
+    ensures marked { AreMarked weak.new classes.now }
+{
+    for class in classes {
+        weak[*class as usize] = true;
+    }
+}
+
+// These classes aren't marked any more.
+fn unmark(weak: &mut [bool], classes: &[u32])
+    requires inside { All (λ r. r < length weak.old) classes.now }
+    requires marked { AreMarked weak.old classes.now }
+    ensures clear { AreClear weak.new }
+{
+    for class in classes {
+        weak[*class as usize] = false;
+    }
+}
+
+/// A node has the type of a copy of a definition's, with other types for its variables, but not for those that these slots' types have:
+/// the classes that are open there are marked while it is copied.
+pub fn add_copy(
+    alloc: Global,
+    system: &mut System,
+    solver: &mut Solver,
+    weak: &mut Vec<bool>,
+    fixed: &[u32],
+    definition: u32,
+    node: u32,
+) -> Result<(), AllocError>
+    requires system { IsSystem system.old }
+    requires knows { Knows system.old.arena system.old.equations.items solver.old }
+    requires clear { AreClear weak.old.items }
+    requires fixed { All (λ i. i < count_of system.old) fixed.now }
+    requires definition { definition < count_of system.old }
+    requires node { node < count_of system.old }
+    ensures clear { OnOk result (AreClear weak.new.items) }
+    ensures knows { OnOk result (Knows system.new.arena system.old.equations.items solver.new) }
+    ensures copy { OnOk result (AddsCopy system.old system.new fixed.now definition node) }
+{
+    let open = solver.open_classes(alloc, &system.arena, fixed)?;
+    widen(weak, system.arena.nodes.len())?;
+    mark(weak, &open);
+    let used = solver.copy(alloc, &mut system.arena, weak, definition)?;
+    unmark(weak, &open);
+    system.equations.push(Equation {
+        left: node,
+        right: used,
+    })?;
+    Ok(())
+}

@@ -1,0 +1,123 @@
+// The definitions that a walk has left.
+ghost use Rattle.std.specs.Prelude.{◌≡◌, ℕ, ◌+◌, ◌<◌, ◌≤◌, List, None, map, length, slice_index_or, IfOk, OnOk};
+ghost use Rattle.std.specs.Option.{option_map};
+ghost use Rattle.lq_name.specs.declared.name.Binder.{Binder};
+ghost use Rattle.lq_tree.specs.Items.{item_form_view};
+ghost use Rattle.lq_tree.specs.TreeView.{tree_view};
+ghost use Rattle.lq_walk.specs.Pending.{visit_view};
+ghost use Rattle.lq_infer.specs.Defining.{HasKnown, use_view};
+ghost use Rattle.lq_infer.specs.Uses.{Known, behind, behind_form, none_known, use_at, use_at_tree, with_general, with_name, with_plain};
+
+use lq_tree::{Binder, Expr};
+use lq_walk::{Leaf, Shape, Visit, shape_of};
+use std::alloc::{AllocError, Global};
+
+/// The definitions so far: of each binder, where it is generalised, the number of definitions before it that aren't; and the binders of
+/// those, in their order.
+#[derive(Drop)]
+pub struct Definitions {
+    pub general: Vec<Option<usize>>,
+    pub plain: Vec<u32>,
+}
+
+/// A use of a generalised definition: its node, the definition's binder, and how many definitions before it aren't generalised.
+#[derive(Clone, Copy)]
+pub struct Use {
+    pub node: u32,
+    pub binder: u32,
+    pub before: usize,
+}
+
+// A table of so many, or more.
+fn widen(table: &mut Vec<Option<usize>>, count: usize) -> Result<(), AllocError>
+    ensures long { OnOk result (count ≤ length table.new.items) }
+    ensures same { OnOk result ((i : ℕ) → slice_index_or table.new.items i None
+        ≡ slice_index_or table.old.items i None) }
+{
+    for _ in table.len()..count {
+        table.push(None)?;
+    }
+    Ok(())
+}
+
+impl Definitions {
+    /// None.
+    pub fn new(alloc: Global) -> Definitions
+        ensures { HasKnown result none_known }
+    {
+        Definitions {
+            general: Vec::new(alloc),
+            plain: Vec::new(alloc),
+        }
+    }
+
+    // The number that a generalised binder has.
+    fn count_before(&self, binder: u32) -> Option<usize>
+        ensures { result ≡ slice_index_or self.now.general.items binder None }
+    {
+        let at = binder as usize;
+        if at < self.general.len() {
+            self.general[at]
+        } else {
+            None
+        }
+    }
+
+    // The use that a node is.
+    fn use_in(&self, expr: &Expr<Binder>) -> Option<Use>
+        ensures { (k : Known) → HasKnown self.now k → option_map (use_view self.now.plain.items) result
+            ≡ use_at_tree k (tree_view Binder (λ b. b.0) expr.now) }
+    {
+        match shape_of(&expr.node) {
+            Shape::Leaf(Leaf::Use(x)) => match self.count_before(x.0) {
+                Some(before) => Some(Use {
+                    node: expr.id,
+                    binder: x.0,
+                    before,
+                }),
+                None => None,
+            },
+            _ => None,
+        }
+    }
+
+    /// The use of a generalised definition that is left here, if it is one.
+    pub fn use_of(&self, visit: Visit<'_, Binder>) -> Option<Use>
+        ensures { (k : Known) → HasKnown self.now k → option_map (use_view self.now.plain.items) result
+            ≡ use_at k (visit_view Binder (λ b. b.0) visit.entry) }
+    {
+        match visit {
+            Visit::Leave(expr) => self.use_in(expr),
+            _ => None,
+        }
+    }
+
+    // A binder is generalised from here on.
+    fn add_general(&mut self, binder: u32) -> Result<(), AllocError>
+        ensures { OnOk result ((k : Known) → HasKnown self.old k → HasKnown self.new (with_general k binder)) }
+    {
+        let at = binder as usize;
+        widen(&mut self.general, at + 1)?;
+        self.general[at] = Some(self.plain.len());
+        Ok(())
+    }
+
+    // A binder isn't generalised.
+    fn add_plain(&mut self, binder: u32) -> Result<(), AllocError>
+        ensures { OnOk result ((k : Known) → HasKnown self.old k → HasKnown self.new (with_plain k binder)) }
+    {
+        self.plain.push(binder)?;
+        Ok(())
+    }
+
+    /// A binder is that of a definition, by a value or by another expression.
+    pub fn add_name(&mut self, binder: u32, value: bool) -> Result<(), AllocError>
+        ensures { OnOk result ((k : Known) → HasKnown self.old k → HasKnown self.new (with_name k binder value)) }
+    {
+        if value {
+            self.add_general(binder)
+        } else {
+            self.add_plain(binder)
+        }
+    }
+}

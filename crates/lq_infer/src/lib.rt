@@ -1,0 +1,10 @@
+//! The equations of a program's types, with copies of generalised definitions for their uses.
+#![tactic(auto)]
+
+mod copies;
+mod definitions;
+mod laws;
+
+pub use copies::{add_copy, slots_of};
+pub use definitions::{Definitions, Use};
+pub use laws::steps_say_the_rules;
