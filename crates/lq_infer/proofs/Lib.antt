@@ -8,3 +8,5 @@ pub mod Going
 pub mod Stepping
 pub mod Fronts
 pub mod Systems
+pub mod Folding
+pub mod Pendings

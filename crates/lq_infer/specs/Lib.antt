@@ -1,6 +1,7 @@
 -- Definitions that the contracts cite.
 pub mod Uses
 pub mod Owning
+pub mod Pending
 pub mod Defining
 pub mod Copying
 pub mod Gathering

@@ -8,7 +8,8 @@ ghost use Rattle.lq_walk.specs.Pending.{visit_view};
 ghost use Rattle.lq_infer.specs.Defining.{HasKnown, use_view};
 ghost use Rattle.lq_infer.specs.Uses.{Known, behind, behind_form, none_known, use_at, use_at_tree, with_general, with_name, with_plain};
 
-use lq_tree::{Binder, Expr};
+use crate::values::is_value;
+use lq_tree::{Binder, Expr, ItemNode, PatNode};
 use lq_walk::{Leaf, Shape, Visit, shape_of};
 use std::alloc::{AllocError, Global};
 
@@ -110,8 +111,8 @@ impl Definitions {
         Ok(())
     }
 
-    /// A binder is that of a definition, by a value or by another expression.
-    pub fn add_name(&mut self, binder: u32, value: bool) -> Result<(), AllocError>
+    // A binder is that of a definition, by a value or by another expression.
+    fn add_name(&mut self, binder: u32, value: bool) -> Result<(), AllocError>
         ensures { OnOk result ((k : Known) → HasKnown self.old k → HasKnown self.new (with_name k binder value)) }
     {
         if value {
@@ -119,5 +120,35 @@ impl Definitions {
         } else {
             self.add_plain(binder)
         }
+    }
+
+    // The definitions with that of an item.
+    fn add_item(&mut self, alloc: Global, item: &ItemNode<Binder>) -> Result<(), AllocError>
+        ensures { OnOk result ((k : Known) → HasKnown self.old k
+            → HasKnown self.new (behind_form k (item_form_view Binder (λ b. b.0) item.now))) }
+    {
+        match item {
+            ItemNode::Type(_) => {}
+            ItemNode::Let(pattern, bound) => {
+                if let PatNode::Bind(x) = &pattern.node {
+                    let value = is_value(alloc, bound)?;
+                    self.add_name(x.0, value)?;
+                }
+            }
+            ItemNode::LetRec(name, _) => self.add_general(name.0)?,
+        }
+        Ok(())
+    }
+
+    /// What is known behind a visit.
+    pub fn leave(&mut self, alloc: Global, visit: Visit<'_, Binder>) -> Result<(), AllocError>
+        ensures { OnOk result ((k : Known) → HasKnown self.old k
+            → HasKnown self.new (behind k (visit_view Binder (λ b. b.0) visit.entry))) }
+    {
+        match visit {
+            Visit::LeaveItem(item) => self.add_item(alloc, &item.node)?,
+            _ => {}
+        }
+        Ok(())
     }
 }
