@@ -10,7 +10,7 @@ use Rattle.lq_walk.specs.Fold.{Algebra, fold}
 use Rattle.lq_walk.specs.Shape as shape
 use Rattle.lq_walk.specs.Shape.{Leaf, Row, Shape, shape_of}
 use Rattle.lq_walk.specs.Visits.{Visit, leave, visiting, visits_of, in_row}
-use Rattle.lq_infer.specs.Uses.{valuing, all_values, is_value}
+use Rattle.lq_typings.specs.Uses.{valuing, all_values, is_value}
 use Rattle.lq_infer.proofs.Folding.{by_shape, form_folded}
 
 tree_seen : (e : Expr Binder) → tree_view Binder (λ b. b.0) e ≡ tree (out-Expr Binder e).id (out-Expr Binder e).place (form_view Binder (λ b. b.0) (out-Expr Binder e).node)

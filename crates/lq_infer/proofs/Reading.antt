@@ -14,7 +14,7 @@ use Rattle.lq_rules.specs.declared.system.System.{System}
 use Rattle.lq_rules.specs.Solutions.{made, each}
 use Rattle.lq_rules.specs.Adding.{IsRight, IsSystem, forms_of}
 use Rattle.lq_rules.specs.Solved.{read, read_all, written, written_all, Solves, IsPrincipal}
-use Rattle.lq_infer.specs.Uses.{Each, EachIn, Leaves}
+use Rattle.lq_typings.specs.Uses.{Each, EachIn, Leaves}
 
 count_each : (types : ℕ → MlType) (ps : List ℕ) → count_types (each types ps) ≡ length ps
 count_each types [] = refl

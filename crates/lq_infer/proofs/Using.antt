@@ -27,7 +27,7 @@ use Rattle.lq_rules.specs.Solutions.{made, each, Fits, Meets}
 use Rattle.lq_rules.specs.Adding.{IsSystem, Agree, count_of, forms_of}
 use Rattle.lq_rules.specs.Solved.{read, written, Solves}
 use Rattle.lq_rules.proofs.Growing.{some_inside, parts_inside}
-use Rattle.lq_infer.specs.Uses.{Leaves}
+use Rattle.lq_typings.specs.Uses.{Leaves}
 use Rattle.lq_infer.specs.Copying.{AddsCopy}
 use Rattle.lq_infer.proofs.Naming.{all_left, all_right}
 use Rattle.lq_infer.proofs.Reading.{read_written, read_replaced, reads, writes, each_map, each_written}

@@ -3,7 +3,7 @@ use Rattle.std.specs.Prelude.{◌≡◌, ℕ, ◌≤◌, List, Some, None, rever
 use Rattle.std.specs.Option.{option_map}
 use Rattle.lq_infer.specs.declared.definitions.Definitions.{Definitions}
 use Rattle.lq_infer.specs.declared.definitions.Use.{Use}
-use Rattle.lq_infer.specs.Uses.{Known, GeneralUse, before_in}
+use Rattle.lq_typings.specs.Uses.{Known, GeneralUse, before_in}
 
 -- the first so many of a list, the last of them first
 abbrev pub first_of : List ℕ → ℕ → List ℕ

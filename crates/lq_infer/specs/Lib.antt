@@ -1,5 +1,4 @@
 -- Definitions that the contracts cite.
-pub mod Uses
 pub mod Owning
 pub mod Pending
 pub mod Defining

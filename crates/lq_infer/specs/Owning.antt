@@ -10,7 +10,7 @@ use Rattle.lq_walk.specs.Shape as shape
 use Rattle.lq_walk.specs.Shape.{Leaf, Shape, shape_of}
 use Rattle.lq_walk.specs.Visits.{Visit, enter_item, leave_item, enter, leave, leave_function, declare, show, hide, show_name, hide_name}
 use Rattle.lq_rules.specs.Rows.{number_of}
-use Rattle.lq_infer.specs.Uses.{Known, GeneralUse, none_known, behind, use_at}
+use Rattle.lq_typings.specs.Uses.{Known, GeneralUse, none_known, behind, use_at}
 
 -- the slots of binders
 abbrev pub binder_slots : ℕ → List ℕ → List ℕ

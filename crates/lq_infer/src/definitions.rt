@@ -6,7 +6,7 @@ ghost use Rattle.lq_tree.specs.Items.{item_form_view};
 ghost use Rattle.lq_tree.specs.TreeView.{tree_view};
 ghost use Rattle.lq_walk.specs.Pending.{visit_view};
 ghost use Rattle.lq_infer.specs.Defining.{HasKnown, use_view};
-ghost use Rattle.lq_infer.specs.Uses.{Known, behind, behind_form, none_known, use_at, use_at_tree, with_general, with_name, with_plain};
+ghost use Rattle.lq_typings.specs.Uses.{Known, behind, behind_form, none_known, use_at, use_at_tree, with_general, with_name, with_plain};
 
 use crate::values::is_value;
 use lq_tree::{Binder, Expr, ItemNode, PatNode};

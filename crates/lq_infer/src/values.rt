@@ -5,7 +5,7 @@ ghost use Rattle.lq_tree.specs.TreeView.{tree_view, trees_view};
 ghost use Rattle.lq_walk.specs.Shape.{listed};
 ghost use Rattle.lq_walk.specs.View.{leaf_view, row_view};
 ghost use Rattle.lq_infer.specs.Pending.{pending_trees};
-ghost use Rattle.lq_infer.specs.Uses.{is_value, is_value_leaf, is_value_row};
+ghost use Rattle.lq_typings.specs.Uses.{is_value, is_value_leaf, is_value_row};
 
 use lq_tree::{Binder, Expr, Exprs};
 use lq_walk::{Leaf, Row, Shape, shape_of};

@@ -7,7 +7,7 @@ use Rattle.lq_tree.specs.TreeView.{trees_view, form_view}
 use Rattle.lq_walk.specs.Shape.{listed}
 use Rattle.lq_walk.specs.View.{row_view}
 use Rattle.lq_infer.specs.Pending.{pending_view, pending_trees}
-use Rattle.lq_infer.specs.Uses.{is_value, all_values}
+use Rattle.lq_typings.specs.Uses.{is_value, all_values}
 use Rattle.lq_infer.proofs.Pendings.{no_value, value_left, parts_left, fewer, fewer_parts, row_longer}
 use Rattle.lq_infer.proofs.values.is_value.Goals as goal
 

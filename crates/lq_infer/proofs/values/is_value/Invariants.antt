@@ -3,7 +3,7 @@ use Rattle.lq_name.specs.declared.name.Binder.{Binder}
 use Rattle.lq_tree.specs.TreeView.{tree_view}
 use Rattle.lq_walk.specs.Visits.{visits_of, in_row}
 use Rattle.lq_infer.specs.Pending.{pending_trees}
-use Rattle.lq_infer.specs.Uses.{is_value, all_values}
+use Rattle.lq_typings.specs.Uses.{is_value, all_values}
 use Rattle.lq_infer.proofs.values.is_value.Given as goal
 
 abbrev pub invariant-loop-part : goal.invariant-loop-part

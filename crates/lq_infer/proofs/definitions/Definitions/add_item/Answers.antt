@@ -2,7 +2,7 @@ use Rattle.std.proofs.Common.{sym, subst}
 use Rattle.lq_name.specs.declared.name.Binder.{Binder}
 use Rattle.lq_tree.specs.Items.{item_form_view}
 use Rattle.lq_infer.specs.Defining.{HasKnown}
-use Rattle.lq_infer.specs.Uses.{behind_form}
+use Rattle.lq_typings.specs.Uses.{behind_form}
 use Rattle.lq_infer.proofs.definitions.Definitions.add_item.Goals as goal
 
 pub returns-in_ok-add_general-in-LetRec : goal.returns-in_ok-add_general-in-LetRec

@@ -1,6 +1,6 @@
 use Rattle.std.proofs.Common.{sym, subst, OnOk}
 use Rattle.lq_infer.specs.Defining.{HasKnown}
-use Rattle.lq_infer.specs.Uses.{Known, with_name}
+use Rattle.lq_typings.specs.Uses.{Known, with_name}
 use Rattle.lq_infer.proofs.definitions.Definitions.add_name.Goals as goal
 
 pub returns-then-value : goal.returns-then-value

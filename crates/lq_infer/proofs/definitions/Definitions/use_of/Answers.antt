@@ -1,7 +1,7 @@
 use Rattle.std.proofs.Common.{sym, ap, ◌∙◌}
 use Rattle.lq_name.specs.declared.name.Binder.{Binder}
 use Rattle.lq_walk.specs.Pending.{visit_view}
-use Rattle.lq_infer.specs.Uses.{use_at}
+use Rattle.lq_typings.specs.Uses.{use_at}
 use Rattle.lq_infer.proofs.definitions.Definitions.use_of.Goals as goal
 
 pub returns-in-Leave : goal.returns-in-Leave
