@@ -1,0 +1,52 @@
+use Rattle.std.proofs.Common.{◌≡◌, ◌∙◌, refl, sym, subst}
+use Rattle.std.proofs.lemmas.Result.{err_from_is_err_and}
+use Rattle.lq_combine.specs.TreeView.{multiplier_items, multiplier_views}
+use Rattle.lq_diff.specs.Table.{table_point, table_rows}
+use Rattle.lq_case.specs.RowState.{RowState, MayStop}
+use Rattle.lq_case.specs.Stored.{MayBeFilled, tagged_rows}
+use Rattle.lq_case.proofs.Keeping.{kept_again, kept_clash, held, kept_solves, stops_distances, stops_tableau}
+use Rattle.lq_case.proofs.rows.LinearRows.check.Goals as goal
+
+pub returns-in_err-clash-clause-stop : goal.returns-in_err-clash-clause-stop
+returns-in_err-clash-clause-stop c =
+    let p = err_from_is_err_and c.from_residual.result c.from_residual.ensures.1 in
+    let s = stops_distances c.self.inside.pivots c.self.inside.rows.items c.self.inside.odd.items c.self.inside.distances c.in_err-clash.field-0.0 c.self.invariant.1.kept c.in_err-clash.ensures.stop in
+    rw (p.1, p.2) (subst (λ (s : RowState). MayStop s.pivots s.rows c.in_err-clash.field-0.0) c.self.view_is s)
+
+pub returns-in-Some-clause-some : goal.returns-in-Some-clause-some
+returns-in-Some-clause-some c =
+    kept_clash c.self.inside.rows.items c.self.inside.odd.items c.self.inside.distances (table_rows c.decide.new.engine) (multiplier_views (multiplier_items c.in-Some.clash)) c.self.invariant.1.kept
+    c.decide.ensures.stands (rw c.in-Some.is at c.in_ok-clash.ensures.some)
+
+pub invariant_of-self-then-all_hold : goal.invariant_of-self-then-all_hold
+invariant_of-self-then-all_hold c =
+    let stored = c.self.inside.rows.items in let odd = c.self.inside.odd.items in let d = c.self.inside.distances in let e = c.decide.new.engine in
+    let none = rw c.in_default.is at c.in_ok-clash.ensures.none in
+    let terms : d.terms ≡ e.terms = let l = c.decide.ensures.limits in cc in (
+      sym terms ∙ c.self.invariant.0,
+      record {
+        kept = kept_again stored odd d e c.self.invariant.1.kept c.decide.ensures.limits c.decide.ensures.stands c.decide.ensures.going;
+        filled = subst (λ n. MayBeFilled n c.self.inside.pivots (tagged_rows stored) c.self.inside.tableau) terms c.self.invariant.1.filled;
+        found_by = (
+          none.0,
+          kept_solves (table_point e) stored odd d (table_rows e) c.self.invariant.1.kept c.decide.ensures.stands none.1
+              (held (table_point e) c.deref.result.now stored c.deref-2.result.now odd c.deref.ensures.value c.deref-2.ensures.value (c.all_hold.ensures.hold c.if-all_hold.true)),
+        );
+      },
+    )
+
+pub returns-then-all_hold-clause-none : goal.returns-then-all_hold-clause-none
+returns-then-all_hold-clause-none c =
+    let none = rw c.in_default.is at c.in_ok-clash.ensures.none in (
+      refl,
+      kept_solves (table_point c.decide.new.engine) c.self.inside.rows.items c.self.inside.odd.items c.self.inside.distances (table_rows c.decide.new.engine) c.self.invariant.1.kept c.decide.ensures.stands none.1
+          (held (table_point c.decide.new.engine) c.deref.result.now c.self.inside.rows.items c.deref-2.result.now c.self.inside.odd.items c.deref.ensures.value c.deref-2.ensures.value
+          (c.all_hold.ensures.hold c.if-all_hold.true)),
+    )
+
+pub returns-in_err-clash-2-clause-stop : goal.returns-in_err-clash-2-clause-stop
+returns-in_err-clash-2-clause-stop c =
+    let p = err_from_is_err_and c.from_residual-in_err-clash-2.result c.from_residual-in_err-clash-2.ensures.1 in
+    let s = stops_tableau c.self.inside.pivots c.self.inside.rows.items c.self.inside.odd.items c.self.inside.distances c.in_err-clash-2.field-0.0 c.self.invariant.1.kept
+    (λ e. let t = c.all_hold.ensures.none (c.deref-2.ensures.value ∙ e) in let f = c.if-all_hold.false in absurd (cc)) c.in_err-clash-2.ensures.stop in
+    rw (p.1, p.2) (subst (λ (s : RowState). MayStop s.pivots s.rows c.in_err-clash-2.field-0.0) c.self.view_is s)
