@@ -3,3 +3,6 @@ pub mod Kept
 pub mod Fronts
 pub mod Reading
 pub mod Keeping
+pub mod Giving
+pub mod Facts
+pub mod Pathing

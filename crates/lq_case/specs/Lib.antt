@@ -1,2 +1,4 @@
 pub mod Stored
 pub mod RowState
+pub mod Flags
+pub mod PathState

@@ -3,8 +3,12 @@
 
 mod deciding;
 mod filling;
+mod flags;
 mod holding;
 mod rows;
+mod state;
 mod stored;
 
+pub use flags::{FlagClash, Given};
 pub use rows::LinearRows;
+pub use state::PathState;
