@@ -1,5 +1,5 @@
 -- Flags with one fact more.
-use Rattle.std.proofs.Common.{◌≡◌, ℕ, zero, suc, ◌+◌, List, [], ◌∷◌, ◌++◌, Option, Some, None, Bool, true, false, not, cond, ◌==◌, ◌⊎◌, inl, inr, refl, sym, ap, ap₂, subst, ◌∙◌, arith, length, slice_get, take}
+use Rattle.std.proofs.Common.{◌≡◌, ℕ, zero, suc, List, [], ◌∷◌, ◌++◌, Option, Some, None, Bool, true, false, not, cond, ◌==◌, ◌⊎◌, inl, inr, refl, sym, ap, ap₂, subst, ◌∙◌, arith, length, slice_get}
 use Rattle.std.specs.Map.{lookup}
 use Rattle.lq_linear.specs.Row.{Row}
 use Rattle.lq_pred.specs.Sum.{same_symbol}
@@ -8,7 +8,7 @@ use Rattle.lq_pred.specs.declared.symbol.Symbol.{Symbol}
 use Rattle.lq_pred.specs.declared.symbol.Symbol.TheVariants.{Value, Bound, Position}
 use Rattle.std.proofs.lemmas.Bool.{eqb-true}
 use Rattle.lq_combine.specs.Path.{Fact, flag_fact, row_fact, numbered_at}
-use Rattle.lq_case.specs.Flags.{find_given, GivenNow, first, again, other, IsFlagClash, IsClash, HasValue, AreFlagsOf, clash_after}
+use Rattle.lq_case.specs.Flags.{find_given, GivenNow, first, again, other, IsFlagClash, IsClash, AreFlagsOf, clash_after}
 use Rattle.lq_case.specs.declared.flags.FlagClash.{FlagClash}
 use Rattle.lq_case.specs.declared.flags.Given.{Given}
 

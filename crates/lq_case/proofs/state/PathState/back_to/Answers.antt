@@ -1,4 +1,4 @@
-use Rattle.std.proofs.Common.{◌≡◌, ◌∙◌, ◌≤◌, List, Some, ap, arith, length, refl, slice_get, subst, take}
+use Rattle.std.proofs.Common.{◌≡◌, ◌∙◌, ◌≤◌, List, Some, ap, length, refl, slice_get, subst, take}
 use Rattle.lq_case.specs.PathState.{PathState, facts_in}
 use Rattle.lq_case.specs.declared.state.Step.{Step}
 use Rattle.lq_case.proofs.Pathing.{all_first, state_first, step_at, step_within}
