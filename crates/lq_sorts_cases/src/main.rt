@@ -1,10 +1,13 @@
 //! Prints what is wrong with each text of measures and of qualifiers of the files that the command line names. A line that begins with
 //! `p: ` has the program whose datatypes the lines below it mean; one with `m: ` a text of measures, which those below it mean too;
-//! one with `q: ` a text of qualifiers. Below the last two stands the first complaint.
+//! one with `q: ` a text of qualifiers. Below the last two stands the first complaint. One with `b: ` has a text of qualifiers too, and
+//! below it stands what the measures and the qualifiers are with their names bound, or what is told of the three texts.
 #![tactic(auto)]
 
+mod bound;
 mod told;
 
+use bound::bound_told;
 use std::alloc::Global;
 use std::{env, fs, io};
 use told::{measures_told, quals_told};
@@ -39,6 +42,16 @@ fn answer_line(
             text,
         )?;
         println!(rt; "= {told}")?;
+    } else if let Some(text) = line.strip_prefix("b: ") {
+        let lines = bound_told(
+            alloc,
+            context.program.as_str(),
+            context.measures.as_str(),
+            text,
+        )?;
+        for told in &lines {
+            println!(rt; "= {told}")?;
+        }
     }
     Ok(())
 }

@@ -1,9 +1,13 @@
 // What is wrong with a text, as text.
+ghost use Rattle.std.specs.Prelude.{◌≡◌, true, IfOk, IfSome};
+ghost use Rattle.lq_resolved.specs.Parameters.{have_places};
+ghost use Rattle.lq_tree.specs.Texts.{program_view};
 
 use lq_datatypes::datatypes_of;
 use lq_lex::{TEXT_LIMIT, Tokens, lex};
 use lq_name::{Name, NameTable, TextKind};
 use lq_parse::{parse_measures, parse_program, parse_quals};
+use lq_parsed::parsed_programs_have_places;
 use lq_sorts::{Cause, SortComplaint, first_measure_complaint, first_qualifier_complaint};
 use lq_tree::{Measures, Program, Quals};
 use std::alloc::{AllocError, Global};
@@ -11,11 +15,14 @@ use std::alloc::{AllocError, Global};
 // A table with so many names has room for those of a text.
 const ROOM: u32 = 1 << 31;
 
-fn program_of(
+pub(crate) fn program_of(
     alloc: Global,
     names: &mut NameTable,
     text: &[u8],
-) -> Result<Option<Program>, AllocError> {
+) -> Result<Option<Program>, AllocError>
+    ensures { IfOk result (λ found. IfSome found (λ p. have_places (program_view p) ≡ true)) }
+{
+    parsed_programs_have_places();
     if text.len() > TEXT_LIMIT || names.len() > ROOM {
         return Ok(None);
     }
@@ -28,7 +35,7 @@ fn program_of(
     }
 }
 
-fn measures_of(
+pub(crate) fn measures_of(
     alloc: Global,
     names: &mut NameTable,
     text: &[u8],
@@ -45,7 +52,7 @@ fn measures_of(
     }
 }
 
-fn quals_of(
+pub(crate) fn quals_of(
     alloc: Global,
     names: &mut NameTable,
     text: &[u8],
@@ -62,7 +69,7 @@ fn quals_of(
     }
 }
 
-fn text_of(names: &NameTable, name: Name) -> &str {
+pub(crate) fn text_of(names: &NameTable, name: Name) -> &str {
     if name.0 < names.len() {
         names.text(name)
     } else {
