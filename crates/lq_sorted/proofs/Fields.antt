@@ -1,5 +1,5 @@
 -- The patterns of fields in memory.
-use Rattle.std.proofs.Common.{◌≡◌, ℕ, suc, ◌+◌, drop, arith, List, [], ◌∷◌, map, slice_get, Some, sym, ap, ◌∙◌, rules}
+use Rattle.std.proofs.Common.{◌≡◌, ℕ, suc, ◌+◌, drop, arith, List, map, slice_get, Some, sym, ap, ◌∙◌, rules}
 use Rattle.lq_name.specs.declared.name.Name.{Name}
 use Rattle.lq_name.specs.declared.place.Place.{Place}
 use Rattle.lq_tree.specs.Pattern.{Pattern, PatternForm, Patterns, build_of, pattern}

@@ -1,15 +1,15 @@
 -- A subtree that is looked at for placeholders gives way to its parts.
 use Rattle.std.proofs.Common.{◌≡◌, ℕ, suc, ◌+◌, ◌<◌, List, [], ◌∷◌, ◌++◌, map, length, Option, Some, None, refl, sym, ap, ◌∙◌, arith}
-use Rattle.std.proofs.lemmas.List.{append_assoc, append-nil, map-append, reverse-append}
+use Rattle.std.proofs.lemmas.List.{append_assoc, append-nil, reverse-append}
 use Rattle.lq_tree.specs.PredTree.{PredTree, pred_tree, PredForm, flag, whole, use_of, placeholder, applied, qualified, arithmetic, negated, compare, not_of, and_of, or_of, iff}
-use Rattle.lq_sorts.specs.Lookups.{Lookup, Names, or_else, one, first_in, with_name}
+use Rattle.lq_sorts.specs.Lookups.{Lookup, or_else, one, first_in}
 use Rattle.lq_sorts.specs.Predicates.{Setting, Spot, spot, spots, spots_in, uses, used_in, form_of, taken, length_takes, is_length}
 use Rattle.lq_sorts.specs.Shapes.{Shape, int, bool}
 use Rattle.lq_sorts.specs.Work.{parts_in, spots_of_all, size_of_form, total}
-use Rattle.lq_sorted.specs.Placeholders.{firsts, numbered}
+use Rattle.lq_sorted.specs.Placeholders.{numbered}
 use Rattle.lq_sorted.specs.Walking.{pending, spot_view}
 use Rattle.lq_sorted.specs.declared.placeholders.Spot.{Spot as Held}
-use Rattle.lq_sorted.proofs.Lookups.{first_append, joined}
+use Rattle.lq_sorted.proofs.Lookups.{first_append}
 
 pub pending_more : (ss : List Held) (s : Held) → pending (ss ++ s ∷ []) ≡ spot_view s ∷ pending ss
 pending_more ss s = ap (map spot_view) (reverse-append ss (s ∷ []))

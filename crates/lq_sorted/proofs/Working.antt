@@ -1,7 +1,7 @@
 -- What is on the stack once the work on a term or a predicate is done, and that the work ends.
-use Rattle.std.proofs.Common.{◌≡◌, ℕ, ◌+◌, ◌<◌, List, [], ◌∷◌, ◌++◌, map, refl, sym, ap, ◌∙◌, arith}
+use Rattle.std.proofs.Common.{◌≡◌, ◌<◌, List, [], ◌∷◌, ◌++◌, map, refl, ap, arith}
 use Rattle.std.proofs.lemmas.List.{reverse-append}
-use Rattle.lq_tree.specs.PredTree.{PredTree, pred_tree, PredForm, flag, whole, use_of, placeholder, applied, qualified, arithmetic, negated, compare, not_of, and_of, or_of, iff}
+use Rattle.lq_tree.specs.PredTree.{PredTree, pred_tree, flag, whole, use_of, placeholder, applied, qualified, arithmetic, negated, compare, not_of, and_of, or_of, iff}
 use Rattle.lq_sorts.specs.Predicates.{form_of}
 use Rattle.lq_sorted.specs.Making.{Setting}
 use Rattle.lq_sorted.specs.Sorted.{Term, Predicate}

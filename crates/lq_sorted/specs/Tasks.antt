@@ -1,5 +1,5 @@
 -- A written predicate or term taken apart by a list of work, and what it becomes put together on a stack.
-use Rattle.std.specs.Prelude.{ℕ, suc, ◌+◌, pos, false, List, [], ◌∷◌}
+use Rattle.std.specs.Prelude.{ℕ, ◌+◌, pos, false, List, [], ◌∷◌}
 use Rattle.lq_tree.specs.PredTree.{PredTree, pred_tree, PredForm, flag, whole, use_of, placeholder, applied, qualified, arithmetic, negated, compare, not_of, and_of, or_of, iff}
 use Rattle.lq_sorts.specs.Work.{size_of}
 use Rattle.lq_sorted.specs.Making.{Setting, predicate_form, predicate_of, term_form, term_of}

@@ -1,5 +1,5 @@
 -- What stands in memory.
-use Rattle.std.specs.Prelude.{ℕ, List, map, reverse, Option}
+use Rattle.std.specs.Prelude.{List, map, reverse, Option}
 use Rattle.std.specs.BTreeMap.{get}
 use Rattle.std.specs.Option.{is_some, option_map}
 use Rattle.std.specs.Ordering.{nat_cmp}

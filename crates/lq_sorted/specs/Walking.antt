@@ -1,5 +1,5 @@
 -- The subtrees of a predicate that are still to be looked at for placeholders, and those that were found.
-use Rattle.std.specs.Prelude.{◌≡◌, ℕ, List, map, reverse, length}
+use Rattle.std.specs.Prelude.{◌≡◌, ℕ, List, map, reverse}
 use Rattle.lq_tree.specs.PredView.{pred_view}
 use Rattle.lq_sorts.specs.Lookups.{first_in}
 use Rattle.lq_sorts.specs.Predicates as plain

@@ -7,7 +7,7 @@ use Rattle.lq_sorts.specs.Lookups.{Lookup, first_in}
 use Rattle.lq_sorted.specs.Filing.{filed_view}
 use Rattle.lq_sorted.specs.Making.{Setting, fields_in, term_by, term_of}
 use Rattle.lq_sorted.specs.Sorted.{Variable}
-use Rattle.lq_sorted.specs.Views.{held, measured_view, seen, variable_view}
+use Rattle.lq_sorted.specs.Views.{held, measured_view, seen}
 use Rattle.lq_sorted.proofs.equations.term_at.Goals as goal
 
 pub returns-in_ok-term-in-Some : goal.returns-in_ok-term-in-Some

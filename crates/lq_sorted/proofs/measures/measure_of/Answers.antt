@@ -1,8 +1,7 @@
-use Rattle.std.proofs.Common.{◌≡◌, ℕ, List, [], map, ap, ◌∙◌, unwrap_or}
+use Rattle.std.proofs.Common.{List, [], map, ap, ◌∙◌, unwrap_or}
 use Rattle.lq_scoped.specs.Views.{name_number}
 use Rattle.lq_tree.specs.MeasureTrees.{equation_view}
 use Rattle.lq_sorts.specs.Lookups.{first_in}
-use Rattle.lq_sorted.specs.Filing.{filed_view}
 use Rattle.lq_sorted.specs.Making.{filed, term_at}
 use Rattle.lq_sorted.specs.Sorted.{Measure, Term}
 use Rattle.lq_sorted.specs.Views.{measured_view, seen}

@@ -1,4 +1,4 @@
-use Rattle.std.proofs.Common.{map, ap, ◌∙◌, arith}
+use Rattle.std.proofs.Common.{map, ap, ◌∙◌}
 use Rattle.std.proofs.lemmas.List.{take_all}
 use Rattle.lq_tree.specs.MeasureTrees.{definitions_view}
 use Rattle.lq_tree.specs.MeasureTrees.{measure_view as parsed_view}

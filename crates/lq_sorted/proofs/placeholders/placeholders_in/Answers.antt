@@ -1,6 +1,6 @@
-use Rattle.std.proofs.Common.{◌∷◌, ◌++◌, sym, ap, ◌∙◌, arith}
+use Rattle.std.proofs.Common.{◌++◌, sym, ap, ◌∙◌, arith}
 use Rattle.lq_tree.specs.PredView.{pred_view}
-use Rattle.lq_sorts.specs.Predicates.{spot, uses}
+use Rattle.lq_sorts.specs.Predicates.{uses}
 use Rattle.lq_sorts.specs.Shapes.{bool}
 use Rattle.lq_sorts.specs.Work.{spots_of_all, total}
 use Rattle.lq_sorted.specs.Making.{asking}

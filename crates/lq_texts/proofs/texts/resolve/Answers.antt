@@ -1,7 +1,6 @@
 use Rattle.std.proofs.Common.{List, map, inr, refl, sym, ap, ◌∙◌}
 use Rattle.lq_scoped.specs.Scoping.{Scoping}
 use Rattle.lq_scoped.specs.Signature.{DataTree}
-use Rattle.lq_scoped.specs.Views.{data_view}
 use Rattle.lq_datatypes.specs.Datatypes.{datatypes_in}
 use Rattle.lq_tree.specs.Texts.{measures_view, program_view, quals_view}
 use Rattle.lq_sorts.specs.Complaints.{least}
