@@ -3,3 +3,7 @@ mod Looking
 mod Lookups
 mod Rows
 mod Working
+pub mod Clean
+pub mod Becoming
+pub mod Qualified
+pub mod Measuring

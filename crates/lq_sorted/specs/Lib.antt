@@ -2,6 +2,7 @@
 pub mod Filing
 pub mod Making
 pub mod Placeholders
+pub mod Rules
 pub mod Sorted
 pub mod Tasks
 pub mod Views

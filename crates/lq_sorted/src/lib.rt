@@ -4,6 +4,7 @@
 
 mod constructors;
 mod equations;
+mod laws;
 mod measures;
 mod placeholders;
 mod predicates;
@@ -14,6 +15,7 @@ mod sorted;
 mod table;
 mod terms;
 
+pub use laws::{measures_become, qualifiers_become};
 pub use measures::bind_measures;
 pub use qualifiers::bind_qualifiers;
 pub use shape::Shape;
