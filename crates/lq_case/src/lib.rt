@@ -10,5 +10,4 @@ mod state;
 mod stored;
 
 pub use flags::{FlagClash, Given};
-pub use rows::LinearRows;
 pub use state::PathState;

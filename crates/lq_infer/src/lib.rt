@@ -6,7 +6,6 @@ mod definitions;
 mod laws;
 mod values;
 
-pub use copies::{add_copy, slots_of};
 pub use definitions::{Definitions, Use};
 pub use laws::steps_say_the_rules;
 pub use values::is_value;
