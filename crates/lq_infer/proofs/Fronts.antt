@@ -10,7 +10,7 @@ use Rattle.lq_rules.specs.declared.system.System.{System}
 use Rattle.lq_rules.specs.Adding.{IsFresh}
 use Rattle.lq_rules.specs.Solved.{Solves}
 use Rattle.lq_typings.specs.Uses.{Known, GeneralUse, none_known, behind, behind_all, use_at, use_at_tree, use_at_shape, use_at_leaf, use_by, before_in}
-use Rattle.lq_infer.specs.Owning.{item_behind, AreOwned}
+use Rattle.lq_apart.specs.Owning.{item_behind, AreOwned}
 use Rattle.lq_infer.specs.Gathering.{IsComplete, IsSound, AreSteps, StepsSayRules}
 use Rattle.lq_infer.proofs.Going.{IsGoing}
 use Rattle.lq_infer.proofs.Stepping.{IsUseOf, going_more, behind_visit, going_sound}

@@ -13,7 +13,7 @@ use Rattle.lq_rules.specs.Gathered.{VisitRule}
 use Rattle.lq_rules.specs.Solved.{Solves}
 use Rattle.lq_rules.proofs.Growing.{fits_before, meets_later}
 use Rattle.lq_typings.specs.Uses.{Known, General, GeneralUse, none_known, behind, behind_all, use_at, ObeysFrom}
-use Rattle.lq_infer.specs.Owning.{binder_slots, visit_slots, slots_by, is_slot_of, IsOwn}
+use Rattle.lq_apart.specs.Owning.{binder_slots, visit_slots, slots_by, is_slot_of, IsOwn}
 use Rattle.lq_infer.specs.Copying.{AddsCopy}
 use Rattle.lq_infer.specs.Gathering.{StepBy, IsComplete}
 use Rattle.lq_infer.proofs.Naming.{all_left, all_right, all_first, all_rest, visit_rests}

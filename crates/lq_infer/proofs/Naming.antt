@@ -15,7 +15,7 @@ use Rattle.lq_rules.specs.Solutions.{each}
 use Rattle.lq_rules.specs.Rows.{annotation_of, number_of, LeafIs, OneIs, TwoIs, ThreeIs, last_of, ChainIs, RowIs, ArmsFit, ShapeIs, TreeRule, FunctionRule, ItemRule}
 use Rattle.lq_rules.specs.Gathered.{VisitRule}
 use Rattle.lq_rules.proofs.Forming.{numbered, shape_to, shape_from}
-use Rattle.lq_infer.specs.Owning.{binder_slots, pattern_slots, leaf_slots, cases_slots, shape_slots, tree_slots, function_slots, item_slots, visit_slots}
+use Rattle.lq_apart.specs.Owning.{binder_slots, pattern_slots, leaf_slots, cases_slots, shape_slots, tree_slots, function_slots, item_slots, visit_slots}
 
 -- ---- facts of each of a list
 

@@ -12,7 +12,7 @@ use Rattle.lq_rules.specs.Gathered.{VisitRule}
 use Rattle.lq_rules.specs.Solved.{IsPrincipal}
 use Rattle.lq_rules.proofs.Growing.{agree_after}
 use Rattle.lq_typings.specs.Uses.{Known, General, GeneralUse, none_known, with_general, with_plain, with_name, behind_let, behind_form, behind, behind_all, is_value, use_at, before_in, Leaves, RuleBy, UseRule, ObeysFrom}
-use Rattle.lq_infer.specs.Owning.{binder_slots, pattern_slots, visit_slots, item_slots, slots_by, slots_at, is_slot_of, item_behind, IsOwn}
+use Rattle.lq_apart.specs.Owning.{binder_slots, pattern_slots, visit_slots, item_slots, slots_by, slots_at, is_slot_of, item_behind, IsOwn}
 use Rattle.lq_infer.specs.Gathering.{StepBy, IsStep, IsComplete, IsSound}
 use Rattle.lq_infer.proofs.Naming.{all_first, all_rest, visit_rests}
 use Rattle.lq_infer.proofs.Reading.{leaves_from}

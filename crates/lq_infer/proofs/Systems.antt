@@ -10,7 +10,7 @@ use Rattle.lq_unify.specs.Classes.{up, root}
 use Rattle.lq_unify.specs.Copying.{IsCopy}
 use Rattle.lq_rules.specs.declared.system.System.{System}
 use Rattle.lq_rules.specs.Adding.{IsRight, IsSystem, count_of, forms_of}
-use Rattle.lq_infer.specs.Owning.{binder_slots}
+use Rattle.lq_apart.specs.Owning.{binder_slots}
 
 right_by : (o : Option Form) (f : Form) (to : ℕ → ℕ) → option_map (renamed to) o ≡ Some f → ((g : Form) → o ≡ Some g → IsRight g.head (length g.parts)) → IsRight f.head (length f.parts)
 right_by None f to e h = absurd (cc)

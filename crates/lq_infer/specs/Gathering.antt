@@ -8,7 +8,7 @@ use Rattle.lq_rules.specs.Adding.{IsFresh, Agree, Adds}
 use Rattle.lq_rules.specs.Gathered.{VisitRule}
 use Rattle.lq_rules.specs.Solved.{Solves, IsPrincipal}
 use Rattle.lq_infer.specs.Copying.{AddsCopy}
-use Rattle.lq_infer.specs.Owning.{binder_slots, AreApart}
+use Rattle.lq_apart.specs.Owning.{binder_slots, AreApart}
 use Rattle.lq_typings.specs.Uses.{Known, GeneralUse, none_known, behind, use_at, ObeysUses}
 
 -- what a visit adds: a copy for a use of a generalised definition, else its rule

@@ -1,6 +1,6 @@
 -- Definitions that the contracts cite.
-pub mod Owning
 pub mod Pending
 pub mod Defining
 pub mod Copying
 pub mod Gathering
+pub mod Inferring

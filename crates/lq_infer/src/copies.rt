@@ -3,7 +3,7 @@ ghost use Rattle.std.specs.Prelude.{◌≡◌, ℕ, ◌+◌, ◌<◌, ◌≤◌,
 ghost use Rattle.lq_unify.specs.Knowing.{Knows};
 ghost use Rattle.lq_unify.specs.Opens.{IsIn};
 ghost use Rattle.lq_rules.specs.Adding.{IsSystem, count_of};
-ghost use Rattle.lq_infer.specs.Owning.{binder_slots};
+ghost use Rattle.lq_apart.specs.Owning.{binder_slots};
 ghost use Rattle.lq_infer.specs.Copying.{AreClear, AreMarked, AddsCopy};
 
 use lq_rules::System;

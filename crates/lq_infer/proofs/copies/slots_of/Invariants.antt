@@ -1,5 +1,5 @@
 use Rattle.std.proofs.Common.{◌≡◌, take}
-use Rattle.lq_infer.specs.Owning.{binder_slots}
+use Rattle.lq_apart.specs.Owning.{binder_slots}
 use Rattle.lq_infer.proofs.copies.slots_of.Given as goal
 
 abbrev pub invariant-loop-binder : goal.invariant-loop-binder

@@ -1,0 +1,7 @@
+-- Lemmas.
+mod Lists
+mod Trees
+mod Numbers
+mod Ranges
+mod Items
+mod Programs
