@@ -1,0 +1,5 @@
+-- Tables of types: definitions.
+pub mod Heads
+pub mod Nodes
+pub mod Seen
+pub mod Whole
