@@ -8,6 +8,7 @@ pub mod Principal
 pub mod Sizes
 pub mod Walking
 pub mod Scanning
+pub mod Ordering
 pub mod Beginning
 pub mod Replacing
 pub mod Uses

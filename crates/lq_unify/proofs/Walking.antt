@@ -310,7 +310,7 @@ walk_start forms n ps shapes marks w inside is_root e calm stack f = subst (λ s
 
 -- ---- and at the end all are done
 
-is_done_now : (m : Mark) → m ≢ Fresh → m ≢ Active → m ≡ Done
+pub is_done_now : (m : Mark) → m ≢ Fresh → m ≢ Active → m ≡ Done
 is_done_now Fresh f a = absurd (f refl)
 is_done_now Active f a = absurd (a refl)
 is_done_now Done f a = refl

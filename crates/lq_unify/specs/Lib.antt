@@ -5,6 +5,7 @@ pub mod Solution
 pub mod Classes
 pub mod Value
 pub mod Visits
+pub mod Order
 pub mod Solved
 pub mod Knowing
 pub mod Variables

@@ -6,6 +6,7 @@ ghost use Rattle.lq_unify.specs.Solution.{Fits};
 ghost use Rattle.lq_unify.specs.Classes.{up, root, AreShared};
 ghost use Rattle.lq_unify.specs.Value.{inner, IsRanked};
 ghost use Rattle.lq_unify.specs.Visits.{IsTable, mark_at, AreDone, IsNextVisit, IsVisit, IsWalk, IsMarked, AreCalm, StaysSeen, fresh};
+ghost use Rattle.lq_unify.specs.Order.{IsPut, AreOrdered};
 
 use crate::arena::{Arena, Node};
 use std::alloc::{AllocError, Global};
@@ -71,10 +72,14 @@ fn step(
         marks.old (stack.old.items ++ visit ∷ []) }
     requires marked { IsMarked (form_at arena.now) (length arena.now.nodes.items) parents.now shapes.now
         marks.old (length order.old.items) }
+    requires put { IsPut (form_at arena.now) (length arena.now.nodes.items) parents.now shapes.now marks.old
+        order.old.items }
     ensures walk { IfOk result (λ yes. yes ≡ true → IsWalk (form_at arena.now) (length
         arena.now.nodes.items) parents.now shapes.now marks.new stack.new.items) }
     ensures marked { IfOk result (λ yes. yes ≡ true → IsMarked (form_at arena.now) (length
         arena.now.nodes.items) parents.now shapes.now marks.new (length order.new.items)) }
+    ensures put { IfOk result (λ yes. yes ≡ true → IsPut (form_at arena.now) (length
+        arena.now.nodes.items) parents.now shapes.now marks.new order.new.items) }
     ensures seen { OnOk result (StaysSeen marks.old marks.new) }
     ensures shorter { IfOk result (λ yes. yes ≡ true → 2 * fresh marks.new + length stack.new.items < 2 *
         fresh marks.old + length stack.old.items + 1) }
@@ -121,10 +126,14 @@ fn walk(
         marks.old stack.old.items }
     requires marked { IsMarked (form_at arena.now) (length arena.now.nodes.items) parents.now shapes.now
         marks.old (length order.old.items) }
+    requires put { IsPut (form_at arena.now) (length arena.now.nodes.items) parents.now shapes.now marks.old
+        order.old.items }
     ensures empty { IfOk result (λ yes. yes ≡ true → stack.new.items ≡ []) }
     ensures calm { IfOk result (λ yes. yes ≡ true → AreCalm marks.new) }
     ensures marked { IfOk result (λ yes. yes ≡ true → IsMarked (form_at arena.now) (length
         arena.now.nodes.items) parents.now shapes.now marks.new (length order.new.items)) }
+    ensures put { IfOk result (λ yes. yes ≡ true → IsPut (form_at arena.now) (length
+        arena.now.nodes.items) parents.now shapes.now marks.new order.new.items) }
     ensures seen { OnOk result (StaysSeen marks.old marks.new) }
     ensures cycle { IfOk result (λ yes. yes ≡ false → (types : ℕ → Simple) → Fits (form_at arena.now) types
         → AreShared parents.now types → ⊥) }
@@ -153,10 +162,14 @@ fn start(
     requires calm { AreCalm marks.old }
     requires marked { IsMarked (form_at arena.now) (length arena.now.nodes.items) parents.now shapes.now
         marks.old (length order.old.items) }
+    requires put { IsPut (form_at arena.now) (length arena.now.nodes.items) parents.now shapes.now marks.old
+        order.old.items }
     requires empty { stack.old.items ≡ [] }
     ensures calm { IfOk result (λ yes. yes ≡ true → AreCalm marks.new) }
     ensures marked { IfOk result (λ yes. yes ≡ true → IsMarked (form_at arena.now) (length
         arena.now.nodes.items) parents.now shapes.now marks.new (length order.new.items)) }
+    ensures put { IfOk result (λ yes. yes ≡ true → IsPut (form_at arena.now) (length
+        arena.now.nodes.items) parents.now shapes.now marks.new order.new.items) }
     ensures empty { IfOk result (λ yes. yes ≡ true → stack.new.items ≡ []) }
     ensures seen { OnOk result (StaysSeen marks.old marks.new) }
     ensures here { OnOk result (up parents.now class ≡ class → mark_at marks.new class ≢ Mark.Fresh) }
@@ -193,6 +206,8 @@ fn walk_all(
     requires empty { stack.old.items ≡ [] }
     ensures ranked { IfOk result (λ yes. yes ≡ true → IsRanked (form_at arena.now) parents.now shapes.now
         (length order.new.items + 1)) }
+    ensures ordered { IfOk result (λ yes. yes ≡ true → AreOrdered (form_at arena.now) (length
+        arena.now.nodes.items) parents.now shapes.now order.new.items) }
     ensures cycle { IfOk result (λ yes. yes ≡ false → (types : ℕ → Simple) → Fits (form_at arena.now) types
         → AreShared parents.now types → ⊥) }
 {
@@ -215,6 +230,8 @@ pub(crate) fn order(
     requires table { IsTable (form_at arena.now) (length arena.now.nodes.items) parents.now shapes.now }
     ensures ranked { IfOk result (λ found. IfSome found (λ order. IsRanked (form_at arena.now) parents.now
         shapes.now (length order.items + 1))) }
+    ensures ordered { IfOk result (λ found. IfSome found (λ order. AreOrdered (form_at arena.now)
+        (length arena.now.nodes.items) parents.now shapes.now order.items)) }
     ensures cycle { IfOk result (λ found. IfNone found ((types : ℕ → Simple) → Fits (form_at arena.now)
         types → AreShared parents.now types → ⊥)) }
 {

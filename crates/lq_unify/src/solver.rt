@@ -5,7 +5,8 @@ ghost use Rattle.lq_unify.specs.declared.arena.Equation.{Equation};
 ghost use Rattle.lq_unify.specs.Nodes.{form_at, IsArena};
 ghost use Rattle.lq_unify.specs.Solution.{AreNodes, IsPrincipal, HasNoSolution, HasSolution};
 ghost use Rattle.lq_unify.specs.Knowing.{IsLonger, Knows, IsOrdered, IsStretched};
-ghost use Rattle.lq_unify.specs.Solved.{types_of};
+ghost use Rattle.lq_unify.specs.Order.{AreOrdered};
+ghost use Rattle.lq_unify.specs.Solved.{types_of, HasOrder};
 
 use crate::arena::{Arena, Equation};
 use crate::merge::{apart, flatten, merge, widen};
@@ -23,7 +24,7 @@ pub struct Solver {
 }
 
 /// A type for each node of an arena. Nodes with the same root have the same type; it has the form of the node that the root keeps,
-/// or is a variable. The roots stand in an order in which parts come first.
+/// or is a variable. The roots stand in an order in which parts come first; one may stand there twice.
 #[derive(Drop)]
 pub struct Solution {
     pub parents: Vec<u32>,
@@ -100,6 +101,8 @@ impl Solver {
             → Knows arena.now equations self.new) }
         ensures some { IfOk result (λ found. IfSome found (λ order. IsOrdered arena.now self.new
             (length order.items + 1))) }
+        ensures ordered { IfOk result (λ found. IfSome found (λ order. AreOrdered (form_at arena.now)
+            (length arena.now.nodes.items) self.new.parents.items self.new.shapes.items order.items)) }
         ensures none { IfOk result (λ found. IfNone found ((equations : List Equation)
             → Knows arena.now equations self.old → HasNoSolution (form_at arena.now) equations)) }
     {
@@ -132,6 +135,7 @@ impl Solver {
         ensures principal { IfOk result (λ found. IfSome found (λ s. (equations : List Equation)
             → Knows arena.now equations self → IsPrincipal (form_at arena.now) equations
             (types_of arena.now s))) }
+        ensures ordered { IfOk result (λ found. IfSome found (HasOrder arena.now)) }
         ensures none { IfOk result (λ found. IfNone found ((equations : List Equation)
             → Knows arena.now equations self → HasNoSolution (form_at arena.now) equations)) }
     {

@@ -2,7 +2,7 @@
 ghost use Rattle.std.specs.Prelude.{◌≡◌, ℕ, ◌+◌, ◌<◌, ◌≤◌, ◌^◌, List, [], length, OnOk, IfOk, IfSome, IfNone, true, false};
 ghost use Rattle.lq_unify.specs.Nodes.{form_at, IsArena};
 ghost use Rattle.lq_unify.specs.Solution.{AreNodes, IsPrincipal, HasNoSolution, HasSolution, IsFirstFailing};
-ghost use Rattle.lq_unify.specs.Solved.{types_of};
+ghost use Rattle.lq_unify.specs.Solved.{types_of, HasOrder};
 
 use crate::arena::{Arena, Equation};
 use crate::solver::{Solution, Solver};
@@ -18,6 +18,7 @@ pub fn solve(
     requires nodes { AreNodes (length arena.now.nodes.items) equations.now }
     ensures principal { IfOk result (λ found. IfSome found (λ s. IsPrincipal (form_at arena.now)
         equations.now (types_of arena.now s))) }
+    ensures ordered { IfOk result (λ found. IfSome found (HasOrder arena.now)) }
     ensures none { IfOk result (λ found. IfNone found (HasNoSolution (form_at arena.now) equations.now)) }
 {
     let mut solver = Solver::new(alloc, arena)?;

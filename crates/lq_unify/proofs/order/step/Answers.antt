@@ -6,6 +6,8 @@ use Rattle.lq_unify.specs.Nodes.{form_at}
 use Rattle.lq_unify.specs.Visits.{IsVisit, IsWalk, IsMarked}
 use Rattle.lq_unify.proofs.Linking.{All_last}
 use Rattle.lq_unify.proofs.Walking.{walk_done, marked_done, walk_on, fresh_done, fresh_active, no_cycle}
+use Rattle.lq_unify.specs.Order.{IsPut}
+use Rattle.lq_unify.proofs.Ordering.{put_done}
 use Rattle.lq_unify.proofs.order.step.Goals as goal
 
 pub returns-in_ok-push-in-None-clause-walk : goal.returns-in_ok-push-in-None-clause-walk
@@ -21,6 +23,12 @@ returns-in_ok-push-in-None-clause-marked c = λ t.
     let more : length c.push.new.self.items ≡ length c.args.order.now.items + 1 = ap length c.in_ok-push-in-None.ensures.items ∙ length_push c.args.order.now.items c.args.visit.class in
     subst (IsMarked _ _ c.args.parents.now c.args.shapes.now (set c.args.marks.now c.args.visit.class Done)) (sym more)
     (marked_done _ _ _ _ c.args.marks.now (length c.args.order.now.items) c.args.visit.class inside c.in-None.ensures.none c.requires.marked)
+
+pub returns-in_ok-push-in-None-clause-put : goal.returns-in_ok-push-in-None-clause-put
+returns-in_ok-push-in-None-clause-put c = λ t.
+    let v = All_last (IsVisit (form_at c.args.arena.now) (length c.args.arena.now.nodes.items) c.args.parents.now c.args.shapes.now c.args.marks.now) c.args.stack.now.items c.args.visit c.requires.walk.visits in
+    subst (IsPut _ _ c.args.parents.now c.args.shapes.now (set c.args.marks.now c.args.visit.class Done)) (sym c.in_ok-push-in-None.ensures.items)
+    (put_done _ _ _ _ c.args.marks.now c.args.order.now.items c.args.visit.class v.inside v.is_root c.in-None.ensures.none c.requires.put)
 
 pub returns-in_ok-push-in-None-clause-shorter : goal.returns-in_ok-push-in-None-clause-shorter
 returns-in_ok-push-in-None-clause-shorter c = λ t.
