@@ -117,3 +117,13 @@ labels-decide steps c h i j x y k l e f =
       λ t. h.is.sound i j (omega (arith, h.is.shaped.labelled)) (omega (arith, h.is.shaped.labelled)) (sym a ∙ eqb-true x y t ∙ b),
       λ s. eq-eqb x y (a ∙ same-labels steps c h i j s ∙ sym b),
     )
+
+pub labels-tell : (steps : List Step) (c : Core) (labels : List ℕ) → IsExact steps c → labels ≡ c.labels → (i j : ℕ) → i < length (terms_of steps) → j < length (terms_of steps)
+    → (get_or labels i 0 ≡ get_or labels j 0) ↔ IsSame steps i j
+labels-tell steps c labels h e i j k l =
+    let long = terms-labels steps c h in
+    let at_i : get_or labels i 0 ≡ get_or c.labels i 0 = ap (λ ls. get_or ls i 0) e in
+    let at_j : get_or labels j 0 ≡ get_or c.labels j 0 = ap (λ ls. get_or ls j 0) e in (
+      λ t. h.is.sound i j (omega (arith, h.is.shaped.labelled)) (omega (arith, h.is.shaped.labelled)) (sym at_i ∙ t ∙ at_j),
+      λ s. at_i ∙ same-labels steps c h i j s ∙ sym at_j,
+    )

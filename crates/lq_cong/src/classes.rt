@@ -1,5 +1,5 @@
 // The classes as callers see them.
-ghost use Rattle.std.specs.Prelude.{◌≡◌, ◌⊎◌, ◌↔◌, ℕ, ◌<◌, ◌≤◌, [], ◌∷◌, ◌++◌, length, take, IfOk, IfSome, IfNone, OnOk, OnErr, IsTrue};
+ghost use Rattle.std.specs.Prelude.{◌≡◌, ◌⊎◌, ◌↔◌, ℕ, ◌<◌, ◌≤◌, [], ◌∷◌, ◌++◌, length, slice_index, take, IfOk, IfSome, IfNone, OnOk, OnErr, IsTrue};
 ghost use Rattle.lq_cong.specs.Chains.{AllNamed, IsChain, IsName};
 ghost use Rattle.lq_cong.specs.Core.{AllBelow};
 ghost use Rattle.lq_cong.specs.Implied.{HaveOne, IsImplied, pair_times};
@@ -114,6 +114,15 @@ impl Classes {
         ensures { IsTrue result ↔ IsSame self.now a b }
     {
         self.state.labels[a as usize] == self.state.labels[b as usize]
+    }
+
+    /// The label of each term: two terms are the same exactly where their labels are one.
+    pub fn labels(&self) -> &[u64]
+        ensures each { length result.now ≡ length (terms_of self.now) }
+        ensures same { (a b : ℕ) → a < length (terms_of self.now) → b < length (terms_of self.now)
+            → (slice_index result.now a ≡ slice_index result.now b) ↔ IsSame self.now a b }
+    {
+        self.state.labels.as_slice()
     }
 
     /// Two terms that were told to differ and are the same. It looks at each step.
