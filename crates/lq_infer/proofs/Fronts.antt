@@ -81,7 +81,7 @@ going_none g nodes slots owner s f = record {
   holds = tt;
 }
 
-known_more : (k : Known) (vs : List Visit) (v : Visit) → behind_all k (vs ++ v ∷ []) ≡ behind (behind_all k vs) v
+pub known_more : (k : Known) (vs : List Visit) (v : Visit) → behind_all k (vs ++ v ∷ []) ≡ behind (behind_all k vs) v
 known_more k [] v = refl
 known_more k (w ∷ vs) v = known_more (behind k w) vs v
 

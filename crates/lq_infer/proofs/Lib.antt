@@ -10,3 +10,9 @@ pub mod Fronts
 pub mod Systems
 pub mod Folding
 pub mod Pendings
+pub mod Steps
+pub mod Walking
+pub mod Failing
+pub mod Visiting
+pub mod Leaving
+pub mod Scoped

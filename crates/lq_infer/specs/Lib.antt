@@ -4,3 +4,5 @@ pub mod Defining
 pub mod Copying
 pub mod Gathering
 pub mod Inferring
+pub mod Adding
+pub mod Programs

@@ -11,7 +11,7 @@ use lq_unify::{Equation, Solver};
 use std::alloc::{AllocError, Global};
 
 /// The slots of binders, the last first.
-pub fn slots_of(alloc: Global, nodes: u32, binders: &[u32]) -> Result<Vec<u32>, AllocError>
+pub(crate) fn slots_of(alloc: Global, nodes: u32, binders: &[u32]) -> Result<Vec<u32>, AllocError>
     requires { All (λ p. nodes + p < 2 ^ 32) binders.now }
     ensures { IfOk result (λ all. all.items ≡ binder_slots nodes (reverse binders.now)) }
 {
@@ -58,7 +58,7 @@ fn unmark(weak: &mut [bool], classes: &[u32])
 
 /// A node has the type of a copy of a definition's, with other types for its variables, but not for those that these slots' types have:
 /// the classes that are open there are marked while it is copied.
-pub fn add_copy(
+pub(crate) fn add_copy(
     alloc: Global,
     system: &mut System,
     solver: &mut Solver,

@@ -1,5 +1,5 @@
 // The definitions that a walk has left.
-ghost use Rattle.std.specs.Prelude.{◌≡◌, ℕ, ◌+◌, ◌<◌, ◌≤◌, List, None, map, length, slice_index_or, IfOk, OnOk};
+ghost use Rattle.std.specs.Prelude.{◌≡◌, ℕ, ◌+◌, ◌<◌, ◌≤◌, List, None, map, length, slice_index_or, IfOk, IfSome, OnOk};
 ghost use Rattle.std.specs.Option.{option_map};
 ghost use Rattle.lq_name.specs.declared.name.Binder.{Binder};
 ghost use Rattle.lq_tree.specs.Items.{item_form_view};
@@ -16,14 +16,14 @@ use std::alloc::{AllocError, Global};
 /// The definitions so far: of each binder, where it is generalised, the number of definitions before it that aren't; and the binders of
 /// those, in their order.
 #[derive(Drop)]
-pub struct Definitions {
+pub(crate) struct Definitions {
     pub general: Vec<Option<usize>>,
     pub plain: Vec<u32>,
 }
 
 /// A use of a generalised definition: its node, the definition's binder, and how many definitions before it aren't generalised.
 #[derive(Clone, Copy)]
-pub struct Use {
+pub(crate) struct Use {
     pub node: u32,
     pub binder: u32,
     pub before: usize,
@@ -43,7 +43,7 @@ fn widen(table: &mut Vec<Option<usize>>, count: usize) -> Result<(), AllocError>
 
 impl Definitions {
     /// None.
-    pub fn new(alloc: Global) -> Definitions
+    pub(crate) fn new(alloc: Global) -> Definitions
         ensures { HasKnown result none_known }
     {
         Definitions {
@@ -66,8 +66,10 @@ impl Definitions {
 
     // The use that a node is.
     fn use_in(&self, expr: &Expr<Binder>) -> Option<Use>
-        ensures { (k : Known) → HasKnown self.now k → option_map (use_view self.now.plain.items) result
+        ensures found { (k : Known) → HasKnown self.now k → option_map (use_view self.now.plain.items) result
             ≡ use_at_tree k (tree_view Binder (λ b. b.0) expr.now) }
+        ensures low { (k : Known) → HasKnown self.now k
+            → IfSome result (λ u. u.before ≤ length self.now.plain.items) }
     {
         match shape_of(&expr.node) {
             Shape::Leaf(Leaf::Use(x)) => match self.count_before(x.0) {
@@ -83,9 +85,11 @@ impl Definitions {
     }
 
     /// The use of a generalised definition that is left here, if it is one.
-    pub fn use_of(&self, visit: Visit<'_, Binder>) -> Option<Use>
-        ensures { (k : Known) → HasKnown self.now k → option_map (use_view self.now.plain.items) result
+    pub(crate) fn use_of(&self, visit: Visit<'_, Binder>) -> Option<Use>
+        ensures found { (k : Known) → HasKnown self.now k → option_map (use_view self.now.plain.items) result
             ≡ use_at k (visit_view Binder (λ b. b.0) visit.entry) }
+        ensures low { (k : Known) → HasKnown self.now k
+            → IfSome result (λ u. u.before ≤ length self.now.plain.items) }
     {
         match visit {
             Visit::Leave(expr) => self.use_in(expr),
@@ -141,7 +145,11 @@ impl Definitions {
     }
 
     /// What is known behind a visit.
-    pub fn leave(&mut self, alloc: Global, visit: Visit<'_, Binder>) -> Result<(), AllocError>
+    pub(crate) fn leave(
+        &mut self,
+        alloc: Global,
+        visit: Visit<'_, Binder>,
+    ) -> Result<(), AllocError>
         ensures { OnOk result ((k : Known) → HasKnown self.old k
             → HasKnown self.new (behind k (visit_view Binder (λ b. b.0) visit.entry))) }
     {

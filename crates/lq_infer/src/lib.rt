@@ -1,11 +1,14 @@
-//! The equations of a program's types, with copies of generalised definitions for their uses.
+//! The equations of a program's types, with copies of generalised definitions for their uses, and their most general solution.
 #![tactic(auto)]
 
 mod copies;
 mod definitions;
+mod equations;
 mod laws;
+mod program;
+mod solving;
 mod values;
 
-pub use definitions::{Definitions, Use};
+pub use equations::Inferred;
 pub use laws::steps_say_the_rules;
-pub use values::is_value;
+pub use solving::{SolveError, solve_program};

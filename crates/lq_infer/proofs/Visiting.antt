@@ -1,0 +1,110 @@
+-- One visit more.
+use Rattle.std.proofs.Common.{◌≡◌, ℕ, zero, suc, ◌+◌, ◌<◌, ◌≤◌, List, [], ◌∷◌, ◌++◌, take, reverse, Option, Some, None, Result, Ok, Err, IfOk, All, length, refl, sym, ap, subst, ◌∙◌, arith}
+use Rattle.std.specs.Option.{option_map}
+use Rattle.std.proofs.lemmas.List.{reverse-append, map-append, length-append, take-append-le, take_all}
+use Rattle.std.proofs.Math.Seq.{take-append_seam}
+use Rattle.lq_tree.specs.Tree.{Tree, tree}
+use Rattle.lq_tree.specs.Types.{Signature}
+use Rattle.lq_unify.specs.declared.arena.Equation.{Equation}
+use Rattle.lq_unify.specs.Knowing.{IsLonger}
+use Rattle.lq_walk.specs.Shape as shape
+use Rattle.lq_walk.specs.Shape.{Leaf, Shape, shape_of}
+use Rattle.lq_walk.specs.Visits.{Visit, enter_item, leave_item, enter, leave, leave_function, declare, show, hide, show_name, hide_name}
+use Rattle.lq_rules.specs.declared.system.System.{System}
+use Rattle.lq_rules.specs.Adding.{Adds, Grows, count_of}
+use Rattle.lq_rules.specs.Gathered.{VisitRule, VisitIn}
+use Rattle.lq_rules.specs.Within.{LeafIn, ShapeIn, TreeIn}
+use Rattle.lq_apart.specs.Owning.{binder_slots, visit_slots, slots_by, slots_at}
+use Rattle.lq_typings.specs.Uses.{Known, GeneralUse, use_at, use_at_tree, use_at_shape, use_at_leaf, use_by, before_in}
+use Rattle.lq_infer.specs.Copying.{AddsCopy}
+use Rattle.lq_infer.specs.Gathering.{StepBy, IsStep}
+use Rattle.lq_infer.proofs.Naming.{all_left, all_right, all_first, all_rest}
+
+-- ---- the slots of binders
+
+pub slots_low : (nodes m : ℕ) (ps : List ℕ) → All (λ i. i < m) (binder_slots nodes (reverse ps)) → All (λ p. nodes + p < m) ps
+slots_low nodes m [] h = λ k d l. absurd (omega arith)
+slots_low nodes m (p ∷ ps) h =
+    one_more (subst (All (λ i. i < m)) turned h) (slots_low nodes m ps (all_left (λ i. i < m) (binder_slots nodes (reverse ps)) ((nodes + p) ∷ []) (subst (All (λ i. i < m)) turned h)))
+  where
+    turned : binder_slots nodes (reverse (p ∷ ps)) ≡ binder_slots nodes (reverse ps) ++ (nodes + p) ∷ []
+    turned = ap (binder_slots nodes) (reverse-append (p ∷ []) ps) ∙ map-append (λ x. nodes + x) (reverse ps) (p ∷ [])
+
+    one_more : All (λ i. i < m) (binder_slots nodes (reverse ps) ++ (nodes + p) ∷ []) → All (λ q. nodes + q < m) ps → All (λ q. nodes + q < m) (p ∷ ps)
+    one_more a rest zero d l = all_right (λ i. i < m) (binder_slots nodes (reverse ps)) ((nodes + p) ∷ []) a 0 0 (omega arith)
+    one_more a rest (suc k) d l = rest k d (omega arith)
+
+-- ---- the definition of a use is in range
+
+binder_by : (nodes n i x : ℕ) (o : Option (List ℕ)) (u : GeneralUse) → nodes + x < n → use_by i x o ≡ Some u → nodes + u.binder < n
+binder_by nodes n i x None u l e = absurd (cc)
+binder_by nodes n i x (Some ps) u l e = subst (λ (y : GeneralUse). nodes + y.binder < n) (some_same (record { node = i; binder = x; before = ps }) u e) l
+  where
+    some_same : (y z : GeneralUse) → Some y ≡ Some z → y ≡ z
+    some_same y z r = cc
+
+binder_of_leaf : (k : Known) (nodes n i : ℕ) (h : Leaf) (u : GeneralUse) → LeafIn nodes n h → use_at_leaf k i h ≡ Some u → nodes + u.binder < n
+binder_of_leaf k nodes n i (shape.use_of x) u l e = binder_by nodes n i x (before_in k.general x) u l e
+binder_of_leaf k nodes n i (shape.whole m) u l e = absurd (cc)
+binder_of_leaf k nodes n i (shape.flag b) u l e = absurd (cc)
+binder_of_leaf k nodes n i shape.unit u l e = absurd (cc)
+binder_of_leaf k nodes n i (shape.qualified m x) u l e = absurd (cc)
+binder_of_leaf k nodes n i shape.assert_false u l e = absurd (cc)
+binder_of_leaf k nodes n i shape.map_empty u l e = absurd (cc)
+
+binder_of_shape : (k : Known) (nodes n i : ℕ) (h : Shape) (u : GeneralUse) → ShapeIn nodes n h → use_at_shape k i h ≡ Some u → nodes + u.binder < n
+binder_of_shape k nodes n i (shape.leaf h) u l e = binder_of_leaf k nodes n i h u l e
+binder_of_shape k nodes n i (shape.one h a) u l e = absurd (cc)
+binder_of_shape k nodes n i (shape.two h a b) u l e = absurd (cc)
+binder_of_shape k nodes n i (shape.three h a b c) u l e = absurd (cc)
+binder_of_shape k nodes n i (shape.row h ts) u l e = absurd (cc)
+binder_of_shape k nodes n i (shape.function p b) u l e = absurd (cc)
+binder_of_shape k nodes n i (shape.let_in p a b) u l e = absurd (cc)
+binder_of_shape k nodes n i (shape.let_rec f m q p a b) u l e = absurd (cc)
+binder_of_shape k nodes n i (shape.match_on a as_) u l e = absurd (cc)
+
+binder_of_tree : (k : Known) (nodes n : ℕ) (t : Tree) (u : GeneralUse) → TreeIn nodes n t → use_at_tree k t ≡ Some u → nodes + u.binder < n
+binder_of_tree k nodes n (tree i p f) u l e = binder_of_shape k nodes n i (shape_of f) u l.1 e
+
+pub binder_in : (k : Known) (nodes n : ℕ) (v : Visit) (u : GeneralUse) → VisitIn nodes n v → use_at k v ≡ Some u → nodes + u.binder < n
+binder_in k nodes n (leave t) u l e = binder_of_tree k nodes n t u l e
+binder_in k nodes n (enter_item i) u l e = absurd (cc)
+binder_in k nodes n (leave_item i) u l e = absurd (cc)
+binder_in k nodes n (enter t) u l e = absurd (cc)
+binder_in k nodes n (leave_function r) u l e = absurd (cc)
+binder_in k nodes n (declare q) u l e = absurd (cc)
+binder_in k nodes n (show q) u l e = absurd (cc)
+binder_in k nodes n (hide q) u l e = absurd (cc)
+binder_in k nodes n (show_name x) u l e = absurd (cc)
+binder_in k nodes n (hide_name x) u l e = absurd (cc)
+
+module _ (nodes : ℕ) (k : Known) (v : Visit) (u : GeneralUse) (e : use_at k v ≡ Some u) where
+  slots_are : slots_at nodes k v ≡ u.node ∷ binder_slots nodes u.before
+  slots_are = ap (λ o. slots_by nodes o (visit_slots nodes v)) e
+
+  pub use_node_in : (n : ℕ) → All (λ i. i < n) (slots_at nodes k v) → u.node < n
+  use_node_in n a = all_first (λ i. i < n) u.node (binder_slots nodes u.before) (subst (All (λ i. i < n)) slots_are a)
+
+  pub use_fixed_in : (n : ℕ) → All (λ i. i < n) (slots_at nodes k v) → All (λ i. i < n) (binder_slots nodes u.before)
+  use_fixed_in n a = all_rest (λ i. i < n) u.node (binder_slots nodes u.before) (subst (All (λ i. i < n)) slots_are a)
+
+  pub copy_step : (g : Signature) (old new : System) → AddsCopy old new (binder_slots nodes u.before) (nodes + u.binder) u.node → IsStep g nodes k v old new
+  copy_step g old new c = subst (λ o. StepBy g nodes o v old new) (sym e) c
+
+pub rule_step : (g : Signature) (nodes : ℕ) (k : Known) (v : Visit) (old new : System) → use_at k v ≡ None → Adds old new (VisitRule g nodes v) → IsStep g nodes k v old new
+rule_step g nodes k v old new e a = subst (λ o. StepBy g nodes o v old new) (sym e) a
+
+-- ---- more equations
+
+pub front_is : (old new more : List Equation) → new ≡ old ++ more → take (length old) new ≡ old
+front_is old new more e = ap (take (length old)) e ∙ take-append_seam old more
+
+pub front_short : (old new more : List Equation) → new ≡ old ++ more → length old ≤ length new
+front_short old new more e = let x = ap length e in let y = length-append old more in omega arith
+
+pub longer_arena : (old new : System) (more : List Equation) → Grows old new more → IsLonger old.arena new.arena
+longer_arena old new more g = record { more = g.longer; same = g.kept }
+
+pub if_ok : {A E : Type 0} (P Q : A → Type 0) (r : Result A E) → ((x : A) → P x → Q x) → IfOk r P → IfOk r Q
+if_ok P Q (Ok x) f h = f x h
+if_ok P Q (Err e) f h = tt

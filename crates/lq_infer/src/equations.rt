@@ -1,0 +1,195 @@
+// The equations of a program's visits, with the classes that they make.
+ghost use Rattle.std.specs.Prelude.{◌≡◌, ℕ, ◌+◌, ◌<◌, ◌≤◌, length, All, IfOk, IfSome, IfNone};
+ghost use Rattle.lq_name.specs.declared.name.Binder.{Binder};
+ghost use Rattle.lq_tree.specs.MlType.{MlType};
+ghost use Rattle.lq_tree.specs.Types.{Signature};
+ghost use Rattle.lq_walk.specs.Pending.{visit_view};
+ghost use Rattle.lq_rules.specs.Adding.{IsFresh, Adds, count_of};
+ghost use Rattle.lq_rules.specs.Gathered.{VisitIn, VisitRule};
+ghost use Rattle.lq_rules.specs.Solved.{IsPrincipal, Solves, types_in};
+ghost use Rattle.lq_rules.specs.Templates.{AreWhole, HasSignature};
+ghost use Rattle.lq_apart.specs.Owning.{binder_slots};
+ghost use Rattle.lq_infer.specs.Copying.{AddsCopy};
+ghost use Rattle.lq_infer.specs.Defining.{HasKnown, first_of};
+ghost use Rattle.lq_infer.specs.Adding.{IsKept, IsAdded, IsAtVisit, IsStepOf, IsBehind, HasClash};
+ghost use Rattle.lq_typings.specs.Uses.{none_known};
+
+use crate::copies::{add_copy, slots_of};
+use crate::definitions::{Definitions, Use};
+use lq_rules::{Constructors, System};
+use lq_tree::Binder;
+use lq_unify::{Solution, Solver};
+use lq_walk::Visit;
+use std::alloc::{AllocError, Global};
+
+/// The equations of a program's first visits, and the definitions that these have left.
+#[derive(Drop)]
+pub(crate) struct Equations {
+    pub system: System,
+    pub solver: Solver,
+    /// The classes that stay themselves in a copy; none is marked between copies.
+    pub weak: Vec<bool>,
+    pub definitions: Definitions,
+}
+
+/// The equations of a program with their most general solution.
+#[derive(Drop)]
+pub struct Inferred {
+    pub system: System,
+    pub solution: Solution,
+}
+
+impl Equations {
+    /// Those of no visits, between so many slots.
+    pub(crate) fn new(alloc: Global, slots: usize) -> Result<Equations, AllocError>
+        ensures fresh { IfOk result (λ s. IsFresh slots s.system) }
+        ensures kept { IfOk result (λ s. IsKept s) }
+        ensures known { IfOk result (λ s. HasKnown s.definitions none_known) }
+    {
+        let system = System::new(alloc, slots)?;
+        let solver = Solver::new(alloc, &system.arena)?;
+        Ok(Equations {
+            system,
+            solver,
+            weak: Vec::new(alloc),
+            definitions: Definitions::new(alloc),
+        })
+    }
+
+    // With a copy for a use of a generalised definition.
+    fn with_copy(mut self, alloc: Global, nodes: u32, found: Use) -> Result<Equations, AllocError>
+        requires kept { IsKept self }
+        requires before { found.before ≤ length self.definitions.plain.items }
+        requires fixed { All (λ i. i < count_of self.system)
+            (binder_slots nodes (first_of self.definitions.plain.items found.before)) }
+        requires definition { nodes + found.binder < count_of self.system }
+        requires node { found.node < count_of self.system }
+        ensures added { IfOk result (λ s. IsAdded self s) }
+        ensures copy { IfOk result (λ s. AddsCopy self.system s.system
+            (binder_slots nodes (first_of self.definitions.plain.items found.before)) (nodes + found.binder)
+            found.node) }
+    {
+        let fixed = slots_of(alloc, nodes, &self.definitions.plain[..found.before])?;
+        let definition = nodes + found.binder;
+        add_copy(
+            alloc,
+            &mut self.system,
+            &mut self.solver,
+            &mut self.weak,
+            &fixed,
+            definition,
+            found.node,
+        )?;
+        Ok(self)
+    }
+
+    // With the rule of a visit.
+    fn with_rule(
+        self,
+        alloc: Global,
+        constructors: &Constructors,
+        nodes: u32,
+        visit: Visit<'_, Binder>,
+    ) -> Result<Equations, AllocError>
+        requires kept { IsKept self }
+        requires whole { AreWhole constructors.now }
+        requires signature { (g : Signature) × HasSignature constructors.now g }
+        requires within { VisitIn nodes (count_of self.system) (visit_view Binder (λ b. b.0) visit) }
+        ensures added { IfOk result (λ s. IsAdded self s) }
+        ensures rule { IfOk result (λ s. (g : Signature) → HasSignature constructors.now g → Adds self.system
+            s.system (VisitRule g nodes (visit_view Binder (λ b. b.0) visit.entry))) }
+    {
+        let Equations {
+            system,
+            mut solver,
+            weak,
+            definitions,
+        } = self;
+        let system = system.with_visit(alloc, constructors, nodes, visit)?;
+        solver.grow(&system.arena)?;
+        Ok(Equations {
+            system,
+            solver,
+            weak,
+            definitions,
+        })
+    }
+
+    // With what a visit adds, where the classes are still those of the equations before.
+    fn with_step(
+        self,
+        alloc: Global,
+        constructors: &Constructors,
+        nodes: u32,
+        visit: Visit<'_, Binder>,
+    ) -> Result<Equations, AllocError>
+        requires kept { IsKept self }
+        requires whole { AreWhole constructors.now }
+        requires signature { (g : Signature) × HasSignature constructors.now g }
+        requires within { VisitIn nodes (count_of self.system) (visit_view Binder (λ b. b.0) visit) }
+        requires known { IsAtVisit nodes self (visit_view Binder (λ b. b.0) visit) }
+        ensures added { IfOk result (λ s. IsAdded self s) }
+        ensures step { IfOk result (λ s. IsStepOf constructors.now nodes self
+            (visit_view Binder (λ b. b.0) visit.entry) s.system) }
+    {
+        match self.definitions.use_of(visit) {
+            Some(found) => self.with_copy(alloc, nodes, found),
+            None => self.with_rule(alloc, constructors, nodes, visit),
+        }
+    }
+
+    /// With what a visit adds, or None where a head then meets another one.
+    pub(crate) fn with_visit(
+        self,
+        alloc: Global,
+        constructors: &Constructors,
+        nodes: u32,
+        visit: Visit<'_, Binder>,
+    ) -> Result<Option<Equations>, AllocError>
+        requires kept { IsKept self }
+        requires whole { AreWhole constructors.now }
+        requires signature { (g : Signature) × HasSignature constructors.now g }
+        requires within { VisitIn nodes (count_of self.system) (visit_view Binder (λ b. b.0) visit) }
+        requires known { IsAtVisit nodes self (visit_view Binder (λ b. b.0) visit) }
+        ensures kept { IfOk result (λ found. IfSome found (λ s. IsKept s)) }
+        ensures step { IfOk result (λ found. IfSome found (λ s. IsStepOf constructors.now nodes self
+            (visit_view Binder (λ b. b.0) visit.entry) s.system)) }
+        ensures longer { IfOk result (λ found. IfSome found (λ s. count_of self.system ≤ count_of s.system)) }
+        ensures known { IfOk result (λ found. IfSome found (λ s. IsBehind
+            (visit_view Binder (λ b. b.0) visit.entry) self.definitions s.definitions)) }
+        ensures clash { IfOk result (λ found. IfNone found (HasClash constructors.now nodes self
+            (visit_view Binder (λ b. b.0) visit.entry))) }
+    {
+        let from = self.system.equations.len();
+        let mut next = self.with_step(alloc, constructors, nodes, visit)?;
+        if !next
+            .solver
+            .merge(&next.system.arena, &next.system.equations, from)?
+        {
+            return Ok(None);
+        }
+        next.definitions.leave(alloc, visit)?;
+        Ok(Some(next))
+    }
+
+    /// With their most general solution, or None where they have none.
+    pub(crate) fn solved(self, alloc: Global) -> Result<Option<Inferred>, AllocError>
+        requires kept { IsKept self }
+        ensures same { IfOk result (λ found. IfSome found (λ i. i.system ≡ self.system)) }
+        ensures principal { IfOk result (λ found. IfSome found (λ i. IsPrincipal i.system
+            (types_in i.system i.solution))) }
+        ensures none { IfOk result (λ found. IfNone found ((types : ℕ → MlType)
+            → Solves self.system self.system.equations.items types → ⊥)) }
+    {
+        let Equations {
+            system,
+            solver,
+            weak: _weak,
+            definitions: _definitions,
+        } = self;
+        match solver.solution(alloc, &system.arena)? {
+            Some(solution) => Ok(Some(Inferred { system, solution })),
+            None => Ok(None),
+        }
+    }
+}
