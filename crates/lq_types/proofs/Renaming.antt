@@ -1,5 +1,6 @@
 -- Tables whose variables get other numbers.
-use Rattle.std.proofs.Common.{◌≡◌, ℕ, zero, suc, ◌<◌, ◌^◌, List, [], ◌∷◌, ◌++◌, length, take, drop, map, get_or, slice_get, Some, refl, sym, ap, ap₂, subst, ◌∙◌}
+use Rattle.std.proofs.Common.{◌≡◌, ℕ, zero, suc, ◌<◌, ◌^◌, List, [], ◌∷◌, ◌++◌, length, take, drop, map, get_or, slice_get, Some, refl, sym, ap, ap₂}
+use Rattle.std.proofs.Common.{subst, ◌∙◌}
 use Rattle.std.proofs.Math.ListN.{get_or-map}
 use Rattle.lq_tree.specs.MlType as ml
 use Rattle.lq_tree.specs.MlType.{MlType, MlTypes}
@@ -34,21 +35,25 @@ put-each by all (i ∷ is) = ap₂ ml.more_types (sym (get_or-map (put by) all i
 abbrev named : List ℕ → ℕ → MlType
 named names v = ml.var (get_or names v v)
 
-built-renamed : (parts names : List ℕ) (all : List MlType) (r : Row) → built parts (map (put (named names)) all) (renamed names r) ≡ put (named names) (built parts all r)
+built-renamed : (parts names : List ℕ) (all : List MlType) (r : Row)
+    → built parts (map (put (named names)) all) (renamed names r) ≡ put (named names) (built parts all r)
 built-renamed parts names all (Var v) = refl
 built-renamed parts names all (Made h first count) =
-    sym (put-made (named names) h (each (at all) (take count (drop first parts))) ∙ ap (made h) (put-each (named names) all (take count (drop first parts))))
+    sym (put-made (named names) h (each (at all) (take count (drop first parts)))
+        ∙ ap (made h) (put-each (named names) all (take count (drop first parts))))
 
 map-push : (f : MlType → MlType) (xs : List MlType) (x : MlType) → map f (xs ++ x ∷ []) ≡ map f xs ++ f x ∷ []
 map-push f [] x = refl
 map-push f (y ∷ xs) x = ap (λ l. f y ∷ l) (map-push f xs x)
 
 pub grown-renamed : (parts names : List ℕ) (all : List MlType) (rs : List Row)
-    → grown parts (map (put (λ v. ml.var (get_or names v v))) all) (map (renamed names) rs) ≡ map (put (λ v. ml.var (get_or names v v))) (grown parts all rs)
+    → grown parts (map (put (λ v. ml.var (get_or names v v))) all) (map (renamed names) rs) ≡ map (put (λ v. ml.var (get_or names v v)))
+        (grown parts all rs)
 grown-renamed parts names all [] = refl
 grown-renamed parts names all (r ∷ rs) =
     let new = built parts all r in
-    ap (λ l. grown parts l (map (renamed names) rs)) (ap (λ t. map (put (named names)) all ++ t ∷ []) (built-renamed parts names all r) ∙ sym (map-push (put (named names)) all new))
+    ap (λ l. grown parts l (map (renamed names) rs)) (ap (λ t. map (put (named names)) all ++ t ∷ []) (built-renamed parts names all r)
+        ∙ sym (map-push (put (named names)) all new))
     ∙ grown-renamed parts names (all ++ new ∷ []) rs
 
 made_before : (names : List ℕ) (r : Row) (h : TypeHead) (first count : ℕ) → renamed names r ≡ Made h first count → r ≡ Made h first count
@@ -58,7 +63,8 @@ made_before names (Made g a n) h first count e = e
 some_row : (a b : Row) → Some a ≡ Some b → a ≡ b
 some_row a b e = cc
 
-row_before : (names : List ℕ) (rs : List Row) (i : ℕ) (h : TypeHead) (first count : ℕ) → slice_get (map (renamed names) rs) i ≡ Some (Made h first count) → slice_get rs i ≡ Some (Made h first count)
+row_before : (names : List ℕ) (rs : List Row) (i : ℕ) (h : TypeHead) (first count : ℕ)
+    → slice_get (map (renamed names) rs) i ≡ Some (Made h first count) → slice_get rs i ≡ Some (Made h first count)
 row_before names [] i h first count e = absurd (cc)
 row_before names (r ∷ rs) zero h first count e = ap Some (made_before names r h first count (some_row (renamed names r) (Made h first count) e))
 row_before names (r ∷ rs) (suc i) h first count e = row_before names rs i h first count e

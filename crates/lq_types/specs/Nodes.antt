@@ -25,7 +25,8 @@ grown parts all (r ∷ rs) = grown parts (all ++ built parts all r ∷ []) rs
 pub record IsTable (parts : List ℕ) (rows : List Row) : Type 0 where
   pub small : length rows < 2 ^ 32
   pub fits : (i : ℕ) (h : TypeHead) (first count : ℕ) → slice_get rows i ≡ Some (Made h first count) → first + count ≤ length parts
-  pub below : (i : ℕ) (h : TypeHead) (first count : ℕ) → slice_get rows i ≡ Some (Made h first count) → All (λ p. p < i) (take count (drop first parts))
+  pub below : (i : ℕ) (h : TypeHead) (first count : ℕ) → slice_get rows i ≡ Some (Made h first count)
+      → All (λ p. p < i) (take count (drop first parts))
   pub right : (i : ℕ) (h : TypeHead) (first count : ℕ) → slice_get rows i ≡ Some (Made h first count) → IsRight h count
 
 -- a variable's row with the variable's other number

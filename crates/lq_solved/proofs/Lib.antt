@@ -1,0 +1,4 @@
+-- Lemmas.
+pub mod Making
+pub mod Placing
+pub mod Ordering
