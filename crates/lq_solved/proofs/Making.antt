@@ -1,7 +1,6 @@
 -- Types made by heads while they are inferred, and by heads of a table.
-use Rattle.std.proofs.Common.{◌≡◌, ℕ, List, [], ◌∷◌, refl, ap}
-use Rattle.lq_tree.specs.MlType as ml
-use Rattle.lq_tree.specs.MlType.{MlType, MlTypes}
+use Rattle.std.proofs.Common.{◌≡◌, ℕ, refl}
+use Rattle.lq_tree.specs.MlType.{MlTypes}
 use Rattle.lq_unify.specs.declared.arena.Head.{Head}
 use Rattle.lq_unify.specs.declared.arena.Head.TheVariants as from
 use Rattle.lq_rules.specs.Solutions as rules

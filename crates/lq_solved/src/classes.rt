@@ -22,8 +22,9 @@ pub(crate) fn types_of_classes(
 ) -> Result<SlotTypes, AllocError>
     requires { IsSettled system.now solution.now }
     ensures long { IfOk result (λ s. length s.rows.items ≡ count_of system.now) }
-    ensures placed { IfOk result (λ s. (i : ℕ) → i < count_of system.now → IsPlaced (types_of s.types) s.rows.items
-        (types_in system.now solution.now) (root solution.now.parents.items i)) }
+    ensures placed { IfOk result (λ s. (i : ℕ) → i < count_of system.now
+        → IsPlaced (types_of s.types) s.rows.items (types_in system.now solution.now)
+        (root solution.now.parents.items i)) }
 {
     let mut types = TypeTable::new(alloc);
     let mut rows = no_rows(alloc, system.arena.nodes.len())?;
@@ -57,8 +58,8 @@ fn push_class(
     requires long { length rows.now ≡ count_of system.now }
     requires inside { class < count_of system.now }
     requires is_root { up solution.now.parents.items class ≡ class }
-    requires placed { All (λ p. IsPlaced (types_of types.old) rows.now (types_in system.now solution.now)
-        (root solution.now.parents.items p))
+    requires placed { All (λ p. IsPlaced (types_of types.old) rows.now
+        (types_in system.now solution.now) (root solution.now.parents.items p))
         (inner (forms_of system.now) solution.now.shapes.items class) }
     ensures added { OnOk result (types_of types.new
         ≡ types_of types.old ++ types_in system.now solution.now class ∷ []) }

@@ -20,7 +20,8 @@ pub struct SlotTypes {
     pub rows: Vec<u32>,
 }
 
-/// The types that a solution gives to the first so many nodes of a system. What is of one class is one type of the table.
+/// The types that a solution gives to the first so many nodes of a system. What is of one class is one
+/// type of the table.
 pub fn table_of(
     alloc: Global,
     system: &System,

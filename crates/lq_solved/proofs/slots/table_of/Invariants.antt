@@ -1,4 +1,3 @@
-use Rattle.std.proofs.Common.{◌≡◌, ◌<◌, ℕ, length, get_or}
 use Rattle.lq_rules.specs.Solved.{types_in}
 use Rattle.lq_types.specs.Whole.{types_of}
 use Rattle.lq_solved.specs.Slots.{AreTypesOf}
