@@ -2,12 +2,12 @@
 use Rattle.std.proofs.Common.{◌≡◌, ℕ, zero, suc, List, [], ◌∷◌, ◌++◌, Option, Some, None, Bool, true, false, not, cond, ◌==◌, ◌⊎◌, inl, inr, refl, sym, ap, ap₂, subst, ◌∙◌, arith, length, slice_get}
 use Rattle.std.specs.Map.{lookup}
 use Rattle.lq_linear.specs.Row.{Row}
-use Rattle.lq_pred.specs.Sum.{same_symbol}
+use Rattle.lq_pred.specs.Sum.{Sum, same_symbol}
 use Rattle.lq_pred.specs.contracts.symbol.SymbolPartialEq.TheImpl as symbols
 use Rattle.lq_pred.specs.declared.symbol.Symbol.{Symbol}
 use Rattle.lq_pred.specs.declared.symbol.Symbol.TheVariants.{Value, Bound, Position}
 use Rattle.std.proofs.lemmas.Bool.{eqb-true}
-use Rattle.lq_combine.specs.Path.{Fact, flag_fact, row_fact, numbered_at}
+use Rattle.lq_combine.specs.Path.{Fact, flag_fact, row_fact, objects_fact, numbered_at}
 use Rattle.lq_case.specs.Flags.{find_given, GivenNow, first, again, other, IsFlagClash, IsClash, AreFlagsOf, clash_after}
 use Rattle.lq_case.specs.declared.flags.FlagClash.{FlagClash}
 use Rattle.lq_case.specs.declared.flags.Given.{Given}
@@ -115,6 +115,14 @@ with_row fs es clash r a = record {
   given = λ x g h. numbered_more fs (row_fact r ∷ []) (flag_fact x g.value) g.number (a.given x g h);
   is_clash = clash_more fs (row_fact r ∷ []) clash a.is_clash;
   agree = λ e k x value h. elim (numbered_push fs (row_fact r) (flag_fact x value) k h) [ inl p ↦ a.agree e k x value p | inr p ↦ absurd (cc) ];
+}
+
+-- a fact about objects
+pub with_same : (fs : List Fact) (es : List (Symbol × Given)) (clash : Option FlagClash) (a b : Sum) (one : Bool) → AreFlagsOf fs es clash → AreFlagsOf (fs ++ objects_fact a b one ∷ []) es clash
+with_same fs es clash a b one h = record {
+  given = λ x g k. numbered_more fs (objects_fact a b one ∷ []) (flag_fact x g.value) g.number (h.given x g k);
+  is_clash = clash_more fs (objects_fact a b one ∷ []) clash h.is_clash;
+  agree = λ e k x value i. elim (numbered_push fs (objects_fact a b one) (flag_fact x value) k i) [ inl p ↦ h.agree e k x value p | inr p ↦ absurd (cc) ];
 }
 
 not_not : (b : Bool) → b ≡ not (not b)

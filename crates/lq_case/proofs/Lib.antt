@@ -6,3 +6,4 @@ pub mod Keeping
 pub mod Giving
 pub mod Facts
 pub mod Pathing
+pub mod Objects

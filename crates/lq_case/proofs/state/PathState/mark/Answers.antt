@@ -4,6 +4,6 @@ use Rattle.lq_case.proofs.Facts.{facts-length}
 use Rattle.lq_case.proofs.state.PathState.mark.Goals as goal
 
 pub returns : goal.returns
-returns c =
+returns c = λ name.
     let v : vec_len c.self.inside.steps ≡ length c.self.inside.steps.items = c.self.inside.steps.ok.0 in
-    c.len.ensures ∙ v ∙ sym (facts-length c.self.inside.steps.items c.self.inside.rows.rows) ∙ ap (λ (s : PathState). length (facts_in s)) c.self.view_is
+    c.len.ensures ∙ v ∙ sym (facts-length name c.self.inside.steps.items c.self.inside.rows.rows) ∙ ap (λ (s : PathState). length (facts_in name s)) c.self.view_is
