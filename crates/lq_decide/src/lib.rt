@@ -1,0 +1,10 @@
+//! Cases: literals in order, with the table that numbers the terms of their rows.
+#![tactic(auto)]
+
+mod fact;
+mod laws;
+mod literals;
+
+pub use fact::{Fact, Facts};
+pub use laws::proved_cases_have_no_point;
+pub use literals::Literals;
