@@ -26,7 +26,9 @@ has_filtered (t ∷ ts) s h = by (is_application t) (has_filtered ts s) h
   where
     by : (b : Bool) → (has_term (filter is_application ts) s ≡ true → has_term ts s ≡ true)
         → has_term (cond b (t ∷ filter is_application ts) (filter is_application ts)) s ≡ true → has_term (t ∷ ts) s ≡ true
-    by true f h = either (same s t) (has_term (filter is_application ts) s) (has_term (t ∷ ts) s ≡ true) h (or_left (same s t) (has_term ts s)) (λ k. or_right (same s t) (has_term ts s) (f k))
+    by true f h =
+        either (same s t) (has_term (filter is_application ts) s) (has_term (t ∷ ts) s ≡ true) h (or_left (same s t) (has_term ts s))
+        (λ k. or_right (same s t) (has_term ts s) (f k))
     by false f h = or_right (same s t) (has_term ts s) (f h)
 
 pub each_agree : (i : ClosedImplication) (p : Point) → IsPoint i p → EachAgree p (applications_in i)
