@@ -4,6 +4,7 @@ use Rattle.std.proofs.lemmas.List.{length-append}
 use Rattle.std.proofs.Math.Seq.{take-append_seam}
 use Rattle.lq_tree.specs.MlType.{MlType}
 use Rattle.lq_tree.specs.Types.{Signature}
+use Rattle.lq_unify.specs.Solved.{HasOrder}
 use Rattle.lq_walk.specs.Visits.{Visit}
 use Rattle.lq_rules.specs.declared.system.System.{System}
 use Rattle.lq_rules.specs.Adding.{IsSystem, IsFresh, count_of}
@@ -71,10 +72,11 @@ module _ (p : Program) (n : ℕ) (left : List Visit) (s : Equations) (ready : Is
       let w : length left ≡ 0 = ap length e in
       omega arith
 
-  pub front_solved : (limit : ℕ) → n ≡ limit → (d : Inferred) → d.system ≡ s.system → IsPrincipal d.system (types_in d.system d.solution) → IsFrontSolved p limit d
-  front_solved limit e d same principal = record {
+  pub front_solved : (limit : ℕ) → n ≡ limit → (d : Inferred) → d.system ≡ s.system → IsPrincipal d.system (types_in d.system d.solution) → HasOrder d.system.arena d.solution → IsFrontSolved p limit d
+  front_solved limit e d same principal ordered = record {
     system = subst IsSystem (sym same) i.kept.system;
     principal = principal;
+    ordered = ordered;
     complete = λ g h. subst (λ y. IsComplete g p.nodes p.slots (take limit (visits_in p)) y) (sym same)
         (subst (λ m. IsComplete g p.nodes p.slots (take m (visits_in p)) s.system) e (front_says g h).0);
     sound = λ g h. subst (λ y. IsSound g p.nodes (take limit (visits_in p)) y) (sym same) (subst (λ m. IsSound g p.nodes (take m (visits_in p)) s.system) e (front_says g h).1);

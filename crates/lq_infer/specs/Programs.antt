@@ -4,6 +4,7 @@ use Rattle.lq_name.specs.declared.name.Binder.{Binder}
 use Rattle.lq_tree.specs.Items.{items_view}
 use Rattle.lq_tree.specs.MlType.{MlType}
 use Rattle.lq_tree.specs.Types.{Signature}
+use Rattle.lq_unify.specs.Solved.{HasOrder}
 use Rattle.lq_walk.specs.Visits.{Visit, visits_of_items}
 use Rattle.lq_rules.specs.Adding.{IsSystem}
 use Rattle.lq_rules.specs.Gathered.{VisitIn}
@@ -39,6 +40,7 @@ Cannot p n = (g : Signature) → HasSignature p.constructors g → (types : ℕ 
 pub record IsFrontSolved (p : Program) (n : ℕ) (i : Inferred) : Type 0 where
   pub system : IsSystem i.system
   pub principal : IsPrincipal i.system (types_in i.system i.solution)
+  pub ordered : HasOrder i.system.arena i.solution
   pub complete : (g : Signature) → HasSignature p.constructors g → IsComplete g p.nodes p.slots (take n (visits_in p)) i.system
   pub sound : (g : Signature) → HasSignature p.constructors g → IsSound g p.nodes (take n (visits_in p)) i.system
 

@@ -4,6 +4,7 @@ ghost use Rattle.lq_name.specs.declared.name.Binder.{Binder};
 ghost use Rattle.lq_tree.specs.MlType.{MlType};
 ghost use Rattle.lq_tree.specs.Types.{Signature};
 ghost use Rattle.lq_walk.specs.Pending.{visit_view};
+ghost use Rattle.lq_unify.specs.Solved.{HasOrder};
 ghost use Rattle.lq_rules.specs.Adding.{IsFresh, Adds, count_of};
 ghost use Rattle.lq_rules.specs.Gathered.{VisitIn, VisitRule};
 ghost use Rattle.lq_rules.specs.Solved.{IsPrincipal, Solves, types_in};
@@ -178,6 +179,7 @@ impl Equations {
         ensures same { IfOk result (λ found. IfSome found (λ i. i.system ≡ self.system)) }
         ensures principal { IfOk result (λ found. IfSome found (λ i. IsPrincipal i.system
             (types_in i.system i.solution))) }
+        ensures ordered { IfOk result (λ found. IfSome found (λ i. HasOrder i.system.arena i.solution)) }
         ensures none { IfOk result (λ found. IfNone found ((types : ℕ → MlType)
             → Solves self.system self.system.equations.items types → ⊥)) }
     {

@@ -2,6 +2,7 @@
 ghost use Rattle.std.specs.Prelude.{◌≡◌, IfOk, IfErr};
 ghost use Rattle.lq_name.specs.declared.place.Place.{Place};
 ghost use Rattle.lq_scoped.specs.Whole.{scoped_view};
+ghost use Rattle.lq_unify.specs.Solved.{HasOrder};
 ghost use Rattle.lq_rules.specs.Adding.{IsSystem};
 ghost use Rattle.lq_rules.specs.Solved.{types_in};
 ghost use Rattle.lq_infer.specs.Inferring.{IsSolved};
@@ -42,6 +43,7 @@ pub fn solve_program(alloc: Global, program: &Scoped) -> Result<Inferred, SolveE
     ensures system { IfOk result (λ i. IsSystem i.system) }
     ensures solved { IfOk result (λ i. IsSolved (scoped_view program.now) i.system
         (types_in i.system i.solution)) }
+    ensures ordered { IfOk result (λ i. HasOrder i.system.arena i.solution) }
     ensures ill_typed { IfErr result (λ e. (place : Place) → e ≡ IllTyped place
         → IsIllTyped (scoped_view program.now) place) }
 {

@@ -35,6 +35,7 @@ pub returns-in-Some-2 : goal.returns-in-Some-2
 returns-in-Some-2 c =
     front_solved c.args.self.now c.loop-taken.taken (left Binder (λ b. b.0) c.loop-taken.walk) c.loop-taken.equations c.requires.ready c.loop-taken.invariant c.args.limit (omega arith) c.in-Some-2.inferred
     (rw c.in-Some-2.is at c.in_ok-inferred.ensures.same) (rw c.in-Some-2.is at c.in_ok-inferred.ensures.principal)
+    (rw c.in-Some-2.is at c.in_ok-inferred.ensures.ordered)
 
 pub returns : goal.returns
 returns c = (
