@@ -46,7 +46,7 @@ grown-variable parts (x ∷ rs) all zero v h =
     let n = length-append all (new ∷ []) in
     let i : length all + 0 ≡ length all = omega arith in
     ap (at (grown parts (all ++ new ∷ []) rs)) i ∙ grown-keeps parts (all ++ new ∷ []) rs (length all) (omega arith)
-        ∙ get_or_push all new ml.unit (length all) refl ∙ ap (built parts all) same
+    ∙ get_or_push all new ml.unit (length all) refl ∙ ap (built parts all) same
 grown-variable parts (x ∷ rs) all (suc k) v h =
     let new = built parts all x in
     let n : length (all ++ new ∷ []) ≡ length all + 1 = length-append all (new ∷ []) in
@@ -67,7 +67,7 @@ grown-made parts (x ∷ rs) all zero h first count e b =
     let n : length next ≡ length all + 1 = length-append all (new ∷ []) in
     let i : length all + 0 ≡ length all = omega arith in
     let here : at (grown parts next rs) (length all) ≡ new = grown-keeps parts next rs (length all) (omega arith)
-        ∙ get_or_push all new ml.unit (length all) refl in
+    ∙ get_or_push all new ml.unit (length all) refl in
     let there : each (at all) row ≡ each (at (grown parts next rs)) row =
     each-by (at all) (at (grown parts next rs)) row (λ j d l. let p : get_or row j d < length all + 0 = b j d l in
     sym (grown-keeps parts next rs (get_or row j d) (omega arith) ∙ get_or_append_left all (new ∷ []) ml.unit (get_or row j d) (omega arith))) in
@@ -78,7 +78,7 @@ grown-made parts (x ∷ rs) all (suc k) h first count e b =
     let n : length next ≡ length all + 1 = length-append all (new ∷ []) in
     let i : length all + suc k ≡ length next + k = omega arith in
     ap (at (grown parts next rs)) i ∙ grown-made parts rs next k h first count e
-        (λ j d l. let p : get_or (take count (drop first parts)) j d < length all + suc k = b j d l in omega arith)
+    (λ j d l. let p : get_or (take count (drop first parts)) j d < length all + suc k = b j d l in omega arith)
 
 -- ---- more parts behind the others
 
@@ -145,7 +145,7 @@ table-made parts more rows h t small below right = record {
   fits = λ i g first count e. elim (one_more rows (Made h (length parts) (length more)) (Made g first count) i e) [
     | inl f ↦ (table-append parts more rows t).fits i g first count f
     | inr f ↦ let a = made_first h g (length parts) first (length more) count f.1 in
-    let b = made_count h g (length parts) first (length more) count f.1 in
+        let b = made_count h g (length parts) first (length more) count f.1 in
         let c = length-append parts more in omega arith
   ];
   below = λ i g first count e. elim (one_more rows (Made h (length parts) (length more)) (Made g first count) i e) [
@@ -153,7 +153,7 @@ table-made parts more rows h t small below right = record {
     | inr f ↦ subst (λ j. All (λ p. p < j) (take count (drop first (parts ++ more)))) (sym f.0)
         (subst (λ j. All (λ p. p < length rows) (take j (drop first (parts ++ more)))) (made_count h g (length parts) first (length more) count f.1)
         (subst (λ j. All (λ p. p < length rows) (take (length more) (drop j (parts ++ more))))
-            (made_first h g (length parts) first (length more) count f.1)
+        (made_first h g (length parts) first (length more) count f.1)
         (subst (All (λ p. p < length rows)) (sym (row-behind parts more)) below)))
   ];
   right = λ i g first count e. elim (one_more rows (Made h (length parts) (length more)) (Made g first count) i e) [
@@ -166,12 +166,18 @@ table-made parts more rows h t small below right = record {
 pub table-variable : (parts : List ℕ) (rows : List Row) (v : ℕ) → IsTable parts rows → length rows + 1 < 2 ^ 32 → IsTable parts (rows ++ Var v ∷ [])
 table-variable parts rows v t small = record {
   small = omega (arith, length-append rows (Var v ∷ []));
-  fits = λ i g first count e. elim (one_more rows (Var v) (Made g first count) i e) [ inl f ↦ t.fits i g first count f
-      | inr f ↦ absurd (apart g first count f.1) ];
-  below = λ i g first count e. elim (one_more rows (Var v) (Made g first count) i e) [ inl f ↦ t.below i g first count f
-      | inr f ↦ absurd (apart g first count f.1) ];
-  right = λ i g first count e. elim (one_more rows (Var v) (Made g first count) i e) [ inl f ↦ t.right i g first count f
-      | inr f ↦ absurd (apart g first count f.1) ];
+  fits = λ i g first count e. elim (one_more rows (Var v) (Made g first count) i e) [
+    | inl f ↦ t.fits i g first count f
+    | inr f ↦ absurd (apart g first count f.1)
+  ];
+  below = λ i g first count e. elim (one_more rows (Var v) (Made g first count) i e) [
+    | inl f ↦ t.below i g first count f
+    | inr f ↦ absurd (apart g first count f.1)
+  ];
+  right = λ i g first count e. elim (one_more rows (Var v) (Made g first count) i e) [
+    | inl f ↦ t.right i g first count f
+    | inr f ↦ absurd (apart g first count f.1)
+  ];
 }
   where
     apart : (g : TypeHead) (first count : ℕ) → Var v ≡ Made g first count → ⊥
@@ -198,7 +204,7 @@ pub types-pushed : (parts more whole : List ℕ) (rows longer : List Row) (h : T
     → grown whole [] longer ≡ grown parts [] rows ++ made h (each (at (grown parts [] rows)) more) ∷ []
 types-pushed parts more whole rows longer h first count w l f n t =
     ap₂ (λ a b. grown a [] b) w (l ∙ ap₂ (λ a b. rows ++ Made h a b ∷ []) f n)
-        ∙ grown-push (parts ++ more) [] rows (Made h (length parts) (length more))
+    ∙ grown-push (parts ++ more) [] rows (Made h (length parts) (length more))
     ∙ ap₂ (λ a b. a ++ made h (each (at a) b) ∷ []) (grown-append parts more [] rows t.fits) (row-behind parts more)
 
 pub types-kept : (parts more whole : List ℕ) (rows longer : List Row) → whole ≡ parts ++ more → longer ≡ rows → IsTable parts rows

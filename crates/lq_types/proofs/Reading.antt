@@ -32,7 +32,7 @@ made_at parts rows i h first count t e = record {
   right = subst (IsRight h) (sym (row-length parts first count (t.fits i h first count e))) (t.right i h first count e);
   type = subst (λ k. at (grown parts [] rows) k ≡ made h (each (at (grown parts [] rows)) (take count (drop first parts)))) (zero_more i)
       (grown-made parts rows [] i h first count e
-          (subst (λ k. All (λ p. p < k) (take count (drop first parts))) (sym (zero_more i)) (t.below i h first count e)));
+      (subst (λ k. All (λ p. p < k) (take count (drop first parts))) (sym (zero_more i)) (t.below i h first count e)));
 }
 
 same_count : (first count : ℕ) → first + count - first ≡ count
@@ -44,13 +44,13 @@ pub made_read : (parts : List ℕ) (rows : List Row) (i n : ℕ) (r : Row) (h : 
 made_read parts rows i n r h first count t long l read is whole w =
     subst (λ xs. IsMade parts rows i first count h (take (first + count - first) (drop first xs))) (sym w)
     (subst (λ k. IsMade parts rows i first count h (take k (drop first parts))) (sym (same_count first count))
-        (made_at parts rows i h first count t (slice_get_read rows n i r long l read ∙ ap Some is)))
+    (made_at parts rows i h first count t (slice_get_read rows n i r long l read ∙ ap Some is)))
 
 pub variable_read : (parts : List ℕ) (rows : List Row) (i n : ℕ) (r : Row) (v : ℕ) → n ≡ length rows → i < n → r ≡ get_or rows i r → r ≡ Var v
     → at (grown parts [] rows) i ≡ ml.var v
 variable_read parts rows i n r v long l read is =
     subst (λ k. at (grown parts [] rows) k ≡ ml.var v) (zero_more i)
-        (grown-variable parts rows [] i v (slice_get_read rows n i r long l read ∙ ap Some is))
+    (grown-variable parts rows [] i v (slice_get_read rows n i r long l read ∙ ap Some is))
 
 pub row_there : (parts : List ℕ) (rows : List Row) (i n : ℕ) → n ≡ length rows → i < length (grown parts [] rows) → i < n
 row_there parts rows i n e h = let k = length-grown parts [] rows in omega arith

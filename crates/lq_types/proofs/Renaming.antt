@@ -40,7 +40,7 @@ built-renamed : (parts names : List ℕ) (all : List MlType) (r : Row)
 built-renamed parts names all (Var v) = refl
 built-renamed parts names all (Made h first count) =
     sym (put-made (named names) h (each (at all) (take count (drop first parts)))
-        ∙ ap (made h) (put-each (named names) all (take count (drop first parts))))
+    ∙ ap (made h) (put-each (named names) all (take count (drop first parts))))
 
 map-push : (f : MlType → MlType) (xs : List MlType) (x : MlType) → map f (xs ++ x ∷ []) ≡ map f xs ++ f x ∷ []
 map-push f [] x = refl
@@ -48,12 +48,12 @@ map-push f (y ∷ xs) x = ap (λ l. f y ∷ l) (map-push f xs x)
 
 pub grown-renamed : (parts names : List ℕ) (all : List MlType) (rs : List Row)
     → grown parts (map (put (λ v. ml.var (get_or names v v))) all) (map (renamed names) rs) ≡ map (put (λ v. ml.var (get_or names v v)))
-        (grown parts all rs)
+    (grown parts all rs)
 grown-renamed parts names all [] = refl
 grown-renamed parts names all (r ∷ rs) =
     let new = built parts all r in
     ap (λ l. grown parts l (map (renamed names) rs)) (ap (λ t. map (put (named names)) all ++ t ∷ []) (built-renamed parts names all r)
-        ∙ sym (map-push (put (named names)) all new))
+    ∙ sym (map-push (put (named names)) all new))
     ∙ grown-renamed parts names (all ++ new ∷ []) rs
 
 made_before : (names : List ℕ) (r : Row) (h : TypeHead) (first count : ℕ) → renamed names r ≡ Made h first count → r ≡ Made h first count

@@ -42,7 +42,7 @@ pub returns-in-Arrow-clause-types : goal.returns-in-Arrow-clause-types
 returns-in-Arrow-clause-types c = λ all.
     let there = two_there c.args.parts.now (many c.args.head _ (length c.args.parts.now) 2 c.in-Arrow.is refl c.requires) in
     ap (λ h. made h (each (at all) (get_or c.args.parts.now 0 0 ∷ get_or c.args.parts.now 1 0 ∷ []))) (sym c.in-Arrow.is)
-        ∙ ap (λ l. made c.args.head (each (at all) l)) there
+    ∙ ap (λ l. made c.args.head (each (at all) l)) there
 
 pub returns-in-Array-clause-types : goal.returns-in-Array-clause-types
 returns-in-Array-clause-types c = λ all.

@@ -11,5 +11,5 @@ loop-at-preserved c =
     let here : c.loop-at.at < length c.loop-at.rows = let e = c.loop-at.auto.rows in let t = c.loop-at-test.true in omega arith in
     ap (set rows c.loop-at.at) c.row_of.ensures
     ∙ map_over_more (renamed c.args.names.now) c.args.rows.now rows c.loop-at.at
-        (get_or rows c.loop-at.at (Var 0)) c.loop-at-test.true c.loop-at.invariant
+    (get_or rows c.loop-at.at (Var 0)) c.loop-at-test.true c.loop-at.invariant
     (get_or_default rows c.loop-at.at (Var 0) (get_or rows c.loop-at.at (Var 0)) here)

@@ -7,7 +7,7 @@ use Rattle.lq_types.proofs.type_table.TypeTable.push_variable.Goals as goal
 pub returns-clause-added : goal.returns-clause-added
 returns-clause-added c =
     ap (grown c.args.self.now.parts.items []) c.in_ok-push.ensures.items
-        ∙ grown-push c.args.self.now.parts.items [] c.args.self.now.rows.items (Var c.args.variable)
+    ∙ grown-push c.args.self.now.parts.items [] c.args.self.now.rows.items (Var c.args.variable)
 
 pub returns-clause-number : goal.returns-clause-number
 returns-clause-number c =

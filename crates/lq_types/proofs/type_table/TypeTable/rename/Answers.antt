@@ -8,7 +8,7 @@ use Rattle.lq_types.proofs.type_table.TypeTable.rename.Goals as goal
 pub invariant_of-self : goal.invariant_of-self
 invariant_of-self c =
     let p : (with_items c.args.self.now.rows c.rename_rows.new.rows).items ≡ c.rename_rows.new.rows =
-        with_items_is c.args.self.now.rows c.rename_rows.new.rows (search rules) in
+    with_items_is c.args.self.now.rows c.rename_rows.new.rows (search rules) in
     record {
       earlier = subst (IsTable c.args.self.now.parts.items)
           (sym (p ∙ c.rename_rows.ensures ∙ ap (map (renamed c.args.names.now)) c.deref_mut.ensures.value))
@@ -18,6 +18,6 @@ invariant_of-self c =
 pub returns : goal.returns
 returns c =
     let p : (with_items c.args.self.now.rows c.rename_rows.new.rows).items ≡ c.rename_rows.new.rows =
-        with_items_is c.args.self.now.rows c.rename_rows.new.rows (search rules) in
+    with_items_is c.args.self.now.rows c.rename_rows.new.rows (search rules) in
     ap (grown c.args.self.now.parts.items []) (p ∙ c.rename_rows.ensures ∙ ap (map (renamed c.args.names.now)) c.deref_mut.ensures.value)
     ∙ grown-renamed c.args.self.now.parts.items c.args.names.now [] c.args.self.now.rows.items
