@@ -2,7 +2,6 @@
 use Rattle.std.proofs.Common.{◌≡◌, ℕ, suc, ◌+◌, ◌<◌, List, ◌∷◌, take, drop, get_or, Option, Some, None, IsSome, All, length, refl, sym, ap, ap₂, subst, ◌∙◌, arith}
 use Rattle.std.proofs.Math.Seq.{drop-cons}
 use Rattle.std.proofs.lemmas.List.{take_all}
-use Rattle.lq_tree.specs.Types.{Signature}
 use Rattle.lq_name.specs.declared.place.Place.{Place}
 use Rattle.lq_walk.specs.Visits.{Visit, show_name, visits_of_items}
 use Rattle.lq_rules.specs.Gathered.{VisitIn}

@@ -4,7 +4,7 @@ use Rattle.lq_tree.specs.MlType.{MlType}
 use Rattle.lq_tree.specs.Types.{Signature}
 use Rattle.lq_walk.specs.Visits.{Visit}
 use Rattle.lq_rules.specs.declared.system.System.{System}
-use Rattle.lq_apart.specs.Owning.{slots_at, item_behind, IsOwn, AreOwned}
+use Rattle.lq_apart.specs.Owning.{slots_at, item_behind, AreOwned}
 use Rattle.lq_typings.specs.Uses.{Known, behind, behind_all, UseRule, ObeysFrom}
 use Rattle.lq_infer.specs.Gathering.{IsStep, AreSteps}
 

@@ -1,7 +1,6 @@
 -- One visit more.
-use Rattle.std.proofs.Common.{◌≡◌, ℕ, zero, suc, ◌+◌, ◌<◌, ◌≤◌, List, [], ◌∷◌, ◌++◌, take, reverse, Option, Some, None, Result, Ok, Err, IfOk, All, length, refl, sym, ap, subst, ◌∙◌, arith}
-use Rattle.std.specs.Option.{option_map}
-use Rattle.std.proofs.lemmas.List.{reverse-append, map-append, length-append, take-append-le, take_all}
+use Rattle.std.proofs.Common.{◌≡◌, ℕ, zero, suc, ◌+◌, ◌<◌, ◌≤◌, List, [], ◌∷◌, ◌++◌, take, reverse, Option, Some, None, Result, Ok, Err, IfOk, All, length, sym, ap, subst, ◌∙◌, arith}
+use Rattle.std.proofs.lemmas.List.{reverse-append, map-append, length-append}
 use Rattle.std.proofs.Math.Seq.{take-append_seam}
 use Rattle.lq_tree.specs.Tree.{Tree, tree}
 use Rattle.lq_tree.specs.Types.{Signature}
@@ -11,7 +10,7 @@ use Rattle.lq_walk.specs.Shape as shape
 use Rattle.lq_walk.specs.Shape.{Leaf, Shape, shape_of}
 use Rattle.lq_walk.specs.Visits.{Visit, enter_item, leave_item, enter, leave, leave_function, declare, show, hide, show_name, hide_name}
 use Rattle.lq_rules.specs.declared.system.System.{System}
-use Rattle.lq_rules.specs.Adding.{Adds, Grows, count_of}
+use Rattle.lq_rules.specs.Adding.{Adds, Grows}
 use Rattle.lq_rules.specs.Gathered.{VisitRule, VisitIn}
 use Rattle.lq_rules.specs.Within.{LeafIn, ShapeIn, TreeIn}
 use Rattle.lq_apart.specs.Owning.{binder_slots, visit_slots, slots_by, slots_at}

@@ -1,5 +1,5 @@
 -- The equations of the visits of a walk, one more at a time.
-use Rattle.std.proofs.Common.{◌≡◌, ℕ, suc, ◌+◌, ◌<◌, ◌≤◌, List, [], ◌∷◌, ◌++◌, take, All, length, get_or, refl, sym, ap, subst, ◌∙◌, arith, append_assoc}
+use Rattle.std.proofs.Common.{◌≡◌, ℕ, ◌+◌, ◌<◌, ◌≤◌, List, [], ◌∷◌, ◌++◌, take, All, length, refl, sym, ap, subst, ◌∙◌, arith, append_assoc}
 use Rattle.std.proofs.lemmas.List.{length-append}
 use Rattle.std.proofs.Math.Seq.{take-append_seam}
 use Rattle.lq_tree.specs.MlType.{MlType}
@@ -14,7 +14,7 @@ use Rattle.lq_rules.specs.Templates.{HasSignature}
 use Rattle.lq_rules.proofs.Growing.{all_right}
 use Rattle.lq_rules.proofs.Widening.{visit_wider}
 use Rattle.lq_apart.specs.Owning.{AreOwned}
-use Rattle.lq_typings.specs.Uses.{none_known, behind, behind_all, known_at, ObeysUses}
+use Rattle.lq_typings.specs.Uses.{none_known, known_at, ObeysUses}
 use Rattle.lq_infer.specs.declared.equations.Equations.{Equations}
 use Rattle.lq_infer.specs.declared.equations.Inferred.{Inferred}
 use Rattle.lq_infer.specs.declared.program.Program.{Program}

@@ -1,5 +1,5 @@
 -- One visit more.
-use Rattle.std.specs.Prelude.{◌≡◌, ℕ, ◌+◌, ◌<◌, ◌≤◌, take, length, All}
+use Rattle.std.specs.Prelude.{◌≡◌, ℕ, ◌<◌, ◌≤◌, take, length, All}
 use Rattle.lq_tree.specs.Types.{Signature}
 use Rattle.lq_unify.specs.Knowing.{Knows}
 use Rattle.lq_unify.specs.Solution.{HasNoSolution}

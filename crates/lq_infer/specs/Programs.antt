@@ -1,5 +1,5 @@
 -- The first visits of a program: their equations, or that their rules can't hold together.
-use Rattle.std.specs.Prelude.{◌≡◌, ℕ, suc, ◌<◌, ◌≤◌, List, take, length, All}
+use Rattle.std.specs.Prelude.{ℕ, suc, ◌<◌, ◌≤◌, List, take, length, All}
 use Rattle.lq_name.specs.declared.name.Binder.{Binder}
 use Rattle.lq_tree.specs.Items.{items_view}
 use Rattle.lq_tree.specs.MlType.{MlType}

@@ -1,4 +1,4 @@
-use Rattle.std.proofs.Common.{◌≡◌, ◌+◌, ◌<◌, ◌^◌, All, refl, sym, subst, take, arith}
+use Rattle.std.proofs.Common.{◌+◌, ◌<◌, ◌^◌, All, refl, sym, subst, take, arith}
 use Rattle.lq_rules.specs.Adding.{count_of}
 use Rattle.lq_infer.proofs.Visiting.{slots_low, front_is, front_short}
 use Rattle.lq_infer.proofs.equations.Equations.with_copy.Goals as goal

@@ -1,4 +1,4 @@
-use Rattle.std.proofs.Common.{ℕ, ◌+◌, ◌-◌, ◌/◌, ◌<◌, refl, subst, arith}
+use Rattle.std.proofs.Common.{ℕ, ◌+◌, ◌-◌, ◌/◌, ◌<◌, subst, arith}
 use Rattle.lq_infer.specs.Programs.{IsAttempt}
 use Rattle.lq_infer.proofs.Failing.{between_all, between_solved, between_failed, between_same, between_next}
 use Rattle.lq_infer.proofs.program.Program.first_failing.Goals as goal

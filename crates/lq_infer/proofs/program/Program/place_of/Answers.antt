@@ -1,4 +1,4 @@
-use Rattle.std.proofs.Common.{◌≡◌, arith}
+use Rattle.std.proofs.Common.{arith}
 use Rattle.lq_name.specs.declared.name.Binder.{Binder}
 use Rattle.lq_walk.specs.Pending.{left, visit_view}
 use Rattle.lq_infer.specs.Programs.{visits_in}
