@@ -12,3 +12,4 @@ mod values;
 pub use equations::Inferred;
 pub use laws::steps_say_the_rules;
 pub use solving::{SolveError, solve_program};
+pub use values::is_value;

@@ -53,7 +53,7 @@ fn push_parts<'a>(
 
 /// Whether an expression is a syntactic value: a literal, a variable, a function, or a tuple, a constructor or a list literal of such.
 /// It looks at each part once, with a list of what is left in place of a stack of calls.
-pub(crate) fn is_value(alloc: Global, expr: &Expr<Binder>) -> Result<bool, AllocError>
+pub fn is_value(alloc: Global, expr: &Expr<Binder>) -> Result<bool, AllocError>
     ensures { IfOk result (λ yes. yes ≡ is_value (tree_view Binder (λ b. b.0) expr.now)) }
 {
     let mut pending = Vec::new(alloc);
