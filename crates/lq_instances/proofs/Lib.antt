@@ -1,0 +1,9 @@
+pub mod Told
+pub mod Tables
+pub mod Replaced
+pub mod Counts
+pub mod Keeping
+pub mod Taking
+pub mod CountSteps
+pub mod ReplacedSteps
+pub mod KeptSteps

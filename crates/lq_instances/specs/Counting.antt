@@ -1,0 +1,25 @@
+-- Counts of replacements, as they are told.
+use Rattle.std.specs.Prelude.{ℕ, ◌+◌, List, [], ◌∷◌, length, Option, Some, None, if◌then◌else◌}
+use Rattle.lq_sorts.specs.Shapes.{Shape, is_same}
+use Rattle.lq_sorted.specs.Sorted.{Qualifier}
+use Rattle.lq_instances.specs.Scopes.{Scope, symbols_of}
+use Rattle.lq_instances.specs.Instances.{replacements, told}
+
+-- how many symbols of a shape there are
+abbrev pub symbol_count : Shape → Scope → ℕ
+symbol_count s Γ = told (length (symbols_of Γ s))
+
+-- how many replacements of placeholders of these shapes there are
+abbrev pub replaced_count : List Shape → Scope → ℕ
+replaced_count ss Γ = told (length (replacements Γ ss))
+
+-- how many of a qualifier there are over unknowns
+abbrev pub count_of : Qualifier → List (Scope × Shape) → ℕ
+count_of q [] = 0
+count_of q (u ∷ us) = (if is_same u.1 q.shape then length (replacements u.0 q.placeholders) else 0) + count_of q us
+
+-- the item at a number, the first where there is none
+abbrev pub or_first : Option ℕ → List ℕ → ℕ
+or_first (Some n) ns = n
+or_first None [] = 0
+or_first None (n ∷ ns) = n

@@ -1,0 +1,121 @@
+// How many replacements of placeholders there are. Nothing is made for it but numbers, one for each scope.
+ghost use Rattle.std.specs.Prelude.{◌≡◌, ◌*◌, map, slice_get, zip, IfOk};
+ghost use Rattle.lq_sorted.specs.Views.{qualifier_view, shape_view};
+ghost use Rattle.lq_instances.specs.Counting.{count_of, or_first, replaced_count, symbol_count};
+ghost use Rattle.lq_instances.specs.Instances.{told, total_count};
+ghost use Rattle.lq_instances.specs.Views.{scopes_view, unknowns_view};
+
+use crate::scope::is_same;
+use crate::scopes::Scopes;
+use crate::unknowns::Unknowns;
+use lq_sorted::{ScopedQualifier, Shape};
+use std::alloc::{AllocError, Global};
+
+// The count of a scope; one that isn't there is empty, as the first is.
+fn count_at(counts: &[u64], scope: u64) -> u64
+    ensures { result ≡ or_first (slice_get counts.now scope) counts.now }
+{
+    match counts.get(scope as usize) {
+        Some(count) => *count,
+        None => match counts.first() {
+            Some(count) => *count,
+            None => 0,
+        },
+    }
+}
+
+// How many symbols of a shape there are in each scope.
+fn symbol_counts(alloc: Global, scopes: &Scopes, shape: Shape) -> Result<Vec<u64>, AllocError>
+    ensures { IfOk result (λ counts. counts.items
+        ≡ map (symbol_count (shape_view shape)) (scopes_view scopes.now)) }
+{
+    let mut counts = Vec::new(alloc);
+    counts.push(0)?;
+    for addition in &scopes.additions {
+        let before = count_at(&counts, addition.parent);
+        let more: u64 = if is_same(shape, addition.visible.shape) {
+            1
+        } else {
+            0
+        };
+        counts.push(before.saturating_add(more))?;
+    }
+    Ok(counts)
+}
+
+// The products of numbers with those at the same places.
+fn products(alloc: Global, first: &[u64], second: &[u64]) -> Result<Vec<u64>, AllocError>
+    ensures { IfOk result (λ counts. counts.items
+        ≡ map (λ p. told (p.0 * p.1)) (zip first.now second.now)) }
+{
+    first
+        .iter()
+        .zip(second.iter())
+        .map(|(one, other)| one.saturating_mul(*other))
+        .collect(alloc)
+}
+
+// As many ones as there are scopes.
+fn ones(alloc: Global, scopes: &Scopes) -> Result<Vec<u64>, AllocError>
+    ensures { IfOk result (λ counts. counts.items ≡ map (λ _. 1) (scopes_view scopes.now)) }
+{
+    let mut counts = Vec::new(alloc);
+    counts.push(1)?;
+    for _addition in &scopes.additions {
+        counts.push(1)?;
+    }
+    Ok(counts)
+}
+
+// How many replacements of placeholders of these shapes there are in each scope.
+fn replaced_counts(
+    alloc: Global,
+    scopes: &Scopes,
+    placeholders: &[Shape],
+) -> Result<Vec<u64>, AllocError>
+    ensures { IfOk result (λ counts. counts.items
+        ≡ map (replaced_count (map shape_view placeholders.now)) (scopes_view scopes.now)) }
+{
+    let mut counts = ones(alloc, scopes)?;
+    for shape in placeholders {
+        let symbols = symbol_counts(alloc, scopes, *shape)?;
+        counts = products(alloc, &counts, &symbols)?;
+    }
+    Ok(counts)
+}
+
+// How many replacements of a qualifier's placeholders there are over all unknowns.
+fn count_of(
+    alloc: Global,
+    qualifier: &ScopedQualifier,
+    unknowns: &Unknowns,
+) -> Result<u64, AllocError>
+    ensures { IfOk result (λ count. count
+        ≡ told (count_of (qualifier_view qualifier.now) (unknowns_view unknowns.now))) }
+{
+    let counts = replaced_counts(alloc, &unknowns.scopes, &qualifier.placeholders)?;
+    let mut total: u64 = 0;
+    for unknown in &unknowns.unknowns {
+        if is_same(unknown.shape, qualifier.shape) {
+            total = total.saturating_add(count_at(&counts, unknown.scope));
+        }
+    }
+    Ok(total)
+}
+
+/// How many replacements of placeholders there are over all qualifiers and unknowns, or 2^64 - 1 where there are more.
+pub(crate) fn total_count(
+    alloc: Global,
+    qualifiers: &[ScopedQualifier],
+    unknowns: &Unknowns,
+) -> Result<u64, AllocError>
+    ensures { IfOk result (λ count. count
+        ≡ told (total_count (map qualifier_view qualifiers.now) (unknowns_view unknowns.now))) }
+{
+    let mut total: u64 = 0;
+    for qualifier in qualifiers {
+        let count = count_of(alloc, qualifier, unknowns)?;
+        total = total.saturating_add(count);
+    }
+    Ok(total)
+}
