@@ -14,10 +14,11 @@ use Rattle.lq_rules.specs.Solved.{Solves}
 use Rattle.lq_rules.proofs.Growing.{fits_before, meets_later}
 use Rattle.lq_typings.specs.Uses.{Known, General, GeneralUse, none_known, behind, behind_all, use_at, ObeysFrom}
 use Rattle.lq_apart.specs.Owning.{binder_slots, visit_slots, slots_by, is_slot_of, IsOwn}
-use Rattle.lq_infer.specs.Copying.{AddsCopy}
+use Rattle.lq_infer.specs.Copying.{AddsCopy, AddsSame}
 use Rattle.lq_infer.specs.Gathering.{StepBy, IsComplete}
 use Rattle.lq_infer.proofs.Naming.{all_left, all_right, all_first, all_rest, visit_rests}
 use Rattle.lq_infer.proofs.Using.{keeps, copy_local}
+use Rattle.lq_infer.proofs.Sharing.{same_longer, same_system, same_keeps, same_local}
 
 abbrev pub IsSolved : System → (ℕ → MlType) → Type 0
 IsSolved s types = Solves s s.equations.items types
@@ -58,20 +59,33 @@ module _ (g : Signature) (nodes : ℕ) (v : Visit) (old new : System) (sound : I
   }
 
 module _ (nodes : ℕ) (u : GeneralUse) (old new : System) (sound : IsSystem old) (c : AddsCopy old new (binder_slots nodes u.before) (nodes + u.binder) u.node) where
-  pub use_local : IsLocal old new (u.node ∷ binder_slots nodes u.before)
-  use_local = record {
+  pub copy_is_local : IsLocal old new (u.node ∷ binder_slots nodes u.before)
+  copy_is_local = record {
     keeps_solved = keeps old new (binder_slots nodes u.before) (nodes + u.binder) u.node sound c c.definition_in c.node_in c.fixed_in;
     goes_on = λ types t h s e. copy_local old new (binder_slots nodes u.before) (nodes + u.binder) u.node sound c c.definition_in c.node_in c.fixed_in types t h s
         (all_first (λ i. t i ≡ types i) u.node (binder_slots nodes u.before) e) (all_rest (λ i. t i ≡ types i) u.node (binder_slots nodes u.before) e);
   }
 
+module _ (nodes : ℕ) (u : GeneralUse) (old new : System) (c : AddsSame old new (binder_slots nodes u.before) (nodes + u.binder) u.node) where
+  pub same_is_local : IsLocal old new (u.node ∷ binder_slots nodes u.before)
+  same_is_local = record {
+    keeps_solved = same_keeps old new (binder_slots nodes u.before) (nodes + u.binder) u.node c;
+    goes_on = λ types t h s e. same_local old new (binder_slots nodes u.before) (nodes + u.binder) u.node c types t h s
+        (all_first (λ i. t i ≡ types i) u.node (binder_slots nodes u.before) e) (all_rest (λ i. t i ≡ types i) u.node (binder_slots nodes u.before) e);
+  }
+
 pub step_local_by : (g : Signature) (nodes : ℕ) (v : Visit) (old new : System) → IsSystem old → (o : Option GeneralUse) → StepBy g nodes o v old new → IsLocal old new (slots_by nodes o (visit_slots nodes v))
 step_local_by g nodes v old new s None b = rule_local g nodes v old new s b
-step_local_by g nodes v old new s (Some u) c = use_local nodes u old new s c
+step_local_by g nodes v old new s (Some u) (inl c) = copy_is_local nodes u old new s c
+step_local_by g nodes v old new s (Some u) (inr c) = same_is_local nodes u old new c
 
-pub step_system_by : (g : Signature) (nodes : ℕ) (v : Visit) (old new : System) → (o : Option GeneralUse) → StepBy g nodes o v old new → IsSystem new × (count_of old ≤ count_of new)
-step_system_by g nodes v old new None b = (b.grows.system, b.grows.longer)
-step_system_by g nodes v old new (Some u) c = (c.system, c.longer)
+pub step_system_by : (g : Signature) (nodes : ℕ) (v : Visit) (old new : System) → IsSystem old → (o : Option GeneralUse) → StepBy g nodes o v old new → IsSystem new × (count_of old ≤ count_of new)
+step_system_by g nodes v old new s None b = (b.grows.system, b.grows.longer)
+step_system_by g nodes v old new s (Some u) (inl c) = (c.system, c.longer)
+step_system_by g nodes v old new s (Some u) (inr c) = (
+  same_system old new (binder_slots nodes u.before) (nodes + u.binder) u.node c s,
+  same_longer old new (binder_slots nodes u.before) (nodes + u.binder) u.node c,
+)
 
 -- ---- slots that are of the items up to one, but for those of definitions before that aren't generalised
 

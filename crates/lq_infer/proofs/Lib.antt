@@ -4,6 +4,7 @@ pub mod Reading
 pub mod Standing
 pub mod Opens
 pub mod Using
+pub mod Sharing
 pub mod Going
 pub mod Stepping
 pub mod Fronts

@@ -41,7 +41,7 @@ at_put by ml.no_types i = refl
 at_put by (ml.more_types t ts) zero = refl
 at_put by (ml.more_types t ts) (suc i) = at_put by ts i
 
-made_put : (by : ℕ → MlType) (h : Head) (ts : MlTypes) → made h (put_all by ts) ≡ put by (made h ts)
+pub made_put : (by : ℕ → MlType) (h : Head) (ts : MlTypes) → made h (put_all by ts) ≡ put by (made h ts)
 made_put by head.Whole ts = refl
 made_put by head.Flag ts = refl
 made_put by head.Unit ts = refl
@@ -119,6 +119,23 @@ mutual
   all_leave_from : (by : ℕ → MlType) (ts : MlTypes) → put_all by ts ≡ ts → EachIn (λ i. by i ≡ ml.var i) ts
   all_leave_from by ml.no_types e = tt
   all_leave_from by (ml.more_types t ts) e = (leaves_from by t (cc), all_leave_from by ts (cc))
+
+-- and a type whose variables are kept stays
+mutual
+  pub leaves_put : (by : ℕ → MlType) (t : MlType) → Leaves by t → put by t ≡ t
+  leaves_put by ml.int h = refl
+  leaves_put by ml.bool h = refl
+  leaves_put by ml.unit h = refl
+  leaves_put by (ml.var i) h = h
+  leaves_put by (ml.arrow a b) h = ap₂ ml.arrow (leaves_put by a h.0) (leaves_put by b h.1)
+  leaves_put by (ml.tuple ts) h = ap ml.tuple (all_leave_put by ts h)
+  leaves_put by (ml.array a) h = ap ml.array (leaves_put by a h)
+  leaves_put by (ml.named d ts) h = ap (ml.named d) (all_leave_put by ts h)
+  leaves_put by (ml.map_of a) h = ap ml.map_of (leaves_put by a h)
+
+  all_leave_put : (by : ℕ → MlType) (ts : MlTypes) → EachIn (λ i. by i ≡ ml.var i) ts → put_all by ts ≡ ts
+  all_leave_put by ml.no_types h = refl
+  all_leave_put by (ml.more_types t ts) h = ap₂ ml.more_types (leaves_put by t h.0) (all_leave_put by ts h.1)
 
 -- a fact of each variable, of types as they are written
 mutual

@@ -7,16 +7,18 @@ use Rattle.lq_tree.specs.Pattern.{Pattern, pattern, any, bind, nothing, tuple_of
 use Rattle.lq_tree.specs.Types.{Signature, put}
 use Rattle.lq_walk.specs.Visits.{Visit, enter_item, leave_item, enter, leave, leave_function, declare, show, hide, show_name, hide_name}
 use Rattle.lq_rules.specs.declared.system.System.{System}
-use Rattle.lq_rules.specs.Adding.{Agree, count_of}
+use Rattle.lq_rules.specs.Adding.{IsSystem, Agree, count_of}
 use Rattle.lq_rules.specs.Gathered.{VisitRule}
 use Rattle.lq_rules.specs.Solved.{IsPrincipal}
 use Rattle.lq_rules.proofs.Growing.{agree_after}
 use Rattle.lq_typings.specs.Uses.{Known, General, GeneralUse, none_known, with_general, with_plain, with_name, behind_let, behind_form, behind, behind_all, is_value, use_at, before_in, Leaves, RuleBy, UseRule, ObeysFrom}
 use Rattle.lq_apart.specs.Owning.{binder_slots, pattern_slots, visit_slots, item_slots, slots_by, slots_at, is_slot_of, item_behind, IsOwn}
+use Rattle.lq_infer.specs.Copying.{AddsUse}
 use Rattle.lq_infer.specs.Gathering.{StepBy, IsStep, IsComplete, IsSound}
 use Rattle.lq_infer.proofs.Naming.{all_first, all_rest, visit_rests}
 use Rattle.lq_infer.proofs.Reading.{leaves_from}
 use Rattle.lq_infer.proofs.Using.{copy_free, copy_said}
+use Rattle.lq_infer.proofs.Sharing.{same_free, same_said}
 use Rattle.lq_infer.proofs.Going.{IsSolved, IsLocal, rule_says, rule_said, step_local_by, step_system_by, is_private, IsPast, CanChange, IsGeneral, HoldsBy, HoldsFrom, IsLoose, IsGoing, obeys_append, holds_more, off_names, general_goes, holds_goes, loose_goes}
 
 -- ---- the definition of a use
@@ -38,6 +40,20 @@ found_in : (P : General → Type 0) (ds : List General) (x : ℕ) (before : List
 found_in P [] x before a e = absurd (cc)
 found_in P (d ∷ ds) x before a e = found_by P d ds x before (a 0 d (omega arith)) (found_in P ds x before (λ k f l. a (suc k) f (omega arith))) (d.binder == x) refl e
 
+-- ---- what a use adds
+
+module _ (old new : System) (fixed : List ℕ) (definition node : ℕ) (sound : IsSystem old) where
+  -- types of the old nodes by which the definition has the type of the use, and the fixed slots have theirs
+  use_free : AddsUse old new fixed definition node → (types : ℕ → MlType) → IsSolved new types → (t : ℕ → MlType) × IsSolved old t × (t definition ≡ types node) × All (λ i. t i ≡ types i) fixed
+  use_free (inl c) = copy_free old new fixed definition node sound c c.definition_in c.node_in c.fixed_in
+  use_free (inr c) = same_free old new fixed definition node c
+
+  -- a use with other types for the variables that aren't fixed
+  use_said : AddsUse old new fixed definition node → (later by : ℕ → MlType) → IsSolved old later → All (λ i. Leaves by (later i)) fixed → later node ≡ put by (later definition)
+      → (types : ℕ → MlType) × Agree (count_of old) later types × IsSolved new types
+  use_said (inl c) later by s leaves e = copy_said old new fixed definition node sound c c.definition_in c.node_in c.fixed_in later by s leaves e
+  use_said (inr c) later by s leaves e = same_said old new fixed definition node c later by s leaves e
+
 -- a use is of one that is known
 pub record IsUseOf (k : Known) (u : GeneralUse) : Type 0 where
   pub before_is : before_in k.general u.binder ≡ Some u.before
@@ -53,7 +69,7 @@ module _ (g : Signature) (nodes slots : ℕ) (owner : ℕ → ℕ) (now : ℕ) (
   said_by (Some u) us own c types later s a (by, leaves, is) =
       let d = found_in (IsGeneral nodes slots owner now k.plain old) k.general u.binder u.before i.generals (us u refl).before_is in
       let in_ : nodes + u.binder < slots = subst (λ (x : ℕ). nodes + x < slots) d.2 d.1.1.inside in
-      copy_said old new (binder_slots nodes u.before) (nodes + u.binder) u.node i.system c c.definition_in c.node_in c.fixed_in later by s
+      use_said old new (binder_slots nodes u.before) (nodes + u.binder) u.node i.system c later by s
       (slots_leave u.before leaves (all_rest (IsOwn nodes slots owner now k) u.node (binder_slots nodes u.before) own))
       (a u.node (all_first (IsOwn nodes slots owner now k) u.node (binder_slots nodes u.before) own).0 ∙ is ∙ ap (put by) (sym (a (nodes + u.binder) in_)))
     where
@@ -75,7 +91,7 @@ module _ (g : Signature) (nodes slots : ℕ) (owner : ℕ → ℕ) (now : ℕ) (
         d.1.0,
         p,
         λ types h.
-            let f = copy_free old new (binder_slots nodes u.before) (nodes + u.binder) u.node i.system c c.definition_in c.node_in c.fixed_in types h in
+            let f = use_free old new (binder_slots nodes u.before) (nodes + u.binder) u.node i.system c types h in
             let x = change types f.0 (l.keeps_solved types h) f.1 f.3 in
             let y = l.goes_on types x.0 h x.1 (off_names g nodes slots owner now k old new (u.node ∷ binder_slots nodes u.before) own i.longer l d.1.0 u.binder u.before p types x.0 x.3) in
             let longer = i.longer in
@@ -96,7 +112,7 @@ module _ (g : Signature) (nodes slots : ℕ) (owner : ℕ → ℕ) (now : ℕ) (
 
     pub going_more : IsGoing g nodes slots owner now k (done ++ v ∷ []) new
     going_more =
-        let s = step_system_by g nodes v old new (use_at k v) step in
+        let s = step_system_by g nodes v old new i.system (use_at k v) step in
         record {
           system = s.0;
           longer = let a = i.longer in let b = s.1 in omega arith;

@@ -1,5 +1,5 @@
 -- The system with a copy.
-use Rattle.std.proofs.Common.{◌≡◌, inl, inr, ℕ, zero, suc, ◌+◌, ◌<◌, ◌≤◌, Bool, List, [], ◌∷◌, ◌++◌, take, drop, reverse, Option, Some, None, All, length, refl, sym, ap, subst, ◌∙◌, arith}
+use Rattle.std.proofs.Common.{◌≡◌, inl, inr, ℕ, zero, suc, ◌+◌, ◌<◌, ◌≤◌, Bool, List, [], ◌∷◌, ◌++◌, take, drop, reverse, Option, Some, None, Result, Ok, Err, OnOk, All, length, refl, sym, ap, subst, ◌∙◌, arith}
 use Rattle.std.specs.Option.{option_map}
 use Rattle.std.proofs.lemmas.Bool.{cases_lt}
 use Rattle.std.proofs.lemmas.List.{length-map, take_all, take-append-le, reverse-append, map-append}
@@ -50,3 +50,11 @@ reverse_slots nodes (p ∷ ps) =
 
 pub all_slots : (nodes k : ℕ) (ps all back : List ℕ) → back ≡ reverse all → all ≡ binder_slots nodes (take k ps) → length ps ≤ k → back ≡ binder_slots nodes (reverse ps)
 all_slots nodes k ps all back e f l = e ∙ ap reverse (f ∙ ap (binder_slots nodes) (take_all k ps l)) ∙ reverse_slots nodes ps
+
+pub on_ok : {A E : Type 0} (P Q : Type 0) (r : Result A E) → (P → Q) → OnOk r P → OnOk r Q
+on_ok P Q (Ok x) f h = f h
+on_ok P Q (Err e) f h = tt
+
+pub on_oks : {A E : Type 0} (P Q R : Type 0) (r : Result A E) → (P → Q → R) → OnOk r P → OnOk r Q → OnOk r R
+on_oks P Q R (Ok x) f h k = f h k
+on_oks P Q R (Err e) f h k = tt

@@ -1,11 +1,11 @@
 -- One visit more.
-use Rattle.std.proofs.Common.{◌≡◌, ℕ, zero, suc, ◌+◌, ◌<◌, ◌≤◌, List, [], ◌∷◌, ◌++◌, take, reverse, Option, Some, None, Result, Ok, Err, IfOk, All, length, sym, ap, subst, ◌∙◌, arith}
+use Rattle.std.proofs.Common.{◌≡◌, inl, inr, ℕ, zero, suc, ◌+◌, ◌<◌, ◌≤◌, List, [], ◌∷◌, ◌++◌, take, reverse, Option, Some, None, Result, Ok, Err, IfOk, All, length, sym, ap, subst, ◌∙◌, arith}
 use Rattle.std.proofs.lemmas.List.{reverse-append, map-append, length-append}
 use Rattle.std.proofs.Math.Seq.{take-append_seam}
 use Rattle.lq_tree.specs.Tree.{Tree, tree}
 use Rattle.lq_tree.specs.Types.{Signature}
 use Rattle.lq_unify.specs.declared.arena.Equation.{Equation}
-use Rattle.lq_unify.specs.Knowing.{IsLonger}
+use Rattle.lq_unify.specs.Knowing.{IsLonger, Knows}
 use Rattle.lq_walk.specs.Shape as shape
 use Rattle.lq_walk.specs.Shape.{Leaf, Shape, shape_of}
 use Rattle.lq_walk.specs.Visits.{Visit, enter_item, leave_item, enter, leave, leave_function, declare, show, hide, show_name, hide_name}
@@ -15,8 +15,11 @@ use Rattle.lq_rules.specs.Gathered.{VisitRule, VisitIn}
 use Rattle.lq_rules.specs.Within.{LeafIn, ShapeIn, TreeIn}
 use Rattle.lq_apart.specs.Owning.{binder_slots, visit_slots, slots_by, slots_at}
 use Rattle.lq_typings.specs.Uses.{Known, GeneralUse, use_at, use_at_tree, use_at_shape, use_at_leaf, use_by, before_in}
-use Rattle.lq_infer.specs.Copying.{AddsCopy}
+use Rattle.lq_infer.specs.declared.equations.Equations.{Equations}
+use Rattle.lq_infer.specs.Copying.{AreClear, AddsUse}
+use Rattle.lq_infer.specs.Adding.{IsKept, IsAdded}
 use Rattle.lq_infer.specs.Gathering.{StepBy, IsStep}
+use Rattle.lq_infer.proofs.Sharing.{same_system, same_longer}
 use Rattle.lq_infer.proofs.Naming.{all_left, all_right, all_first, all_rest}
 
 -- ---- the slots of binders
@@ -87,8 +90,8 @@ module _ (nodes : ℕ) (k : Known) (v : Visit) (u : GeneralUse) (e : use_at k v 
   pub use_fixed_in : (n : ℕ) → All (λ i. i < n) (slots_at nodes k v) → All (λ i. i < n) (binder_slots nodes u.before)
   use_fixed_in n a = all_rest (λ i. i < n) u.node (binder_slots nodes u.before) (subst (All (λ i. i < n)) slots_are a)
 
-  pub copy_step : (g : Signature) (old new : System) → AddsCopy old new (binder_slots nodes u.before) (nodes + u.binder) u.node → IsStep g nodes k v old new
-  copy_step g old new c = subst (λ o. StepBy g nodes o v old new) (sym e) c
+  pub use_step : (g : Signature) (old new : System) → AddsUse old new (binder_slots nodes u.before) (nodes + u.binder) u.node → IsStep g nodes k v old new
+  use_step g old new c = subst (λ o. StepBy g nodes o v old new) (sym e) c
 
 pub rule_step : (g : Signature) (nodes : ℕ) (k : Known) (v : Visit) (old new : System) → use_at k v ≡ None → Adds old new (VisitRule g nodes v) → IsStep g nodes k v old new
 rule_step g nodes k v old new e a = subst (λ o. StepBy g nodes o v old new) (sym e) a
@@ -100,6 +103,28 @@ front_is old new more e = ap (take (length old)) e ∙ take-append_seam old more
 
 pub front_short : (old new more : List Equation) → new ≡ old ++ more → length old ≤ length new
 front_short old new more e = let x = ap length e in let y = length-append old more in omega arith
+
+-- a use adds one equation
+pub use_added : (old new : Equations) (fixed : List ℕ) (definition node : ℕ) → IsKept old → Knows new.system.arena old.system.equations.items new.solver → AreClear new.weak.items → new.definitions ≡ old.definitions
+    → AddsUse old.system new.system fixed definition node → IsAdded old new
+use_added old new fixed definition node kept knows clear same (inl c) = record {
+  system = c.system;
+  longer = c.longer;
+  room = front_short old.system.equations.items _ _ c.equations_are;
+  front = front_is old.system.equations.items _ _ c.equations_are;
+  knows = knows;
+  clear = clear;
+  same = same;
+}
+use_added old new fixed definition node kept knows clear same (inr c) = record {
+  system = same_system old.system new.system fixed definition node c kept.system;
+  longer = same_longer old.system new.system fixed definition node c;
+  room = front_short old.system.equations.items _ _ c.equations_are;
+  front = front_is old.system.equations.items _ _ c.equations_are;
+  knows = knows;
+  clear = clear;
+  same = same;
+}
 
 pub longer_arena : (old new : System) (more : List Equation) → Grows old new more → IsLonger old.arena new.arena
 longer_arena old new more g = record { more = g.longer; same = g.kept }

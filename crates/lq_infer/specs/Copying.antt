@@ -1,11 +1,13 @@
--- A copy of a definition's type for a use of it, as nodes and one equation.
-use Rattle.std.specs.Prelude.{◌≡◌, ℕ, ◌<◌, ◌≤◌, Bool, true, false, List, [], ◌∷◌, ◌++◌, All, slice_index_or}
+-- What a use of a definition adds: a copy of the definition's type, as nodes and one equation, or this equation alone.
+use Rattle.std.specs.Prelude.{◌≡◌, ℕ, ◌<◌, ◌≤◌, ◌⊎◌, Bool, true, false, List, [], ◌∷◌, ◌++◌, All, slice_index_or}
+use Rattle.lq_tree.specs.MlType.{MlType}
 use Rattle.lq_unify.specs.declared.arena.Equation.{Equation}
 use Rattle.lq_unify.specs.Classes.{IsKnown}
 use Rattle.lq_unify.specs.Copying.{IsCopy}
 use Rattle.lq_unify.specs.Opens.{IsIn, AreOpens}
 use Rattle.lq_rules.specs.declared.system.System.{System}
 use Rattle.lq_rules.specs.Adding.{IsSystem, count_of, forms_of}
+use Rattle.lq_rules.specs.Solved.{Solves}
 
 -- no class is marked
 abbrev pub AreClear : List Bool → Type 0
@@ -42,3 +44,20 @@ pub record AddsCopy (old new : System) (fixed : List ℕ) (definition node : ℕ
   pub found : List Equation
   pub known : IsKnown (forms_of old) (count_of old) parents shapes found old.equations.items
   pub copy : IsCopy (forms_of old) (forms_of new) (count_of old) (count_of new) parents shapes weak definition used
+
+-- Solutions by which the fixed slots have the same types give the node the same type: it has no variables but those of the fixed slots.
+abbrev pub IsDetermined : System → List ℕ → ℕ → Type 0
+IsDetermined s fixed i =
+    (types others : ℕ → MlType) → Solves s s.equations.items types → Solves s s.equations.items others → All (λ j. types j ≡ others j) fixed → types i ≡ others i
+
+-- No more nodes; one more equation says that a node has the definition's own type, which those of some slots determine.
+pub record AddsSame (old new : System) (fixed : List ℕ) (definition node : ℕ) : Type 0 where
+  pub arena_is : new.arena ≡ old.arena
+  pub definition_in : definition < count_of old
+  pub node_in : node < count_of old
+  pub equations_are : new.equations.items ≡ old.equations.items ++ (record { left = node; right = definition }) ∷ []
+  pub determined : IsDetermined old fixed definition
+
+-- for a use of a definition, a copy of its type or the type itself
+abbrev pub AddsUse : System → System → List ℕ → ℕ → ℕ → Type 0
+AddsUse old new fixed definition node = AddsCopy old new fixed definition node ⊎ AddsSame old new fixed definition node

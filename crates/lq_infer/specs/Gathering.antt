@@ -7,14 +7,14 @@ use Rattle.lq_rules.specs.declared.system.System.{System}
 use Rattle.lq_rules.specs.Adding.{IsFresh, Agree, Adds}
 use Rattle.lq_rules.specs.Gathered.{VisitRule}
 use Rattle.lq_rules.specs.Solved.{Solves, IsPrincipal}
-use Rattle.lq_infer.specs.Copying.{AddsCopy}
+use Rattle.lq_infer.specs.Copying.{AddsUse}
 use Rattle.lq_apart.specs.Owning.{binder_slots, AreApart}
 use Rattle.lq_typings.specs.Uses.{Known, GeneralUse, none_known, behind, use_at, ObeysUses}
 
--- what a visit adds: a copy for a use of a generalised definition, else its rule
+-- what a visit adds: for a use of a generalised definition a copy or the definition's type, else its rule
 abbrev pub StepBy : Signature → ℕ → Option GeneralUse → Visit → System → System → Type 0
 StepBy g nodes None v old new = Adds old new (VisitRule g nodes v)
-StepBy g nodes (Some u) v old new = AddsCopy old new (binder_slots nodes u.before) (nodes + u.binder) u.node
+StepBy g nodes (Some u) v old new = AddsUse old new (binder_slots nodes u.before) (nodes + u.binder) u.node
 
 abbrev pub IsStep : Signature → ℕ → Known → Visit → System → System → Type 0
 IsStep g nodes k v old new = StepBy g nodes (use_at k v) v old new

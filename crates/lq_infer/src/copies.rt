@@ -1,10 +1,10 @@
-// Copies of the types of generalised definitions, for their uses.
-ghost use Rattle.std.specs.Prelude.{◌≡◌, ℕ, ◌+◌, ◌<◌, ◌≤◌, ◌^◌, All, length, reverse, slice_index_or, IfOk, OnOk, true, false};
+// The types of generalised definitions' uses: copies of the definitions' types, or these themselves where no variable is replaced.
+ghost use Rattle.std.specs.Prelude.{◌≡◌, ℕ, ◌+◌, ◌<◌, ◌≤◌, ◌^◌, [], ◌∷◌, ◌++◌, All, length, reverse, slice_index_or, IfOk, OnOk, true, false};
 ghost use Rattle.lq_unify.specs.Knowing.{Knows};
 ghost use Rattle.lq_unify.specs.Opens.{IsIn};
 ghost use Rattle.lq_rules.specs.Adding.{IsSystem, count_of};
 ghost use Rattle.lq_apart.specs.Owning.{binder_slots};
-ghost use Rattle.lq_infer.specs.Copying.{AreClear, AreMarked, AddsCopy};
+ghost use Rattle.lq_infer.specs.Copying.{AreClear, AreMarked, AddsUse};
 
 use lq_rules::System;
 use lq_unify::{Equation, Solver};
@@ -56,9 +56,37 @@ fn unmark(weak: &mut [bool], classes: &[u32])
     }
 }
 
+// Whether all of these classes are marked.
+fn are_marked(weak: &[bool], classes: &[u32]) -> bool
+    requires inside { All (λ r. r < length weak.now) classes.now }
+    ensures marked { result ≡ true → All (λ r. slice_index_or weak.now r false ≡ true) classes.now }
+    ensures every { All (λ r. slice_index_or weak.now r false ≡ true) classes.now → result ≡ true }
+{
+    for class in classes {
+        if !weak[*class as usize] {
+            return false;
+        }
+    }
+    true
+}
+
+// A node has the type of a definition.
+fn add_same(system: &mut System, definition: u32, node: u32) -> Result<(), AllocError>
+    ensures arena { OnOk result (system.new.arena ≡ system.old.arena) }
+    ensures equations { OnOk result (system.new.equations.items
+        ≡ system.old.equations.items ++ (record { left = node; right = definition }) ∷ []) }
+{
+    system.equations.push(Equation {
+        left: node,
+        right: definition,
+    })?;
+    Ok(())
+}
+
 /// A node has the type of a copy of a definition's, with other types for its variables, but not for those that these slots' types have:
-/// the classes that are open there are marked while it is copied.
-pub(crate) fn add_copy(
+/// the classes that are open there are marked while it is copied. Where all open classes of the definition are marked, and so where it has
+/// none, the copy would be the definition's own type again, so the node has this, and nothing is copied.
+pub(crate) fn add_use(
     alloc: Global,
     system: &mut System,
     solver: &mut Solver,
@@ -75,11 +103,19 @@ pub(crate) fn add_copy(
     requires node { node < count_of system.old }
     ensures clear { OnOk result (AreClear weak.new.items) }
     ensures knows { OnOk result (Knows system.new.arena system.old.equations.items solver.new) }
-    ensures copy { OnOk result (AddsCopy system.old system.new fixed.now definition node) }
+    ensures added { OnOk result (AddsUse system.old system.new fixed.now definition node) }
 {
+    let varying = solver.open_classes(alloc, &system.arena, &[definition])?;
+    if varying.is_empty() {
+        return add_same(system, definition, node);
+    }
     let open = solver.open_classes(alloc, &system.arena, fixed)?;
     widen(weak, system.arena.nodes.len())?;
     mark(weak, &open);
+    if are_marked(weak, &varying) {
+        unmark(weak, &open);
+        return add_same(system, definition, node);
+    }
     let used = solver.copy(alloc, &mut system.arena, weak, definition)?;
     unmark(weak, &open);
     system.equations.push(Equation {

@@ -10,12 +10,12 @@ ghost use Rattle.lq_rules.specs.Gathered.{VisitIn, VisitRule};
 ghost use Rattle.lq_rules.specs.Solved.{IsPrincipal, Solves, types_in};
 ghost use Rattle.lq_rules.specs.Templates.{AreWhole, HasSignature};
 ghost use Rattle.lq_apart.specs.Owning.{binder_slots};
-ghost use Rattle.lq_infer.specs.Copying.{AddsCopy};
+ghost use Rattle.lq_infer.specs.Copying.{AddsUse};
 ghost use Rattle.lq_infer.specs.Defining.{HasKnown, first_of};
 ghost use Rattle.lq_infer.specs.Adding.{IsKept, IsAdded, IsAtVisit, IsStepOf, IsBehind, HasClash};
 ghost use Rattle.lq_typings.specs.Uses.{none_known};
 
-use crate::copies::{add_copy, slots_of};
+use crate::copies::{add_use, slots_of};
 use crate::definitions::{Definitions, Use};
 use lq_rules::{Constructors, System};
 use lq_tree::Binder;
@@ -57,8 +57,8 @@ impl Equations {
         })
     }
 
-    // With a copy for a use of a generalised definition.
-    fn with_copy(mut self, alloc: Global, nodes: u32, found: Use) -> Result<Equations, AllocError>
+    // With what a use of a generalised definition adds.
+    fn with_use(mut self, alloc: Global, nodes: u32, found: Use) -> Result<Equations, AllocError>
         requires kept { IsKept self }
         requires before { found.before ≤ length self.definitions.plain.items }
         requires fixed { All (λ i. i < count_of self.system)
@@ -66,13 +66,13 @@ impl Equations {
         requires definition { nodes + found.binder < count_of self.system }
         requires node { found.node < count_of self.system }
         ensures added { IfOk result (λ s. IsAdded self s) }
-        ensures copy { IfOk result (λ s. AddsCopy self.system s.system
+        ensures used { IfOk result (λ s. AddsUse self.system s.system
             (binder_slots nodes (first_of self.definitions.plain.items found.before)) (nodes + found.binder)
             found.node) }
     {
         let fixed = slots_of(alloc, nodes, &self.definitions.plain[..found.before])?;
         let definition = nodes + found.binder;
-        add_copy(
+        add_use(
             alloc,
             &mut self.system,
             &mut self.solver,
@@ -134,7 +134,7 @@ impl Equations {
             (visit_view Binder (λ b. b.0) visit.entry) s.system) }
     {
         match self.definitions.use_of(visit) {
-            Some(found) => self.with_copy(alloc, nodes, found),
+            Some(found) => self.with_use(alloc, nodes, found),
             None => self.with_rule(alloc, constructors, nodes, visit),
         }
     }

@@ -7,35 +7,35 @@ use Rattle.lq_rules.specs.Gathered.{VisitRule}
 use Rattle.lq_rules.specs.Templates.{HasSignature}
 use Rattle.lq_apart.specs.Owning.{binder_slots}
 use Rattle.lq_infer.specs.Adding.{IsStepOf}
-use Rattle.lq_infer.specs.Copying.{AddsCopy}
+use Rattle.lq_infer.specs.Copying.{AddsUse}
 use Rattle.lq_infer.specs.Defining.{first_of, use_view}
-use Rattle.lq_infer.proofs.Visiting.{binder_in, use_node_in, use_fixed_in, copy_step, rule_step, if_ok}
+use Rattle.lq_infer.proofs.Visiting.{binder_in, use_node_in, use_fixed_in, use_step, rule_step, if_ok}
 use Rattle.lq_infer.proofs.equations.Equations.with_step.Goals as goal
 
-pub with_copy-requires-clause-before : goal.with_copy-requires-clause-before
-with_copy-requires-clause-before c = let k = c.requires.known in c.in-Some.ensures.low k.0 k.1
+pub with_use-requires-clause-before : goal.with_use-requires-clause-before
+with_use-requires-clause-before c = let k = c.requires.known in c.in-Some.ensures.low k.0 k.1
 
-pub with_copy-requires-clause-fixed : goal.with_copy-requires-clause-fixed
-with_copy-requires-clause-fixed c =
+pub with_use-requires-clause-fixed : goal.with_use-requires-clause-fixed
+with_use-requires-clause-fixed c =
     let k = c.requires.known in
     use_fixed_in c.args.nodes k.0 (visit_view Binder (λ b. b.0) c.args.visit) (use_view c.args.self.definitions.plain.items c.in-Some.found) (sym (c.in-Some.ensures.found k.0 k.1)) (count_of c.args.self.system) k.2
 
-pub with_copy-requires-clause-definition : goal.with_copy-requires-clause-definition
-with_copy-requires-clause-definition c =
+pub with_use-requires-clause-definition : goal.with_use-requires-clause-definition
+with_use-requires-clause-definition c =
     let k = c.requires.known in
     binder_in k.0 c.args.nodes (count_of c.args.self.system) (visit_view Binder (λ b. b.0) c.args.visit) (use_view c.args.self.definitions.plain.items c.in-Some.found) c.requires.within (sym (c.in-Some.ensures.found k.0 k.1))
 
-pub with_copy-requires-clause-node : goal.with_copy-requires-clause-node
-with_copy-requires-clause-node c =
+pub with_use-requires-clause-node : goal.with_use-requires-clause-node
+with_use-requires-clause-node c =
     let k = c.requires.known in
     use_node_in c.args.nodes k.0 (visit_view Binder (λ b. b.0) c.args.visit) (use_view c.args.self.definitions.plain.items c.in-Some.found) (sym (c.in-Some.ensures.found k.0 k.1)) (count_of c.args.self.system) k.2
 
 pub returns-in-Some-clause-step : goal.returns-in-Some-clause-step
 returns-in-Some-clause-step c =
-    if_ok (λ s. AddsCopy c.args.self.system s.system (binder_slots c.args.nodes (first_of c.args.self.definitions.plain.items c.in-Some.found.before)) (c.args.nodes + c.in-Some.found.binder) c.in-Some.found.node)
-    (λ s. IsStepOf c.args.constructors.now c.args.nodes c.args.self (visit_view Binder (λ b. b.0) c.args.visit) s.system) c.with_copy.result
-    (λ s copy g k h known. copy_step c.args.nodes k (visit_view Binder (λ b. b.0) c.args.visit) (use_view c.args.self.definitions.plain.items c.in-Some.found) (sym (c.in-Some.ensures.found k known)) g c.args.self.system s.system copy)
-    c.with_copy.ensures.copy
+    if_ok (λ s. AddsUse c.args.self.system s.system (binder_slots c.args.nodes (first_of c.args.self.definitions.plain.items c.in-Some.found.before)) (c.args.nodes + c.in-Some.found.binder) c.in-Some.found.node)
+    (λ s. IsStepOf c.args.constructors.now c.args.nodes c.args.self (visit_view Binder (λ b. b.0) c.args.visit) s.system) c.with_use.result
+    (λ s used g k h known. use_step c.args.nodes k (visit_view Binder (λ b. b.0) c.args.visit) (use_view c.args.self.definitions.plain.items c.in-Some.found) (sym (c.in-Some.ensures.found k known)) g c.args.self.system s.system used)
+    c.with_use.ensures.used
 
 pub returns-in-None-clause-step : goal.returns-in-None-clause-step
 returns-in-None-clause-step c =

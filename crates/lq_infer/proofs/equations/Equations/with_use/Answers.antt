@@ -1,20 +1,11 @@
 use Rattle.std.proofs.Common.{◌+◌, ◌<◌, ◌^◌, All, refl, sym, subst, take, arith}
 use Rattle.lq_rules.specs.Adding.{count_of}
-use Rattle.lq_infer.proofs.Visiting.{slots_low, front_is, front_short}
-use Rattle.lq_infer.proofs.equations.Equations.with_copy.Goals as goal
+use Rattle.lq_infer.proofs.Visiting.{slots_low, use_added}
+use Rattle.lq_infer.proofs.equations.Equations.with_use.Goals as goal
 
 pub returns-clause-added : goal.returns-clause-added
 returns-clause-added c =
-    let a = c.in_ok-add_copy.ensures.copy in
-    record {
-      system = a.system;
-      longer = a.longer;
-      room = front_short c.args.self.system.equations.items _ _ a.equations_are;
-      front = front_is c.args.self.system.equations.items _ _ a.equations_are;
-      knows = c.in_ok-add_copy.ensures.knows;
-      clear = c.in_ok-add_copy.ensures.clear;
-      same = refl;
-    }
+    use_added c.args.self _ _ (c.args.nodes + c.args.found.binder) c.args.found.node c.requires.kept c.in_ok-add_use.ensures.knows c.in_ok-add_use.ensures.clear refl c.in_ok-add_use.ensures.added
 
 pub slots_of-requires : goal.slots_of-requires
 slots_of-requires c =
