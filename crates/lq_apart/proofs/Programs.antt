@@ -3,16 +3,16 @@ use Rattle.std.specs.Prelude.{nat_lt, if◌then◌else◌, All}
 use Rattle.std.proofs.Common.{◌≡◌, ℕ, suc, ◌+◌, ◌-◌, ◌<◌, ◌≤◌, Bool, true, false, List, [], ◌∷◌, ◌++◌, length, refl, sym, ap, subst, ◌∙◌, arith, append_assoc}
 use Rattle.std.proofs.lemmas.Bool.{false≢true, true≢false, lt-ltb, le-ltb}
 use Rattle.std.proofs.lemmas.List.{append-nil}
-use Rattle.lq_tree.specs.Items.{ItemTree, ItemForm}
+use Rattle.lq_tree.specs.Items.{ItemTree, ItemForm, type_of, let_of, let_rec_of}
 use Rattle.lq_walk.specs.Visits.{Visit, leave_item, visits_of_form, visits_of_item, visits_of_items}
 use Rattle.lq_rules.specs.Gathered.{VisitIn}
 use Rattle.lq_scoped.specs.Numbers.{nodes_of_form, nodes_of_items, numbers_in, binders_at, binders_in}
 use Rattle.lq_scoped.specs.Scoping.{Scoping, IsScoped}
 use Rattle.lq_typings.specs.Fronts.{left_at, left_in}
-use Rattle.lq_typings.specs.Principal.{node_count}
+use Rattle.lq_typings.specs.Principal.{node_count, own_node}
 use Rattle.lq_typings.specs.Uses.{none_known}
 use Rattle.lq_apart.specs.Laws.{slot_count, IsOf, OwnSlots}
-use Rattle.lq_apart.specs.Owning.{AreApart}
+use Rattle.lq_apart.specs.Owning.{item_slots, AreApart}
 use Rattle.lq_apart.proofs.Items.{AreMine, items_in, items_owned, no_state, no_low}
 use Rattle.lq_apart.proofs.Lists.{AllOf, all_left, all_right, to_all}
 use Rattle.lq_apart.proofs.Numbers.{Rising, rising_from, from_below, owner_in, AreIn, are_in}
@@ -59,6 +59,15 @@ module _ (nodes : ℕ) (Own : ℕ → Type 0) where
     (all_left Own (left_at u) (left_in us) h, all_left (λ x. Own (nodes + x)) (binders_at u) (binders_in us) l),
     each_mine us (all_right Own (left_at u) (left_in us) h) (all_right (λ x. Own (nodes + x)) (binders_at u) (binders_in us) l),
   )
+
+  -- the node that has an item's own type is named by the rule of the item
+  own_named : (f : ItemForm) → AllOf Own (item_slots nodes f) → AllOf Own (own_node f)
+  own_named (type_of d) h = tt
+  own_named (let_of q e) h = (h.0, tt)
+  own_named (let_rec_of f r) h = (h.1.0, tt)
+
+  own_first : (f : ItemForm) → AllOf (IsMine nodes Own) (visits_of_form f) → AllOf Own (own_node f)
+  own_first f mine = own_named f ((item_part nodes Own none_known (λ x ps is. absurd (none-some ps is)) f).own mine)
 
 node_owner : (n m : ℕ) (b : Bool) → b ≡ true → (if b then n else m) ≡ n
 node_owner n m true h = refl
@@ -123,9 +132,12 @@ module _ (nodes binders : ℕ) (of_node of_binder : ℕ → ℕ) where
       let own : ℕ → Type 0 = IsOf (nodes + binders) owner_of n in
       let xs = nodes_of_form i.form in
       let ys = binders_in (visits_of_form i.form) in
-      let binders_own = binders_are n ys (all_left (λ x. x < binders) ys (numbers_in (binder_lists is)) less) bs.0 in (
-        to_all own xs (nodes_are n xs (all_left (λ x. x < nodes) xs (numbers_in (node_lists is)) low) ns.0),
+      let nodes_own = nodes_are n xs (all_left (λ x. x < nodes) xs (numbers_in (node_lists is)) low) ns.0 in
+      let binders_own = binders_are n ys (all_left (λ x. x < binders) ys (numbers_in (binder_lists is)) less) bs.0 in
+      let mine = each_mine nodes own (visits_of_form i.form) (subst (AllOf own) (sym (form_left i.form)) nodes_own) binders_own in (
+        to_all own xs nodes_own,
         to_all (λ x. own (nodes + x)) (binders_in (visits_of_item i)) (subst (AllOf (λ x. own (nodes + x))) (sym (item_binders i)) binders_own),
+        to_all own (own_node i.form) (own_first nodes own i.form mine),
         own_slots (suc n) is (all_right (λ x. x < nodes) xs (numbers_in (node_lists is)) low)
             (all_right (λ x. x < binders) ys (numbers_in (binder_lists is)) less) ns.1 bs.1,
       )

@@ -6,7 +6,7 @@ use Rattle.lq_rules.specs.Gathered.{VisitIn}
 use Rattle.lq_scoped.specs.Numbers.{nodes_of_form, binders_in}
 use Rattle.lq_scoped.specs.Scoping.{Scoping, IsScoped}
 use Rattle.lq_apart.specs.Owning.{AreApart}
-use Rattle.lq_typings.specs.Principal.{node_count}
+use Rattle.lq_typings.specs.Principal.{node_count, own_node}
 
 -- how many slots a program has: one for each node, and behind them one for each binder
 abbrev pub slot_count : Scoping → ℕ
@@ -22,12 +22,12 @@ ScopedVisitsAreIn = (s : Scoping) → IsScoped s → All (VisitIn (node_count s)
 abbrev pub IsOf : ℕ → (ℕ → ℕ) → ℕ → ℕ → Type 0
 IsOf slots owner n j = (j < slots) × (owner j ≡ n)
 
--- the slots of each item's nodes and binders are its own, where the items have the numbers from this one on
+-- the slots of each item's nodes and binders are its own, and so is that of its own type, where the items have the numbers from this one on
 abbrev pub OwnSlots : ℕ → ℕ → (ℕ → ℕ) → ℕ → List ItemTree → Type 0
 OwnSlots nodes slots owner n [] = Unit {0}
 OwnSlots nodes slots owner n (i ∷ is) =
     All (IsOf slots owner n) (nodes_of_form i.form) × All (λ x. IsOf slots owner n (nodes + x)) (binders_in (visits_of_item i))
-    × OwnSlots nodes slots owner (suc n) is
+    × All (IsOf slots owner n) (own_node i.form) × OwnSlots nodes slots owner (suc n) is
 
 abbrev pub ScopedItemsOwnSlots : Type 0
 ScopedItemsOwnSlots = (s : Scoping) → IsScoped s → (owner : ℕ → ℕ) × OwnSlots (node_count s) (slot_count s) owner 0 s.items

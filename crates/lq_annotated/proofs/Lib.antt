@@ -1,0 +1,6 @@
+-- Lemmas.
+mod Types
+mod Solved
+mod Apart
+mod Named
+mod Seen
