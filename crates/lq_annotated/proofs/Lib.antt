@@ -4,3 +4,11 @@ mod Solved
 mod Apart
 mod Named
 mod Seen
+mod Measuring
+mod Renamed
+mod Refusing
+mod Naming
+mod SlotsOf
+mod Visited
+mod Numbers
+mod Owners

@@ -2,3 +2,9 @@
 pub mod Laws
 pub mod Naming
 pub mod Seen
+pub mod Slots
+pub mod Measuring
+pub mod Refusing
+pub mod Numbering
+pub mod Errors
+pub mod Whole

@@ -1,8 +1,15 @@
-//! What the most general solution of a program's equations says of its annotation.
+//! A program's principal annotation, from the most general solution of its equations.
 #![tactic(auto)]
 
+mod annotated;
+mod errors;
 mod laws;
+mod measures;
+mod numbering;
+mod refusals;
 
+pub use annotated::Annotated;
+pub use errors::TypeError;
 pub use laws::{
     named_is_inference, seen_are_principal, seen_are_weak, seen_variables_are_apart,
     solved_is_principal, solved_variables_are_apart,

@@ -1,0 +1,115 @@
+-- The numbers of a program's variables, where each is of one item.
+use Rattle.std.specs.List.{list_any}
+use Rattle.std.specs.Prelude.{All, ◌||◌, ◌==◌, slice_index_or}
+use Rattle.std.proofs.Common.{◌≡◌, ℕ, zero, suc, ◌+◌, ◌<◌, List, [], ◌∷◌, ◌++◌, length, map, Option, Some, None, refl, sym, ap, subst, ◌∙◌, arith}
+use Rattle.std.proofs.lemmas.Bool.{or_left, or_right, eq-eqb}
+use Rattle.std.proofs.lemmas.List.Elements.{All-get_or}
+use Rattle.std.proofs.lemmas.Option.{none-some, same_Some}
+use Rattle.lq_tree.specs.Items.{ItemTree}
+use Rattle.lq_tree.specs.MlType as ml
+use Rattle.lq_tree.specs.MlType.{MlType, MlTypes}
+use Rattle.lq_types.specs.Nodes.{at}
+use Rattle.lq_walk.specs.Visits.{visits_of_item}
+use Rattle.lq_scoped.specs.Numbers.{nodes_of_form, binders_in}
+use Rattle.lq_scoped.specs.Scoping.{Scoping}
+use Rattle.lq_typings.specs.Principal.{node_count, variables_of, variables_in, variables_at, own_node, in_order}
+use Rattle.lq_typings.specs.Uses.{Each, EachIn}
+use Rattle.lq_apart.specs.Laws.{slot_count, IsOf, OwnSlots}
+use Rattle.lq_annotated.specs.Laws.{IsIn, AreVariablesApart}
+use Rattle.lq_annotated.specs.Naming.{item_variables, names_in, NumbersItem}
+use Rattle.lq_annotated.specs.Numbering.{number_in, behind_items, value_or_zero, AreUnnamed}
+use Rattle.lq_annotated.specs.Slots.{slot_types, AreRows}
+use Rattle.lq_annotated.proofs.Numbers.{AreOf, Ready, HasNumbers, items}
+use Rattle.lq_annotated.proofs.Types.{AllOf, from_all, to_all, all_both, all_at}
+
+module _ (P Q : ℕ → Type 0) where
+  weaker : ((x : ℕ) → P x → Q x) → (xs : List ℕ) → AllOf P xs → AllOf Q xs
+  weaker f [] h = tt
+  weaker f (x ∷ xs) h = (f x h.0, weaker f xs h.1)
+
+-- each element is in the list
+each_in : (xs : List ℕ) → AllOf (IsIn xs) xs
+each_in [] = tt
+each_in (x ∷ xs) = (
+  or_left (x == x) (list_any (λ z. z == x) xs) (eq-eqb x x refl),
+  weaker (IsIn xs) (IsIn (x ∷ xs))
+      (λ y h. or_right (x == y) (list_any (λ z. z == y) xs) h) xs (each_in xs),
+)
+
+-- what holds of each variable of a type, as a list
+module _ (P : ℕ → Type 0) where
+  mutual
+    each_list : (a : MlType) → Each P a → AllOf P (variables_of a)
+    each_list ml.int h = tt
+    each_list ml.bool h = tt
+    each_list ml.unit h = tt
+    each_list (ml.var i) h = (h, tt)
+    each_list (ml.arrow a b) h = all_both P (variables_of a) (variables_of b) (each_list a h.0) (each_list b h.1)
+    each_list (ml.tuple ts) h = each_lists ts h
+    each_list (ml.array a) h = each_list a h
+    each_list (ml.named d ts) h = each_lists ts h
+    each_list (ml.map_of a) h = each_list a h
+
+    each_lists : (ts : MlTypes) → EachIn P ts → AllOf P (variables_in ts)
+    each_lists ml.no_types h = tt
+    each_lists (ml.more_types t ts) h = all_both P (variables_of t) (variables_in ts) (each_list t h.0) (each_lists ts h.1)
+
+-- ---- variables of slots
+
+to_mapped : (P : ℕ → Type 0) (nodes : ℕ) (xs : List ℕ) → AllOf (λ x. P (nodes + x)) xs → AllOf P (map (λ x. nodes + x) xs)
+to_mapped P nodes [] h = tt
+to_mapped P nodes (x ∷ xs) h = (h.0, to_mapped P nodes xs h.1)
+
+module _ (nodes slots : ℕ) (owner : ℕ → ℕ) (seen : ℕ → MlType) where
+  -- a variable that stands in the type of a slot of the item
+  abbrev pub Of : ℕ → ℕ → Type 0
+  Of n v = (k : ℕ) × (k < slots) × (owner k ≡ n) × IsIn (variables_of (seen k)) v
+
+  of_slot : (n k : ℕ) → IsOf slots owner n k → AllOf (Of n) (variables_of (seen k))
+  of_slot n k o = let xs = variables_of (seen k) in weaker (IsIn xs) (Of n) (λ v h. (k, o.0, o.1, h)) xs (each_in xs)
+
+  of_slots : (n : ℕ) (ks : List ℕ) → AllOf (IsOf slots owner n) ks → AllOf (Of n) (variables_at seen ks)
+  of_slots n [] h = tt
+  of_slots n (k ∷ ks) h = all_both (Of n) (variables_of (seen k)) (variables_at seen ks) (of_slot n k h.0) (of_slots n ks h.1)
+
+  are_of : (n : ℕ) (is : List ItemTree) → OwnSlots nodes slots owner n is → AreOf Of nodes seen n is
+  are_of n [] own = tt
+  are_of n (i ∷ is) own =
+      let P : ℕ → Type 0 = IsOf slots owner n in
+      let ks = nodes_of_form i.form in
+      let xs = binders_in (visits_of_item i) in
+      let binders = to_mapped P nodes xs (from_all (λ x. P (nodes + x)) xs own.1) in
+      let rest = all_both P ks (map (λ x. nodes + x) xs) (from_all P ks own.0) binders in (
+        of_slots n (in_order nodes i)
+            (all_both P (own_node i.form) (ks ++ map (λ x. nodes + x) xs) (from_all P (own_node i.form) own.2) rest),
+        are_of (suc n) is own.3,
+      )
+
+value_at : (final : List (Option ℕ)) (v d k : ℕ) → number_in final v ≡ Some k → slice_index_or (map value_or_zero final) v d ≡ k
+value_at [] v d k h = absurd (none-some k h)
+value_at (o ∷ os) zero d k h = ap value_or_zero h
+value_at (o ∷ os) (suc v) d k h = value_at os v d k h
+
+-- numbers that are given one after another, where no variable is of two items
+pub numbers_are : (s : Scoping) (all : List MlType) (rows : List ℕ) (owner : ℕ → ℕ) → OwnSlots (node_count s) (slot_count s) owner 0 s.items
+    → AreVariablesApart s (slot_types all rows) owner → AreRows all rows (slot_count s) → (first : List (Option ℕ)) → AreUnnamed all first
+    → All (NumbersItem (node_count s) (slot_types all rows)
+    (names_in (map value_or_zero (behind_items (node_count s) (slot_types all rows) first s.items)))) s.items
+numbers_are s all rows owner own apart are first none =
+    let nodes = node_count s in
+    let slots = slot_count s in
+    let seen = slot_types all rows in
+    let final = behind_items nodes seen first s.items in
+    let f = names_in (map value_or_zero final) in
+    let OfItem : ℕ → ℕ → Type 0 = Of nodes slots owner seen in
+    let differ : (n m v : ℕ) → OfItem n v → OfItem m v → n ≡ m = λ n m v a b. sym a.2 ∙ apart a.0 b.0 v a.1 b.1 a.3 b.3 ∙ b.2 in
+    let ready : Ready OfItem nodes seen differ 0 first = record {
+      none = λ m v low of_m. none.none v;
+      bound = λ m v of_m.
+          let low : of_m.0 < length rows = let l = of_m.1 in let e = are.long in omega (arith, l, e) in
+          let inside = All-get_or (λ r. r < length all) rows of_m.0 0 low are.inside in
+          all_at (λ w. w < length first) (variables_of (seen of_m.0)) v
+          (each_list (λ w. w < length first) (seen of_m.0) (none.room (slice_index_or rows of_m.0 0) inside)) of_m.3;
+    } in
+    let done = items OfItem nodes seen differ 0 s.items first ready (are_of nodes slots owner seen 0 s.items own) in
+    to_all (NumbersItem nodes seen f) s.items (done.numbers f (λ v k h. value_at final v v k h))

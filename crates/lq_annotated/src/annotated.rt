@@ -1,0 +1,89 @@
+// Programs with their types.
+ghost use Rattle.lq_scoped.specs.Whole.{scoped_view};
+ghost use Rattle.lq_types.specs.Whole as table_whole;
+ghost use Rattle.lq_typings.specs.Inference.{typed, IsInference};
+ghost use Rattle.lq_annotated.specs.Slots.{slot_types};
+
+use crate::errors::TypeError;
+use crate::laws::{
+    named_is_inference, seen_are_principal, seen_are_weak, seen_variables_are_apart,
+};
+use crate::measures::measure;
+use crate::numbering::numbers_of;
+use crate::refusals::{first_large, first_weak};
+use lq_scoped::Scoped;
+use lq_types::TypeTable;
+use std::alloc::Global;
+
+/// A program with its principal annotation: no definition is weak, no type has more than 2,000 types in it, and the variables of each
+/// definition are numbered from 0 as they first appear.
+#[derive(Drop)]
+pub struct Annotated {
+    program: Scoped,
+    table: TypeTable,
+    // the types of nodes, and behind them those of binders
+    rows: Vec<u32>,
+    ghost answer: { ∥ IsInference (scoped_view program)
+        (typed (slot_types (table_whole.types_of table) rows.items)) ∥₁ },
+}
+
+impl Annotated {
+    ghost use Rattle.std.specs.Prelude.{◌≡◌, IfOk, IfErr};
+    ghost use Rattle.lq_scoped.specs.Whole.{scoped_view};
+    ghost use Rattle.lq_types.specs.Whole as table_whole;
+    ghost use Rattle.lq_typings.specs.Inference.{typed, IsInference};
+    ghost use Rattle.lq_apart.specs.Laws.{slot_count};
+    ghost use Rattle.lq_annotated.specs.Errors.{HasTypeError};
+    ghost use Rattle.lq_annotated.specs.Seen.{IsSeen};
+    ghost use Rattle.lq_annotated.specs.Slots.{slot_types, AreRows};
+    ghost use Rattle.lq_annotated.specs.Whole.{program_of, types_of};
+
+    // The annotation of a program, of whose equations the most general solution gives each slot a type of this table.
+    pub(crate) fn from_solution(
+        alloc: Global,
+        program: Scoped,
+        mut table: TypeTable,
+        rows: Vec<u32>,
+    ) -> Result<Annotated, TypeError>
+        requires rows { AreRows (table_whole.types_of table) rows.items (slot_count (scoped_view program)) }
+        requires seen { IsSeen (scoped_view program) (slot_types (table_whole.types_of table) rows.items) }
+        ensures program { IfOk result (λ a. program_of a ≡ scoped_view program) }
+        ensures typed { IfOk result (λ a. IsInference (scoped_view program) (typed (types_of a))) }
+        ensures refused { IfErr result (HasTypeError (scoped_view program)) }
+    {
+        named_is_inference();
+        seen_are_principal();
+        seen_are_weak();
+        seen_variables_are_apart();
+        let measures = measure(alloc, &table)?;
+        if let Some(place) = first_weak(alloc, &program, &table, &rows, &measures)? {
+            return Err(TypeError::WeakType(place));
+        }
+        if let Some(large) = first_large(alloc, &program, &table, &rows, &measures)? {
+            return Err(TypeError::TypePast(large.place, large.size));
+        }
+        let nodes = (rows.len() - program.binders()) as u32;
+        let names = numbers_of(alloc, &program, nodes, &table, &measures.open, &rows)?;
+        table.rename(&names);
+        Ok(Annotated {
+            program,
+            table,
+            rows,
+        })
+    }
+
+    /// The program.
+    pub fn scoped(&self) -> &Scoped
+        ensures program { scoped_view result.now ≡ program_of self.now }
+        ensures typed { ∥ IsInference (program_of self.now) (typed (types_of self.now)) ∥₁ }
+    {
+        &self.program
+    }
+
+    /// The types, which share their parts.
+    pub fn types(&self) -> &TypeTable
+        ensures { table_whole.types_of result.now ≡ table_whole.types_of self.now.table }
+    {
+        &self.table
+    }
+}
