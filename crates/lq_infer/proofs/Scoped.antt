@@ -1,9 +1,10 @@
 -- A scoped program as what is walked over.
-use Rattle.std.proofs.Common.{◌≡◌, ℕ, suc, ◌+◌, ◌<◌, List, ◌∷◌, take, drop, get_or, Option, Some, None, IsSome, All, length, refl, sym, ap, ap₂, subst, ◌∙◌, arith}
+use Rattle.std.proofs.Common.{◌≡◌, ℕ, suc, ◌+◌, ◌<◌, ◌≤◌, List, ◌∷◌, take, drop, get_or, Option, Some, None, IsSome, All, length, refl, sym, ap, ap₂, subst, ◌∙◌, arith}
 use Rattle.std.proofs.Math.Seq.{drop-cons}
 use Rattle.std.proofs.lemmas.List.{take_all}
 use Rattle.lq_name.specs.declared.place.Place.{Place}
 use Rattle.lq_walk.specs.Visits.{Visit, show_name, visits_of_items}
+use Rattle.lq_rules.specs.Adding.{count_of}
 use Rattle.lq_rules.specs.Gathered.{VisitIn}
 use Rattle.lq_rules.specs.Solved.{types_in}
 use Rattle.lq_rules.specs.Templates.{AreWhole, HasSignature}
@@ -31,7 +32,7 @@ pub record IsOf (s : Scoping) (p : Program) : Type 0 where
   pub whole : AreWhole p.constructors
   pub signature : HasSignature p.constructors (signature_in s.datatypes)
 
-nodes_are : (s : Scoping) (visits : List Visit) (n : ℕ) → visits ≡ visits_of_items s.items → n ≡ length (left_in visits) → n ≡ node_count s
+pub nodes_are : (s : Scoping) (visits : List Visit) (n : ℕ) → visits ≡ visits_of_items s.items → n ≡ length (left_in visits) → n ≡ node_count s
 nodes_are s visits n e q = q ∙ ap (λ vs. length (left_in vs)) e ∙ ap length (items_left s.items)
 
 pub is_of : (s : Scoping) (p : Program) (binders : ℕ) (datatypes : List DataTree) → scoped_items p.items.now ≡ s.items → p.nodes ≡ length (left_in (visits_in p)) → p.slots ≡ p.nodes + binders → binders ≡ length s.sources → AreWhole p.constructors
@@ -66,6 +67,9 @@ solved_of s p n i o e f = record {
   where
     whole : take n (visits_in p) ≡ visits_of_items s.items
     whole = take_all n (visits_in p) (omega arith) ∙ o.visits
+
+pub slots_of : (s : Scoping) (p : Program) (n : ℕ) (i : Inferred) → IsOf s p → IsFrontSolved p n i → slot_count s ≤ count_of i.system
+slots_of s p n i o f = subst (λ (m : ℕ). m ≤ count_of i.system) o.slots f.longer
 
 -- ---- the place
 

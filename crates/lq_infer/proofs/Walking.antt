@@ -77,6 +77,7 @@ module _ (p : Program) (n : ℕ) (left : List Visit) (s : Equations) (ready : Is
     system = subst IsSystem (sym same) i.kept.system;
     principal = principal;
     ordered = ordered;
+    longer = subst (λ (y : System). p.slots ≤ count_of y) (sym same) i.longer;
     complete = λ g h. subst (λ y. IsComplete g p.nodes p.slots (take limit (visits_in p)) y) (sym same)
         (subst (λ m. IsComplete g p.nodes p.slots (take m (visits_in p)) s.system) e (front_says g h).0);
     sound = λ g h. subst (λ y. IsSound g p.nodes (take limit (visits_in p)) y) (sym same) (subst (λ m. IsSound g p.nodes (take m (visits_in p)) s.system) e (front_says g h).1);

@@ -6,7 +6,7 @@ use Rattle.lq_tree.specs.MlType.{MlType}
 use Rattle.lq_tree.specs.Types.{Signature}
 use Rattle.lq_unify.specs.Solved.{HasOrder}
 use Rattle.lq_walk.specs.Visits.{Visit, visits_of_items}
-use Rattle.lq_rules.specs.Adding.{IsSystem}
+use Rattle.lq_rules.specs.Adding.{IsSystem, count_of}
 use Rattle.lq_rules.specs.Gathered.{VisitIn}
 use Rattle.lq_rules.specs.Solved.{IsPrincipal, types_in}
 use Rattle.lq_rules.specs.Templates.{AreWhole, HasSignature}
@@ -41,6 +41,7 @@ pub record IsFrontSolved (p : Program) (n : ℕ) (i : Inferred) : Type 0 where
   pub system : IsSystem i.system
   pub principal : IsPrincipal i.system (types_in i.system i.solution)
   pub ordered : HasOrder i.system.arena i.solution
+  pub longer : p.slots ≤ count_of i.system
   pub complete : (g : Signature) → HasSignature p.constructors g → IsComplete g p.nodes p.slots (take n (visits_in p)) i.system
   pub sound : (g : Signature) → HasSignature p.constructors g → IsSound g p.nodes (take n (visits_in p)) i.system
 

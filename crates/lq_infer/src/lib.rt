@@ -11,5 +11,5 @@ mod values;
 
 pub use equations::Inferred;
 pub use laws::steps_say_the_rules;
-pub use solving::{SolveError, solve_program};
+pub use solving::{SolveError, count_nodes, solve_program};
 pub use values::is_value;

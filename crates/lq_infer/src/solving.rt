@@ -1,13 +1,15 @@
 // The most general types of a program, or the place where it has none.
-ghost use Rattle.std.specs.Prelude.{◌≡◌, IfOk, IfErr};
+ghost use Rattle.std.specs.Prelude.{◌≡◌, ◌≤◌, IfOk, IfErr};
 ghost use Rattle.lq_name.specs.declared.place.Place.{Place};
 ghost use Rattle.lq_scoped.specs.Whole.{scoped_view};
 ghost use Rattle.lq_unify.specs.Solved.{HasOrder};
-ghost use Rattle.lq_rules.specs.Adding.{IsSystem};
+ghost use Rattle.lq_apart.specs.Laws.{slot_count};
+ghost use Rattle.lq_rules.specs.Adding.{IsSystem, count_of};
 ghost use Rattle.lq_rules.specs.Solved.{types_in};
 ghost use Rattle.lq_infer.specs.Inferring.{IsSolved};
 ghost use Rattle.lq_infer.specs.declared.solving.SolveError.TheVariants.{IllTyped, Memory};
 ghost use Rattle.lq_typings.specs.Inference.{IsIllTyped};
+ghost use Rattle.lq_typings.specs.Principal.{node_count};
 
 use crate::equations::Inferred;
 use crate::program::{Attempt, Program, counts_of};
@@ -36,6 +38,14 @@ impl From<AllocError> for SolveError {
     }
 }
 
+/// How many nodes a program has. Past 2^32 it answers that there is no memory.
+pub fn count_nodes(alloc: Global, program: &Scoped) -> Result<u32, AllocError>
+    ensures { IfOk result (λ n. n ≡ node_count (scoped_view program.now)) }
+{
+    let counts = counts_of(alloc, program.items())?;
+    Ok(counts.nodes)
+}
+
 /// The equations of a program's types with their most general solution, or the first place at which the rules up to it can't hold
 /// together. Where nodes and binders reach 2^32, or the equations have too many nodes for their arena, it answers that there is no
 /// memory.
@@ -44,6 +54,7 @@ pub fn solve_program(alloc: Global, program: &Scoped) -> Result<Inferred, SolveE
     ensures solved { IfOk result (λ i. IsSolved (scoped_view program.now) i.system
         (types_in i.system i.solution)) }
     ensures ordered { IfOk result (λ i. HasOrder i.system.arena i.solution) }
+    ensures slots { IfOk result (λ i. slot_count (scoped_view program.now) ≤ count_of i.system) }
     ensures ill_typed { IfErr result (λ e. (place : Place) → e ≡ IllTyped place
         → IsIllTyped (scoped_view program.now) place) }
 {

@@ -3,7 +3,7 @@ use Rattle.lq_scoped.specs.Views.{data_view}
 use Rattle.lq_scoped.specs.Whole.{scoped_view}
 use Rattle.lq_infer.specs.declared.program.Program.{Program}
 use Rattle.lq_infer.specs.Programs.{IsAttempt}
-use Rattle.lq_infer.proofs.Scoped.{is_of, ready_of, solved_of, place_some, ill_typed_of}
+use Rattle.lq_infer.proofs.Scoped.{is_of, ready_of, solved_of, slots_of, place_some, ill_typed_of}
 use Rattle.lq_infer.proofs.solving.solve_program.Goals as goal
 
 pub attempt-requires-clause-ready : goal.attempt-requires-clause-ready
@@ -21,6 +21,14 @@ returns-in-Solved-clause-solved c =
     let o = is_of s p c.binders.result (map data_view c.datatypes.result.now) c.items-items.ensures.items c.in_ok-counts.ensures.nodes refl c.binders.ensures c.in_ok-constructors.ensures.whole c.datatypes.ensures
     c.in_ok-constructors.ensures.signature in
     solved_of s p c.in_ok-counts.counts.visits c.in-Solved.inferred o c.in_ok-counts.ensures.visits (subst (IsAttempt p c.in_ok-counts.counts.visits) c.in-Solved.is c.in_ok-inferred.ensures)
+
+pub returns-in-Solved-clause-slots : goal.returns-in-Solved-clause-slots
+returns-in-Solved-clause-slots c =
+    let s = scoped_view c.args.program.now in
+    let p : Program = record { items = c.items-items.result; constructors = c.in_ok-constructors.constructors; nodes = c.in_ok-counts.counts.nodes; slots = c.in_ok-counts.counts.nodes + c.binders.result } in
+    let o = is_of s p c.binders.result (map data_view c.datatypes.result.now) c.items-items.ensures.items c.in_ok-counts.ensures.nodes refl c.binders.ensures c.in_ok-constructors.ensures.whole c.datatypes.ensures
+    c.in_ok-constructors.ensures.signature in
+    slots_of s p c.in_ok-counts.counts.visits c.in-Solved.inferred o (subst (IsAttempt p c.in_ok-counts.counts.visits) c.in-Solved.is c.in_ok-inferred.ensures)
 
 pub first_failing-requires-clause-ready : goal.first_failing-requires-clause-ready
 first_failing-requires-clause-ready c =
