@@ -1,9 +1,8 @@
 -- The measures of a type from those of its parts.
 use Rattle.std.specs.Prelude.{◌||◌, min, All, slice_index_or, ◌^◌, ◌-◌}
 use Rattle.std.specs.List.{list_any}
-use Rattle.std.proofs.Common.{◌≡◌, ℕ, zero, suc, ◌+◌, ◌<◌, ◌≤◌, ◌++◌, map, take, drop, get_or, drop-cons, Bool, true, false, List, [], ◌∷◌, length, Option, Some, None, inl, inr, refl, sym, ap, ap₂, subst, ◌∙◌, arith}
-use Rattle.lq_tree.specs.MlType as ml
-use Rattle.lq_tree.specs.MlType.{MlType, MlTypes}
+use Rattle.std.proofs.Common.{◌≡◌, ℕ, zero, suc, ◌+◌, ◌<◌, ◌≤◌, ◌++◌, map, take, drop, get_or, drop-cons, Bool, true, false, List, [], ◌∷◌, length, inl, inr, refl, sym, ap, ap₂, subst, ◌∙◌, arith}
+use Rattle.lq_tree.specs.MlType.{MlType}
 use Rattle.lq_constructors.specs.Tasks.{size_of, size_of_all}
 use Rattle.lq_types.specs.declared.type_node.TypeHead.{TypeHead}
 use Rattle.lq_types.specs.declared.type_node.TypeHead.TheVariants as head

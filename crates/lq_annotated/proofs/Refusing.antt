@@ -1,7 +1,9 @@
 -- The first definition that is weak, and the first type that is too large, one after another.
-use Rattle.std.specs.Prelude.{All, min, nat_lt, if◌then◌else◌, slice_index_or, ◌^◌, ◌-◌}
-use Rattle.std.proofs.Common.{◌≡◌, ℕ, zero, suc, ◌<◌, ◌≤◌, Bool, true, false, List, [], ◌∷◌, ◌++◌, length, map, drop, drop-cons, get_or, Option, Some, None, refl, sym, ap, subst, ◌∙◌, arith}
-use Rattle.std.proofs.lemmas.Bool.{lt-ltb, le-ltb}
+use Rattle.std.specs.Option.{option_map, is_some}
+use Rattle.std.specs.Prelude.{All, nat_lt, if◌then◌else◌, slice_index_or}
+use Rattle.std.proofs.Common.{◌≡◌, ℕ, zero, suc, ◌+◌, ◌<◌, ◌≤◌, Bool, true, false, List, [], ◌∷◌, ◌++◌, length, map, drop, drop-cons, get_or, Option, Some, None, refl, sym, ap, subst, ◌∙◌, arith}
+use Rattle.std.proofs.lemmas.Bool.{lt-ltb, le-ltb, false≢true}
+use Rattle.std.proofs.lemmas.List.{length-map}
 use Rattle.std.proofs.lemmas.Option.{none-some}
 use Rattle.lq_name.specs.declared.name.Binder.{Binder}
 use Rattle.lq_name.specs.declared.place.Place.{Place}
@@ -14,7 +16,9 @@ use Rattle.lq_rules.specs.Gathered.{VisitIn}
 use Rattle.lq_rules.specs.Within.{ItemIn}
 use Rattle.lq_types.specs.Nodes.{at}
 use Rattle.lq_typings.specs.Principal.{is_weak, weak_place, first_weak, counted, first_past, placed_at, placed_in}
+use Rattle.lq_annotated.specs.Refusing.{large_view}
 use Rattle.lq_annotated.specs.Slots.{slot_types}
+use Rattle.lq_annotated.specs.declared.refusals.Large.{Large}
 use Rattle.lq_annotated.proofs.Types.{from_all, to_all, left_part, right_part}
 
 -- ---- definitions
@@ -34,6 +38,12 @@ pub rest_is : (items : List (Item Binder)) (k : ℕ) (x : Item Binder) → k < l
     → views (drop k items) ≡ view x ∷ views (drop (suc k) items)
 rest_is items k x low is = ap views (drop-cons items k x low ∙ ap (λ (y : Item Binder). y ∷ drop (suc k) items) (sym is))
 
+pub rest_behind : (items : List (Item Binder)) (k : ℕ) (x : Item Binder) → k < length items → x ≡ get_or items k x
+    → views (drop k items) ≡ view x ∷ views (drop (k + 1) items)
+rest_behind items k x low is =
+    let e : suc k ≡ k + 1 = omega arith in
+    subst (λ (m : ℕ). views (drop k items) ≡ view x ∷ views (drop m items)) e (rest_is items k x low is)
+
 module _ (nodes n : ℕ) where
   split_ranges : (i : ItemTree) (is : List ItemTree) → All (VisitIn nodes n) (visits_of_items (i ∷ is))
       → ItemIn nodes n i.form × All (VisitIn nodes n) (visits_of_items is)
@@ -45,6 +55,12 @@ module _ (nodes n : ℕ) where
       )
 
   module _ (types : ℕ → MlType) (all : List ItemTree) where
+    pub weak_start : (rest : List ItemTree) → rest ≡ all → All (VisitIn nodes n) (visits_of_items all) → WeakLeft nodes n types all rest
+    weak_start rest e ranges = record {
+      same = ap (first_weak types) e;
+      ranges = subst (λ r. All (VisitIn nodes n) (visits_of_items r)) (sym e) ranges;
+    }
+
     pub weak_in : (rest : List ItemTree) (i : ItemTree) (is : List ItemTree) → rest ≡ i ∷ is → WeakLeft nodes n types all rest → ItemIn nodes n i.form
     weak_in rest i is e h = (split_ranges i is (subst (λ r. All (VisitIn nodes n) (visits_of_items r)) e h.ranges)).0
 
@@ -128,3 +144,21 @@ module _ (nodes n : ℕ) (types : ℕ → MlType) (all rest : List Visit) (v : V
   pub large_here : (y : Place × ℕ) → first_past types (placed_at v) ≡ Some y → Some y ≡ first_past types (placed_in all)
   large_here y is = sym (past_some types (placed_at v) (placed_in vs) y is) ∙ sym
       (ap (λ (us : List Visit). first_past types (placed_in us)) e) ∙ h.same
+
+pub large_start : (nodes n : ℕ) (types : ℕ → MlType) (all rest : List Visit) → rest ≡ all → All (VisitIn nodes n) all → LargeLeft nodes n types all rest
+large_start nodes n types all rest e ranges = record {
+  same = ap (λ (vs : List Visit). first_past types (placed_in vs)) e;
+  ranges = subst (All (VisitIn nodes n)) (sym e) ranges;
+}
+
+-- what is not there is none
+pub none_of : (o : Option Large) (x : Option (Place × ℕ)) → is_some o ≡ false → option_map large_view o ≡ x → x ≡ None
+none_of None x e h = sym h
+none_of (Some l) x e h = absurd (false≢true (sym e))
+
+-- numbers of types are those of what is told of them
+pub measured_rows : {A : Type 0} (h : MlType → A) (all : List MlType) (rows : List ℕ) (ms : List A) → ms ≡ map h all
+    → All (λ r. r < length all) rows → All (λ r. r < length ms) rows
+measured_rows h all rows ms is inside =
+    let same : length ms ≡ length all = ap length is ∙ length-map all h in
+    subst (λ (n : ℕ). All (λ r. r < n) rows) (sym same) inside

@@ -32,12 +32,12 @@ fn size_over(sizes: &[u64], parts: &[u32]) -> u64
 }
 
 // Whether a variable stands in one of these parts.
-fn is_open_over(open: &[bool], parts: &[u32]) -> bool
-    requires { All (λ p. p < length open.now) parts.now }
-    ensures { result ≡ list_any (λ p. slice_index_or open.now p false) parts.now }
+fn is_open_over(with_variables: &[bool], parts: &[u32]) -> bool
+    requires { All (λ p. p < length with_variables.now) parts.now }
+    ensures { result ≡ list_any (λ p. slice_index_or with_variables.now p false) parts.now }
 {
     for part in parts {
-        if open[*part as usize] {
+        if with_variables[*part as usize] {
             return true;
         }
     }

@@ -33,30 +33,31 @@ pub(crate) struct Large {
 }
 
 // Whether a variable stands in the type of a slot.
-fn is_open_at(rows: &[u32], open: &[bool], slot: u32) -> bool
+fn is_open_at(rows: &[u32], with_variables: &[bool], slot: u32) -> bool
     requires slot { slot < length rows.now }
-    requires rows { All (λ r. r < length open.now) rows.now }
-    ensures { (all : List MlType) → open.now ≡ map is_open all → result ≡ is_open (slot_types all rows.now slot) }
+    requires rows { All (λ r. r < length with_variables.now) rows.now }
+    ensures { (all : List MlType) → with_variables.now ≡ map is_open all
+        → result ≡ is_open (slot_types all rows.now slot) }
 {
-    open[rows[slot as usize] as usize]
+    with_variables[rows[slot as usize] as usize]
 }
 
 // Whether a definition is no value and has a variable in its type.
 fn is_weak(
     alloc: Global,
     rows: &[u32],
-    open: &[bool],
+    with_variables: &[bool],
     item: &ItemNode<Binder>,
 ) -> Result<bool, AllocError>
     requires item { (nodes : ℕ) × ItemIn nodes (length rows.now) (item_form_view Binder (λ b. b.0) item.now) }
-    requires rows { All (λ r. r < length open.now) rows.now }
-    ensures { IfOk result (λ w. (all : List MlType) → open.now ≡ map is_open all
+    requires rows { All (λ r. r < length with_variables.now) rows.now }
+    ensures { IfOk result (λ w. (all : List MlType) → with_variables.now ≡ map is_open all
         → w ≡ is_weak (slot_types all rows.now) (item_form_view Binder (λ b. b.0) item.now)) }
 {
     match item {
         ItemNode::Let(_, bound) => {
             let value = is_value(alloc, bound)?;
-            Ok(!value && is_open_at(rows, open, bound.id))
+            Ok(!value && is_open_at(rows, with_variables, bound.id))
         }
         ItemNode::Type(_) => Ok(false),
         ItemNode::LetRec(_, _) => Ok(false),

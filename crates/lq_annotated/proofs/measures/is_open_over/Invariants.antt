@@ -5,4 +5,4 @@ use Rattle.lq_annotated.proofs.measures.is_open_over.Given as goal
 
 abbrev pub invariant-loop-part : goal.invariant-loop-part
 invariant-loop-part l =
-    list_any (λ p. slice_index_or l.open p false) (drop l.part-index l.parts) ≡ list_any (λ p. slice_index_or l.open p false) l.parts
+    list_any (λ p. slice_index_or l.with_variables p false) (drop l.part-index l.parts) ≡ list_any (λ p. slice_index_or l.with_variables p false) l.parts

@@ -1,6 +1,6 @@
 use Rattle.std.specs.List.{list_any}
 use Rattle.std.specs.Prelude.{◌||◌, min, slice_index_or}
-use Rattle.std.proofs.Common.{◌≡◌, ◌<◌, suc, ◌-◌, ◌^◌, false, List, length, ap, subst, ◌∙◌, arith}
+use Rattle.std.proofs.Common.{◌≡◌, ◌<◌, suc, ◌-◌, ◌^◌, false, length, ap, subst, ◌∙◌, arith}
 use Rattle.lq_types.specs.Nodes.{at}
 use Rattle.lq_types.specs.Whole.{types_of}
 use Rattle.lq_annotated.specs.Measuring.{total, is_variable}

@@ -1,5 +1,5 @@
 use Rattle.std.specs.Prelude.{slice_index}
-use Rattle.std.proofs.Common.{◌≡◌, suc, ◌+◌, ◌-◌, ◌^◌, [], drop, ap, arith}
+use Rattle.std.proofs.Common.{◌≡◌, suc, ◌-◌, ◌^◌, [], drop, ap, arith}
 use Rattle.std.proofs.lemmas.List.{drop_all}
 use Rattle.lq_annotated.specs.Measuring.{total}
 use Rattle.lq_annotated.proofs.Measuring.{at_end}
