@@ -12,3 +12,4 @@ mod SlotsOf
 mod Visited
 mod Numbers
 mod Owners
+mod Answered

@@ -1,8 +1,9 @@
 // Programs with their types.
+ghost use Rattle.lq_apart.specs.Laws.{slot_count};
 ghost use Rattle.lq_scoped.specs.Whole.{scoped_view};
 ghost use Rattle.lq_types.specs.Whole as table_whole;
 ghost use Rattle.lq_typings.specs.Inference.{typed, IsInference};
-ghost use Rattle.lq_annotated.specs.Slots.{slot_types};
+ghost use Rattle.lq_annotated.specs.Slots.{slot_types, AreRows};
 
 use crate::errors::TypeError;
 use crate::laws::{
@@ -12,6 +13,7 @@ use crate::measures::measure;
 use crate::numbering::numbers_of;
 use crate::refusals::{first_large, first_weak};
 use lq_scoped::Scoped;
+use lq_tree::Binder;
 use lq_types::TypeTable;
 use std::alloc::Global;
 
@@ -23,28 +25,33 @@ pub struct Annotated {
     table: TypeTable,
     // the types of nodes, and behind them those of binders
     rows: Vec<u32>,
+    ghost inside: { AreRows (table_whole.types_of table) rows.items (slot_count (scoped_view program)) },
     ghost answer: { ∥ IsInference (scoped_view program)
         (typed (slot_types (table_whole.types_of table) rows.items)) ∥₁ },
 }
 
 impl Annotated {
-    ghost use Rattle.std.specs.Prelude.{◌≡◌, IfOk, IfErr};
+    ghost use Rattle.std.specs.Prelude.{◌≡◌, ◌+◌, ◌<◌, length, IfOk, IfErr};
     ghost use Rattle.lq_scoped.specs.Whole.{scoped_view};
+    ghost use Rattle.lq_types.specs.Nodes.{at};
     ghost use Rattle.lq_types.specs.Whole as table_whole;
     ghost use Rattle.lq_typings.specs.Inference.{typed, IsInference};
+    ghost use Rattle.lq_typings.specs.Principal.{node_count};
     ghost use Rattle.lq_apart.specs.Laws.{slot_count};
     ghost use Rattle.lq_annotated.specs.Errors.{HasTypeError};
     ghost use Rattle.lq_annotated.specs.Seen.{IsSeen};
     ghost use Rattle.lq_annotated.specs.Slots.{slot_types, AreRows};
-    ghost use Rattle.lq_annotated.specs.Whole.{program_of, types_of};
+    ghost use Rattle.lq_annotated.specs.Whole.{program_of, table_of, types_of};
 
-    // The annotation of a program, of whose equations the most general solution gives each slot a type of this table.
+    // The annotation of a program of so many nodes, of whose equations the most general solution gives each slot a type of this table.
     pub(crate) fn from_solution(
         alloc: Global,
         program: Scoped,
+        nodes: u32,
         mut table: TypeTable,
         rows: Vec<u32>,
     ) -> Result<Annotated, TypeError>
+        requires nodes { nodes ≡ node_count (scoped_view program) }
         requires rows { AreRows (table_whole.types_of table) rows.items (slot_count (scoped_view program)) }
         requires seen { IsSeen (scoped_view program) (slot_types (table_whole.types_of table) rows.items) }
         ensures program { IfOk result (λ a. program_of a ≡ scoped_view program) }
@@ -62,7 +69,6 @@ impl Annotated {
         if let Some(large) = first_large(alloc, &program, &table, &rows, &measures)? {
             return Err(TypeError::TypePast(large.place, large.size));
         }
-        let nodes = (rows.len() - program.binders()) as u32;
         let names = numbers_of(alloc, &program, nodes, &table, &measures.open, &rows)?;
         table.rename(&names);
         Ok(Annotated {
@@ -82,8 +88,34 @@ impl Annotated {
 
     /// The types, which share their parts.
     pub fn types(&self) -> &TypeTable
-        ensures { table_whole.types_of result.now ≡ table_whole.types_of self.now.table }
+        ensures { table_whole.types_of result.now ≡ table_of self.now }
     {
         &self.table
+    }
+
+    /// How many nodes the program has.
+    pub fn nodes(&self) -> usize
+        ensures { result ≡ node_count (program_of self.now) }
+    {
+        self.rows.len() - self.program.binders()
+    }
+
+    /// The number in the table of a node's type.
+    pub fn type_of(&self, id: u32) -> u32
+        requires { id < node_count (program_of self.now) }
+        ensures inside { result < length (table_of self.now) }
+        ensures types { at (table_of self.now) result ≡ types_of self.now id }
+    {
+        self.rows[id as usize]
+    }
+
+    /// The number in the table of a binder's type.
+    pub fn type_of_binder(&self, binder: Binder) -> u32
+        requires { binder.0 < length (program_of self.now).sources }
+        ensures inside { result < length (table_of self.now) }
+        ensures types { at (table_of self.now) result
+            ≡ types_of self.now (node_count (program_of self.now) + binder.0) }
+    {
+        self.rows[self.nodes() + binder.0 as usize]
     }
 }

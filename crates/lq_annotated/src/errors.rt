@@ -1,7 +1,9 @@
 // Why a program has no types.
 ghost use Rattle.std.specs.Prelude.{◌≡◌};
+ghost use Rattle.lq_annotated.specs.Errors.{refusal_of};
 ghost use Rattle.lq_annotated.specs.declared.errors.TypeError.TheVariants.{Memory};
 
+use lq_infer::SolveError;
 use lq_name::Place;
 use std::alloc::AllocError;
 use thiserror::Error;
@@ -27,5 +29,16 @@ impl From<AllocError> for TypeError {
 
     fn from(_: AllocError) -> Self {
         TypeError::Memory
+    }
+}
+
+impl From<SolveError> for TypeError {
+    ghost from_gives = { λ s e. e ≡ refusal_of s };
+
+    fn from(error: SolveError) -> Self {
+        match error {
+            SolveError::IllTyped(place) => TypeError::IllTyped(place),
+            SolveError::Memory => TypeError::Memory,
+        }
     }
 }
