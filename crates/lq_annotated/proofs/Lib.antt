@@ -5,6 +5,7 @@ mod Apart
 mod Named
 mod Seen
 mod Measuring
+mod Bounding
 mod Renamed
 mod Refusing
 mod Naming

@@ -123,18 +123,18 @@ module _ (f : ℕ → Bool) where
 -- ---- the table
 
 module _ {A : Type 0} (h : MlType → A) (d : A) where
-  taken_at : (all : List MlType) (i p : ℕ) → p < i → p < length all → slice_index_or (map h (take i all)) p d ≡ h (at all p)
+  pub taken_at : (all : List MlType) (i p : ℕ) → p < i → p < length all → slice_index_or (map h (take i all)) p d ≡ h (at all p)
   taken_at [] i p low less = absurd (omega (arith, less))
   taken_at (a ∷ as_) zero p low less = absurd (omega (arith, low))
   taken_at (a ∷ as_) (suc i) zero low less = refl
   taken_at (a ∷ as_) (suc i) (suc p) low less = taken_at as_ i p (omega (arith, low)) (omega (arith, less))
 
-  taken_more : (all : List MlType) (i : ℕ) → i < length all → map h (take i all) ++ h (at all i) ∷ [] ≡ map h (take (suc i) all)
+  pub taken_more : (all : List MlType) (i : ℕ) → i < length all → map h (take i all) ++ h (at all i) ∷ [] ≡ map h (take (suc i) all)
   taken_more [] i low = absurd (omega (arith, low))
   taken_more (a ∷ as_) zero low = refl
   taken_more (a ∷ as_) (suc i) low = ap (λ (bs : List A). h a ∷ bs) (taken_more as_ i (omega (arith, low)))
 
-one_more : (i : ℕ) → suc i ≡ i + 1
+pub one_more : (i : ℕ) → suc i ≡ i + 1
 one_more i = omega arith
 
 one_stopped : (f : ℕ → ℕ) (limit : ℕ) (ps : List ℕ) → min (suc (total (λ p. min (f p) limit) ps)) limit ≡ min (suc (total f ps)) limit

@@ -1,10 +1,13 @@
 // Programs with their types.
+ghost use Rattle.std.specs.Prelude.{◌≡◌, map};
 ghost use Rattle.lq_apart.specs.Laws.{slot_count};
 ghost use Rattle.lq_scoped.specs.Whole.{scoped_view};
 ghost use Rattle.lq_types.specs.Whole as table_whole;
 ghost use Rattle.lq_typings.specs.Inference.{typed, IsInference};
+ghost use Rattle.lq_annotated.specs.Bounds.{bound_of};
 ghost use Rattle.lq_annotated.specs.Slots.{slot_types, AreRows};
 
+use crate::bounds::bounds_of;
 use crate::errors::TypeError;
 use crate::laws::{
     named_is_inference, seen_are_principal, seen_are_weak, seen_variables_are_apart,
@@ -25,9 +28,12 @@ pub struct Annotated {
     table: TypeTable,
     // the types of nodes, and behind them those of binders
     rows: Vec<u32>,
+    // the number past the last variable of each type of the table
+    bounds: Vec<u32>,
     ghost inside: { AreRows (table_whole.types_of table) rows.items (slot_count (scoped_view program)) },
     ghost answer: { ∥ IsInference (scoped_view program)
         (typed (slot_types (table_whole.types_of table) rows.items)) ∥₁ },
+    ghost bounded: { bounds.items ≡ map bound_of (table_whole.types_of table) },
 }
 
 impl Annotated {
@@ -38,6 +44,7 @@ impl Annotated {
     ghost use Rattle.lq_typings.specs.Inference.{typed, IsInference};
     ghost use Rattle.lq_typings.specs.Principal.{node_count};
     ghost use Rattle.lq_apart.specs.Laws.{slot_count};
+    ghost use Rattle.lq_annotated.specs.Bounds.{bound_of};
     ghost use Rattle.lq_annotated.specs.Errors.{HasTypeError};
     ghost use Rattle.lq_annotated.specs.Seen.{IsSeen};
     ghost use Rattle.lq_annotated.specs.Slots.{slot_types, AreRows};
@@ -71,10 +78,12 @@ impl Annotated {
         }
         let names = numbers_of(alloc, &program, nodes, &table, &measures.open, &rows)?;
         table.rename(&names);
+        let bounds = bounds_of(alloc, &table)?;
         Ok(Annotated {
             program,
             table,
             rows,
+            bounds,
         })
     }
 
@@ -117,5 +126,13 @@ impl Annotated {
             ≡ types_of self.now (node_count (program_of self.now) + binder.0) }
     {
         self.rows[self.nodes() + binder.0 as usize]
+    }
+
+    /// The number past the last variable of a binder's type, 0 where it has none.
+    pub fn scheme_of(&self, binder: Binder) -> u32
+        requires { binder.0 < length (program_of self.now).sources }
+        ensures { result ≡ bound_of (types_of self.now (node_count (program_of self.now) + binder.0)) }
+    {
+        self.bounds[self.type_of_binder(binder) as usize]
     }
 }

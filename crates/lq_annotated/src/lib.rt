@@ -2,6 +2,7 @@
 #![tactic(auto)]
 
 mod annotated;
+mod bounds;
 mod errors;
 mod inferring;
 mod laws;

@@ -37,6 +37,7 @@ invariant_of-result c =
           c.deref.ensures.value c.in_default.is c.in_ok-place.ensures c.seen_are_principal.ensures c.deref-2.result.now c.in_ok-large.field-0
           c.deref-2.ensures.value c.in_ok-large.ensures c.named_is_inference.ensures renamed c.deref-4.result.now c.in_ok-names.names.items
           c.deref-5.result.now c.in_default-2.is c.deref-4.ensures.value c.deref-5.ensures.value c.in_ok-names.ensures c.rename.ensures ∣₁;
+      bounded = c.in_ok-bounds.ensures;
     }
 
 pub returns-clause-typed : goal.returns-clause-typed
