@@ -1,6 +1,5 @@
 use Rattle.std.specs.Prelude.{max, slice_index_or}
 use Rattle.std.proofs.Common.{◌≡◌, ℕ, ◌<◌, length, ap, ap₂, subst, ◌∙◌, arith}
-use Rattle.lq_types.specs.Nodes.{at}
 use Rattle.lq_types.specs.Whole.{types_of}
 use Rattle.lq_annotated.specs.Bounds.{own_bound, largest}
 use Rattle.lq_annotated.proofs.Bounding.{bounds_next}
