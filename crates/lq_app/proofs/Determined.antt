@@ -10,7 +10,6 @@ use Rattle.lq_app.specs.declared.status.Status.{Status}
 use Rattle.lq_app.specs.declared.status.Status.TheVariants.{Good, Rejected, Undecided, Refused, Usage, File, SinkFault, Memory}
 use Rattle.lq_app.specs.Ends.{Ends, WritesAll}
 use Rattle.lq_app.specs.Command.{file_named, usage_line}
-use Rattle.lq_parsed.specs.Laws.{ParsedProgramsAreScoped}
 use Rattle.lq_sound.specs.Safety.{ValidIsSafe}
 use Rattle.lq_app.specs.Judgement.{IsAccepted, IsSafeText, IsUngathered, IsPastNumber, IsJudgement, IsByNumber, Agree, IsOneJudgement, HasSmallDemands}
 use Rattle.lq_app.proofs.Judged.{decided_is, safe_text}
@@ -243,6 +242,5 @@ pub decided_here : (words : List (List ℕ)) (v : Visit) (old new : Option (List
 decided_here words v old new ends = (ends.1.0, ends.0, ends.1.1, λ small. decided_is ends.1.0 ends.0 small ends.1.2)
 
 -- What is accepted is safe.
-pub safe_here : ValidIsSafe → ParsedProgramsAreScoped → (words : List (List ℕ)) (v : Visit) (old new : Option (List ℕ)) → Ends (IsDue words v) old new Good → (text : List ℕ) × WasHanded words v text × ((is : IsAccepted text) × IsSafeText is.of)
-safe_here safe scoped words v old new ends =
-    let bound = ends.1.1.2.bound in (ends.1.0, ends.1.1, (ends.1.2.0.0, safe_text safe scoped ends.1.0 (omega (arith, bound)) ends.1.2.0.0))
+pub safe_here : ValidIsSafe → (words : List (List ℕ)) (v : Visit) (old new : Option (List ℕ)) → Ends (IsDue words v) old new Good → (text : List ℕ) × WasHanded words v text × ((is : IsAccepted text) × IsSafeText is.of)
+safe_here safe words v old new ends = (ends.1.0, ends.1.1, (ends.1.2.0.0, safe_text safe ends.1.0 ends.1.2.0.0))

@@ -22,7 +22,6 @@ use Rattle.lq_app.specs.declared.verdict.Refusal.{Refusal}
 use Rattle.lq_app.specs.declared.verdict.Judgement.TheVariants.{Accepted, Rejected, Undecided}
 use Rattle.lq_app.specs.declared.verdict.Refusal.TheVariants.{Code, Memory}
 use Rattle.lq_lex.specs.declared.limits.TheConstants.{TEXT_LIMIT}
-use Rattle.lq_parsed.specs.Laws.{ParsedProgramsAreScoped}
 use Rattle.lq_scoped.specs.Scoping.{IsScoped}
 use Rattle.lq_sound.specs.Safety.{ValidIsSafe}
 use Rattle.lq_straight.specs.Forms as form
@@ -245,14 +244,10 @@ straight_is text b =
     let items = no_datatypes (first_datatype s.parsed.trees) s.scoping.items b.program.items read.2.1 in
     subst (λ (q : Scoped). items_in q.scoping.items ≡ form.is b.program.items) (sym read.2.0) items
 
--- a program whose names are bound is scoped
-scoped_is : ParsedProgramsAreScoped → (text : List ℕ) → length text ≤ TEXT_LIMIT → (b : Bound text) → IsScoped (scoping_of b.program)
-scoped_is scoped text short b =
-    let s = b.is.0 in let named = b.is.1 in let p = named.0 in let tokens = named.1 in
-    let one = scoped text p.names tokens.0 p.trees short tokens.1 tokens.2.1 p.names named.2.1.0 in
-    subst (λ (q : Scoped). IsScoped q.scoping) (sym b.is.2.0) (subst IsScoped (sym named.2.1.1) one)
+-- a program that has types is scoped
+scoped_is : (text : List ℕ) (b : Bound text) → IsScoped (scoping_of b.program)
+scoped_is text b = subst (λ (q : Scoped). IsScoped q.scoping) (sym b.is.2.0) (subst (λ (q : Scoped). IsScoped q.scoping) (sym b.is.1.2.0) b.is.1.2.1)
 
 -- what is accepted is safe
-pub safe_text : ValidIsSafe → ParsedProgramsAreScoped → (text : List ℕ) → length text ≤ TEXT_LIMIT → (a : IsAccepted text) → IsSafeText a.of
-safe_text safe scoped text short a =
-    safe (scoping_of a.of.program) a.of.program.items (scoped_is scoped text short a.of) (straight_is text a.of) a.valid
+pub safe_text : ValidIsSafe → (text : List ℕ) (a : IsAccepted text) → IsSafeText a.of
+safe_text safe text a = safe (scoping_of a.of.program) a.of.program.items (scoped_is text a.of) (straight_is text a.of) a.valid

@@ -1,5 +1,8 @@
 -- Texts that are not judged, and the lines on refusals.
-use Rattle.std.proofs.Common.{◌≡◌, ◌⊎◌, inl, inr, ℕ, List, length, Some, None, Result, Err, refl, sym, ap, subst, ◌∙◌}
+use Rattle.std.proofs.Common.{◌≡◌, ◌⊎◌, inl, inr, ℕ, List, length, Some, None, Result, Ok, Err, refl, sym, ap, subst, ◌∙◌}
+use Rattle.lq_annotated.specs.Errors.{HasTypeError}
+use Rattle.lq_annotated.specs.declared.error.TypeError.{TypeError}
+use Rattle.lq_annotated.specs.declared.error.TypeError.TheVariants as typing
 use Rattle.lq_lex.specs.Places.{place_at}
 use Rattle.lq_lex.specs.Reading.{IsTokens, HasFault}
 use Rattle.lq_lex.specs.declared.error.LexError.{LexError}
@@ -19,13 +22,15 @@ use Rattle.lq_resolved.specs.declared.program.ResolveError.{ResolveError}
 use Rattle.lq_resolved.specs.declared.program.ResolveError.TheVariants as resolving
 use Rattle.lq_scope.specs.Views.{complaint_view}
 use Rattle.lq_scope.specs.declared.complaint.Complaint.{Complaint}
+use Rattle.lq_scoped.specs.Scoping.{IsScoped}
 use Rattle.lq_tree.specs.Items.{ItemTree}
+use Rattle.lq_typings.specs.Inference.{ill_typed, weak, past}
 use Rattle.lq_app.specs.declared.stages.NotJudged.{NotJudged}
 use Rattle.lq_app.specs.declared.stages.NotJudged.TheVariants as not_judged
 use Rattle.lq_app.specs.declared.verdict.Refusal.{Refusal}
 use Rattle.lq_app.specs.declared.verdict.Refusal.TheVariants as refusal
 use Rattle.lq_app.specs.NotJudged.{IsOf, IsBy}
-use Rattle.lq_app.specs.Stages.{fault_refusal, stop_refusal, ParsesTo, RecognisesTo}
+use Rattle.lq_app.specs.Stages.{Scoped, fault_refusal, stop_refusal, error_refusal, ParsesTo, NamesTo, TypesTo, RecognisesTo}
 use Rattle.lq_app.specs.Judgement.{IsJudgement}
 use Rattle.lq_app.specs.Report.{IsVerdict}
 use Rattle.lq_app.specs.declared.status.Status.TheVariants.{Refused as RefusedStatus}
@@ -53,6 +58,14 @@ no_program_due text tokens end_ (parsing.TooDeep p) (not_judged.Refused r) why i
     let deep = subst (λ (q : Place). IsTooDeep kind.Program text tokens q p) why.last (why.deep p refl) in
     inr (tokens, why.are_tokens, (parsing.TooDeep p, deep, is))
 no_program_due text tokens end_ parsing.Memory (not_judged.Refused r) why is = absurd (let wrong : None ≡ Some r = is in cc)
+
+-- a program without types that are wanted is refused for it
+pub no_types_due : (text : List ℕ) (s : Scoped) (e : TypeError) (n : NotJudged) → NamesTo text (Ok s) → IsScoped s.scoping → HasTypeError s.scoping e → IsOf (error_refusal e) n → IsBy (TypesTo text) n
+no_types_due text s e not_judged.Memory named scoped why is = tt
+no_types_due text s (typing.IllTyped p) (not_judged.Refused r) named scoped why is = inr (s, named, (scoped, (ill_typed p, why, is)))
+no_types_due text s (typing.WeakType p) (not_judged.Refused r) named scoped why is = inr (s, named, (scoped, (weak p, why, is)))
+no_types_due text s (typing.TypePast p n) (not_judged.Refused r) named scoped why is = inr (s, named, (scoped, (past p n, why, is)))
+no_types_due text s typing.Memory (not_judged.Refused r) named scoped why is = absurd (let wrong : None ≡ Some r = is in cc)
 
 -- what an earlier stage refuses is refused
 pub still_by : {A B C : Type 0} (R : A → Result B Refused → Type 0) (S : B → Result C Refused → Type 0) (a : A) (n : NotJudged) → IsBy (R a) n → IsBy (Then R S a) n

@@ -1,5 +1,5 @@
 -- Each stage of judging has one answer, and so have all of them.
-use Rattle.std.proofs.Common.{◌≡◌, ℕ, List, [], length, Some, Ok, Err, sym, ap, subst, ◌∙◌}
+use Rattle.std.proofs.Common.{◌≡◌, ℕ, List, [], length, Some, None, Ok, Err, refl, sym, ap, subst, ◌∙◌}
 use Rattle.std.proofs.lemmas.List.{length-map}
 use Rattle.lq_action.specs.Value as value
 use Rattle.lq_action.specs.Value.{Value}
@@ -22,15 +22,17 @@ use Rattle.lq_parse.specs.Texts.{place_of}
 use Rattle.lq_parse.specs.Trees.{IsRead}
 use Rattle.lq_report.specs.Stages.{HasOneAnswer, one_then}
 use Rattle.lq_report.specs.declared.refused.Refused.{Refused}
-use Rattle.lq_report.specs.declared.refused.Refused.TheVariants.{At}
+use Rattle.lq_report.specs.declared.refused.Refused.TheVariants.{At, Nodes}
 use Rattle.lq_resolved.specs.Resolution.{Resolution, resolved, refused, OneResolution}
 use Rattle.lq_scope.specs.Complaints.{Complaint}
-use Rattle.lq_scoped.specs.Scoping.{Scoping}
+use Rattle.lq_scoped.specs.Scoping.{Scoping, IsScoped}
 use Rattle.lq_straight.specs.Forms as form
 use Rattle.lq_straight.specs.Forms.{Found}
 use Rattle.lq_straight.specs.declared.item.Item.{Item}
 use Rattle.lq_tree.specs.Items.{ItemTree}
-use Rattle.lq_app.specs.Stages.{Parsed, Recognised, Scoped, fault_refusal, IsLexed, stop_refusal, IsStop, IsParsed, IsNamed, complaint_refusal, IsRecognised, ParsesTo, NamesTo, RecognisesTo, parsed_with}
+use Rattle.lq_typings.specs.Inference.{Answer, typed, ill_typed, weak, past, IsInference}
+use Rattle.lq_typings.specs.OneAnswer.{AreSame, OneInference}
+use Rattle.lq_app.specs.Stages.{Parsed, Recognised, Scoped, fault_refusal, IsLexed, stop_refusal, IsStop, IsParsed, IsNamed, complaint_refusal, type_refusal, IsTyped, IsRecognised, ParsesTo, NamesTo, TypesTo, RecognisesTo, parsed_with}
 
 -- the laws of reading and binding
 pub record Laws : Type 0 where
@@ -42,6 +44,7 @@ pub record Laws : Type 0 where
   pub stops : (ks : List Kind) (at to : ℕ) → levels.IsSyntax (start_of kind.Program) LEVEL_LIMIT ks at → levels.IsSyntax (start_of kind.Program) LEVEL_LIMIT ks to → at ≡ to
   pub depths : (ks : List Kind) (at to : ℕ) → levels.IsTooDeep (start_of kind.Program) LEVEL_LIMIT ks at → levels.IsTooDeep (start_of kind.Program) LEVEL_LIMIT ks to → at ≡ to
   pub names : OneResolution
+  pub types : OneInference
 
 one_lexed : Laws → HasOneAnswer IsLexed
 one_lexed laws text (Ok ts) (Ok us) a b = ap (λ (l : List Token). Ok l) ((laws.lexing text).tokens ts us a b)
@@ -107,6 +110,39 @@ one_named laws p (Err e) (Err f) a b =
     let complaint : a.0 ≡ b.0 = ap (complaint_in a.0) (laws.names p.names p.trees (refused a.0) (refused b.0) a.1 b.1) in
     ap (λ (x : Refused). Err x) (a.2 ∙ ap (complaint_refusal p.names) complaint ∙ sym b.2)
 
+-- answers that are one are refused alike
+refused_alike : (s : Scoping) (a b : Answer) → AreSame s a b → type_refusal a ≡ type_refusal b
+refused_alike s (typed t) (typed u) same = refl
+refused_alike s (ill_typed p) (ill_typed q) same = ap (λ (l : Place). Some (At 12 l)) same
+refused_alike s (weak p) (weak q) same = ap (λ (l : Place). Some (At 13 l)) same
+refused_alike s (past p n) (past q m) same = ap (λ (l : Place). Some (Nodes 14 l n)) same.0 ∙ ap (λ (k : ℕ). Some (Nodes 14 q k)) same.1
+refused_alike s (typed t) (ill_typed q) same = absurd same
+refused_alike s (typed t) (weak q) same = absurd same
+refused_alike s (typed t) (past q m) same = absurd same
+refused_alike s (ill_typed p) (typed u) same = absurd same
+refused_alike s (ill_typed p) (weak q) same = absurd same
+refused_alike s (ill_typed p) (past q m) same = absurd same
+refused_alike s (weak p) (typed u) same = absurd same
+refused_alike s (weak p) (ill_typed q) same = absurd same
+refused_alike s (weak p) (past q m) same = absurd same
+refused_alike s (past p n) (typed u) same = absurd same
+refused_alike s (past p n) (ill_typed q) same = absurd same
+refused_alike s (past p n) (weak q) same = absurd same
+
+-- two answers of one program are refused alike
+answers_alike : Laws → (s : Scoping) (a b : Answer) → IsScoped s → IsInference s a → IsInference s b → type_refusal a ≡ type_refusal b
+answers_alike laws s a b scoped is also = refused_alike s a b (laws.types s scoped a b is also)
+
+one_typed : Laws → HasOneAnswer IsTyped
+one_typed laws s (Ok t) (Ok u) a b = ap (λ (x : Scoped). Ok x) (a.0 ∙ sym b.0)
+one_typed laws s (Ok t) (Err e) a b =
+    absurd (let wrong : None ≡ Some e = answers_alike laws s.scoping (typed a.2.0) b.1.0 a.1 a.2.1 b.1.1 ∙ b.1.2 in cc)
+one_typed laws s (Err e) (Ok t) a b =
+    absurd (let wrong : None ≡ Some e = answers_alike laws s.scoping (typed b.2.0) a.1.0 b.1 b.2.1 a.1.1 ∙ a.1.2 in cc)
+one_typed laws s (Err e) (Err f) a b =
+    let same : Some e ≡ Some f = sym a.1.2 ∙ answers_alike laws s.scoping a.1.0 b.1.0 a.0 a.1.1 b.1.1 ∙ b.1.2 in
+    cc
+
 abbrev items_found : Found (List Item) → List Item
 items_found (form.is l) = l
 items_found (form.unbuilt p) = []
@@ -134,4 +170,4 @@ one_tree_of : Laws → HasOneAnswer ParsesTo
 one_tree_of laws text = one_then IsLexed (IsParsed text) (one_lexed laws) (one_parsed laws text) text
 
 pub one_program : Laws → HasOneAnswer RecognisesTo
-one_program laws = one_then NamesTo IsRecognised (one_then ParsesTo IsNamed (one_tree_of laws) (one_named laws)) one_recognised
+one_program laws = one_then TypesTo IsRecognised (one_then NamesTo IsTyped (one_then ParsesTo IsNamed (one_tree_of laws) (one_named laws)) (one_typed laws)) one_recognised

@@ -1,6 +1,8 @@
--- The stages in which a text is judged: its tokens, its trees, these with their names bound, and its straight-line items.
+-- The stages in which a text is judged: its tokens, its trees, these with their names bound, their types, and its straight-line items.
 use Rattle.std.specs.Prelude.{◌≡◌, ◌++◌, codes, ℕ, List, length, Option, Some, None, Result, Ok, Err}
 use Rattle.lq_action.specs.Value as value
+use Rattle.lq_annotated.specs.declared.error.TypeError.{TypeError}
+use Rattle.lq_annotated.specs.declared.error.TypeError.TheVariants as typing
 use Rattle.lq_lex.specs.Places.{place_at}
 use Rattle.lq_lex.specs.Reading.{IsTokens, HasFault}
 use Rattle.lq_lex.specs.declared.error.LexError.{LexError}
@@ -15,15 +17,17 @@ use Rattle.lq_parse.specs.declared.error.ParseError.{ParseError}
 use Rattle.lq_parse.specs.declared.error.ParseError.TheVariants as parsing
 use Rattle.lq_report.specs.Stages.{Then}
 use Rattle.lq_report.specs.declared.refused.Refused.{Refused}
-use Rattle.lq_report.specs.declared.refused.Refused.TheVariants.{At, Named, Wanted}
+use Rattle.lq_report.specs.declared.refused.Refused.TheVariants.{At, Named, Wanted, Nodes}
 use Rattle.lq_resolved.specs.Resolution.{IsResolution, resolved, refused}
 use Rattle.lq_scope.specs.Complaints.{Cause, unknown, unknown_in, twice, arity, not_positive, Complaint}
 use Rattle.lq_scope.specs.Known.{text_of}
-use Rattle.lq_scoped.specs.Scoping.{Scoping}
+use Rattle.lq_scoped.specs.Scoping.{Scoping, IsScoped}
 use Rattle.lq_straight.specs.declared.item.Item.{Item}
 use Rattle.lq_straight.specs.Forms.{is, unbuilt}
 use Rattle.lq_straight.specs.Program.{program_in}
 use Rattle.lq_tree.specs.Items.{ItemTree}
+use Rattle.lq_tree.specs.MlType.{MlType}
+use Rattle.lq_typings.specs.Inference.{Answer, typed, ill_typed, weak, past, IsInference}
 
 -- a text's trees, and the texts of its names in the order of their numbers
 pub record Parsed : Type 0 where
@@ -85,20 +89,43 @@ abbrev pub IsNamed : Parsed → Result Scoped Refused → Type 0
 IsNamed p (Ok s) = (s.parsed ≡ p) × IsResolution p.names p.trees (resolved s.scoping)
 IsNamed p (Err r) = (c : Complaint) × IsResolution p.names p.trees (refused c) × (r ≡ complaint_refusal p.names c)
 
+-- how an error of types is refused
+abbrev pub error_refusal : TypeError → Option Refused
+error_refusal (typing.IllTyped p) = Some (At 12 p)
+error_refusal (typing.WeakType p) = Some (At 13 p)
+error_refusal (typing.TypePast p n) = Some (Nodes 14 p n)
+error_refusal typing.Memory = None
+
+-- how a program is refused that has no types that are wanted
+abbrev pub type_refusal : Answer → Option Refused
+type_refusal (typed types) = None
+type_refusal (ill_typed p) = Some (At 12 p)
+type_refusal (weak p) = Some (At 13 p)
+type_refusal (past p n) = Some (Nodes 14 p n)
+
+-- The same trees, where they have a principal annotation that is wanted, or why they have none. They are scoped, as those of every text
+-- are whose names are all bound.
+abbrev pub IsTyped : Scoped → Result Scoped Refused → Type 0
+IsTyped s (Ok t) = (t ≡ s) × IsScoped s.scoping × ((types : ℕ → MlType) × IsInference s.scoping (typed types))
+IsTyped s (Err r) = IsScoped s.scoping × ((a : Answer) × IsInference s.scoping a × (type_refusal a ≡ Some r))
+
 -- the straight-line items, or the first form that isn't judged yet
 abbrev pub IsRecognised : Scoped → Result Recognised Refused → Type 0
 IsRecognised s (Ok r) = (r.scoped ≡ s) × (program_in s.parsed.trees s.scoping.items ≡ is r.items)
 IsRecognised s (Err r) = (place : Place) × (program_in s.parsed.trees s.scoping.items ≡ unbuilt place) × (r ≡ At 17 place)
 
--- the text up to its trees, up to these with their names bound, and up to its items
+-- the text up to its trees, up to these with their names bound, up to their types, and up to its items
 abbrev pub ParsesTo : List ℕ → Result Parsed Refused → Type 0
 ParsesTo text = Then IsLexed (IsParsed text) text
 
 abbrev pub NamesTo : List ℕ → Result Scoped Refused → Type 0
 NamesTo = Then ParsesTo IsNamed
 
+abbrev pub TypesTo : List ℕ → Result Scoped Refused → Type 0
+TypesTo = Then NamesTo IsTyped
+
 abbrev pub RecognisesTo : List ℕ → Result Recognised Refused → Type 0
-RecognisesTo = Then NamesTo IsRecognised
+RecognisesTo = Then TypesTo IsRecognised
 
 -- the trees with the texts of these names
 abbrev pub parsed_with : List ItemTree → List (List ℕ) → Parsed

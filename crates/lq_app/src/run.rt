@@ -11,7 +11,6 @@ use crate::laws::one_judgement;
 use crate::send::send;
 use crate::{Status, Words};
 use lq_io::{Folder, Sink};
-use lq_parsed::parsed_programs_are_scoped;
 use lq_sound::valid_programs_are_safe;
 use std::alloc::Global;
 
@@ -61,7 +60,6 @@ pub fn run_words<F: Folder, K: Sink>(
 {
     one_judgement();
     valid_programs_are_safe();
-    parsed_programs_are_scoped();
     run(alloc, words, folder, out)
 }
 

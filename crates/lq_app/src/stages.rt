@@ -1,16 +1,18 @@
-// The stages in which a text is judged: its tokens, its trees, these with their names bound, and its straight-line items.
+// The stages in which a text is judged: its tokens, its trees, these with their names bound, their types, and its straight-line items.
 ghost use Rattle.std.specs.Prelude.{◌≡◌, ◌++◌, codes, ◌≤◌, List, ℕ, length, Ok, IfOk, IfErr};
 ghost use Rattle.lq_app.specs.declared.stages.NotJudged.TheVariants.{Memory};
 ghost use Rattle.lq_lex.specs.declared.limits.TheConstants.{TEXT_LIMIT};
 ghost use Rattle.lq_scope.specs.Known.{text_of};
 ghost use Rattle.lq_scope.specs.Views.{complaint_view};
 ghost use Rattle.lq_scoped.specs.Whole.{scoped_view};
+ghost use Rattle.lq_annotated.specs.Whole.{program_of};
 ghost use Rattle.lq_straight.specs.Small.{AreSmall};
 ghost use Rattle.lq_tree.specs.Texts.{program_view};
-ghost use Rattle.lq_app.specs.Stages.{fault_refusal, stop_refusal, complaint_refusal, parsed_with, scoped_with, ParsesTo, NamesTo, RecognisesTo, IsReadAs};
+ghost use Rattle.lq_app.specs.Stages.{fault_refusal, stop_refusal, complaint_refusal, parsed_with, scoped_with, error_refusal, ParsesTo, NamesTo, TypesTo, RecognisesTo, IsReadAs};
 ghost use Rattle.lq_app.specs.NotJudged.{IsOf, IsBy};
 
 use crate::texts::text_of;
+use lq_annotated::{Annotated, TypeError, infer};
 use lq_lex::{LexError, lex};
 use lq_name::{Name, NameTable, NameText, TextKind};
 use lq_parse::{ParseError, parse_program};
@@ -52,11 +54,18 @@ pub(crate) struct Named {
     pub(crate) scoped: Scoped,
 }
 
-// A program with its names bound, with the table of its names and its straight-line items.
+// The same with its types.
+#[derive(Drop)]
+pub(crate) struct Typed {
+    pub(crate) parsed: Parsed,
+    pub(crate) annotated: Annotated,
+}
+
+// A program with its names bound and its types, with the table of its names and its straight-line items.
 #[derive(Drop)]
 pub(crate) struct Source {
     pub(crate) names: NameTable,
-    pub(crate) scoped: Scoped,
+    pub(crate) annotated: Annotated,
     pub(crate) items: Vec<Item>,
 }
 
@@ -108,6 +117,17 @@ fn dotted(alloc: Global, names: &NameTable, front: Name, name: Name) -> Result<N
     NameText::new(alloc, text.as_str())
 }
 
+fn no_types(error: TypeError) -> NotJudged
+    ensures { IsOf (error_refusal error) result }
+{
+    match error {
+        TypeError::IllTyped(place) => NotJudged::Refused(Refused::At(12, place)),
+        TypeError::WeakType(place) => NotJudged::Refused(Refused::At(13, place)),
+        TypeError::TypePast(place, count) => NotJudged::Refused(Refused::Nodes(14, place, count)),
+        TypeError::Memory => NotJudged::Memory,
+    }
+}
+
 // How a complaint about a name is refused.
 fn complaint_refusal(
     alloc: Global,
@@ -154,18 +174,32 @@ fn named_of(alloc: Global, text: &[u8]) -> Result<Named, NotJudged>
     }
 }
 
+// The tree of the text with its types, where it has some that are wanted.
+fn typed_of(alloc: Global, text: &[u8]) -> Result<Typed, NotJudged>
+    requires { length text.now ≤ TEXT_LIMIT }
+    ensures ok { IfOk result (λ t. TypesTo text.now (Ok (scoped_with (program_view t.parsed.program)
+        t.parsed.names (program_of t.annotated)))) }
+    ensures refused { IfErr result (λ e. IsBy (TypesTo text.now) e) }
+{
+    let Named { parsed, scoped } = named_of(alloc, text)?;
+    match infer(alloc, scoped) {
+        Ok(annotated) => Ok(Typed { parsed, annotated }),
+        Err(error) => Err(no_types(error)),
+    }
+}
+
 // The items of the text, where all of its forms are judged.
 pub(crate) fn source_of(alloc: Global, text: &[u8]) -> Result<Source, NotJudged>
     requires { length text.now ≤ TEXT_LIMIT }
-    ensures ok { IfOk result (λ s. IsReadAs text.now s.names (scoped_view s.scoped) s.items.items) }
+    ensures ok { IfOk result (λ s. IsReadAs text.now s.names (program_of s.annotated) s.items.items) }
     ensures small { IfOk result (λ s. AreSmall s.items.items) }
     ensures refused { IfErr result (λ e. IsBy (RecognisesTo text.now) e) }
 {
-    let Named { parsed, scoped } = named_of(alloc, text)?;
-    match recognise(alloc, &parsed.program, &scoped) {
+    let Typed { parsed, annotated } = typed_of(alloc, text)?;
+    match recognise(alloc, &parsed.program, annotated.scoped()) {
         Ok(items) => Ok(Source {
             names: parsed.names,
-            scoped,
+            annotated,
             items,
         }),
         Err(FormError::Unbuilt(place)) => Err(NotJudged::Refused(Refused::At(17, place))),

@@ -29,7 +29,6 @@ use crate::texts::Naming;
 use lq_demand::{Asked, ask};
 use lq_name::{NameTable, Place, TextBuf};
 use lq_num::NumberPast;
-use lq_parsed::parsed_programs_are_scoped;
 use lq_point::Point;
 use lq_pred::{Pred, Stop};
 use lq_report::{Refused, refusal_text};
@@ -76,7 +75,8 @@ impl From<AllocError> for Refusal {
 ///
 /// Codes 1 to 3 are faults of tokens, 4 means that the text isn't in the grammar, and 5 that it nests too deeply. Codes 6 to 9 are what
 /// is wrong with a name: it has no definition, it is defined again, it has the wrong number of arguments, or it stands where a datatype
-/// isn't positive. Code 17 is a form of the grammar that isn't judged yet.
+/// isn't positive. Code 12 means that no types obey the rules up to a place, 13 that the type of a definition which isn't a value has a
+/// variable, and 14 that a type has more than 2,000 nodes. Code 17 is a form of the grammar that isn't judged yet.
 pub fn judge(
     alloc: Global,
     program: &[u8],
@@ -105,7 +105,6 @@ pub fn judge(
 {
     one_judgement();
     valid_programs_are_safe();
-    parsed_programs_are_scoped();
     reported(alloc, program)
 }
 
@@ -138,7 +137,8 @@ fn judge_program(alloc: Global, text: &[u8]) -> Result<Judgement, NotJudged>
     ensures refused { IfErr result (λ e. IsBy (RecognisesTo text.now) e) }
 {
     let source = source_of(alloc, text)?;
-    Ok(judge_items(alloc, &source.names, &source.scoped, &source.items)?)
+    let scoped = source.annotated.scoped();
+    Ok(judge_items(alloc, &source.names, scoped, &source.items)?)
 }
 
 // The assertions of a program, in order.

@@ -14,4 +14,5 @@ returns c = judged_once (record {
   stops = λ ks at to. c.one_answer.ensures.stops (start_of Program) LEVEL_LIMIT ks at to;
   depths = λ ks at to. c.one_answer.ensures.depths (start_of Program) LEVEL_LIMIT ks at to;
   names = c.one_resolution.ensures;
+  types = c.one_inference.ensures;
 })

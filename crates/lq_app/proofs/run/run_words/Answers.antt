@@ -19,7 +19,7 @@ pub returns-clause-decided : goal.returns-clause-decided
 returns-clause-decided g c = λ is. let e = due_at c.args.words.now (visit g.F.Folder.files g.F.Folder.absents g.F.Folder.failures c.args.folder.now c.run.new.folder) (g.K.Sink.taken c.args.out.now) (g.K.Sink.taken c.run.new.out) c.run.result Undecided c.run.ensures.report is in decided_here c.args.words.now (visit g.F.Folder.files g.F.Folder.absents g.F.Folder.failures c.args.folder.now c.run.new.folder) (g.K.Sink.taken c.args.out.now) (g.K.Sink.taken c.run.new.out) e
 
 pub returns-clause-safe : goal.returns-clause-safe
-returns-clause-safe g c = λ is. let e = due_at c.args.words.now (visit g.F.Folder.files g.F.Folder.absents g.F.Folder.failures c.args.folder.now c.run.new.folder) (g.K.Sink.taken c.args.out.now) (g.K.Sink.taken c.run.new.out) c.run.result Good c.run.ensures.report is in safe_here c.valid_programs_are_safe.ensures c.parsed_programs_are_scoped.ensures c.args.words.now (visit g.F.Folder.files g.F.Folder.absents g.F.Folder.failures c.args.folder.now c.run.new.folder) (g.K.Sink.taken c.args.out.now) (g.K.Sink.taken c.run.new.out) e
+returns-clause-safe g c = λ is. let e = due_at c.args.words.now (visit g.F.Folder.files g.F.Folder.absents g.F.Folder.failures c.args.folder.now c.run.new.folder) (g.K.Sink.taken c.args.out.now) (g.K.Sink.taken c.run.new.out) c.run.result Good c.run.ensures.report is in safe_here c.valid_programs_are_safe.ensures c.args.words.now (visit g.F.Folder.files g.F.Folder.absents g.F.Folder.failures c.args.folder.now c.run.new.folder) (g.K.Sink.taken c.args.out.now) (g.K.Sink.taken c.run.new.out) e
 
 pub returns-clause-exact : goal.returns-clause-exact
 returns-clause-exact g c = exact c.one_judgement.ensures c.args.words.now (visit g.F.Folder.files g.F.Folder.absents g.F.Folder.failures c.args.folder.now c.run.new.folder) (g.K.Sink.taken c.args.out.now) (g.K.Sink.taken c.run.new.out) c.run.result c.run.ensures.report

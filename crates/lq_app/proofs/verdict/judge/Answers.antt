@@ -6,7 +6,7 @@ use Rattle.lq_app.proofs.verdict.judge.Goals as goal
 pub returns-clause-accepted : goal.returns-clause-accepted
 returns-clause-accepted c = λ types is.
     let a = (judged_is c.args.program.now c.reported.result (Accepted types) is c.reported.ensures).0 in
-    (a, safe_text c.valid_programs_are_safe.ensures c.parsed_programs_are_scoped.ensures c.args.program.now c.requires.program a)
+    (a, safe_text c.valid_programs_are_safe.ensures c.args.program.now a)
 
 pub returns-clause-rejected : goal.returns-clause-rejected
 returns-clause-rejected c = λ failure explained is. (judged_is c.args.program.now c.reported.result (Rejected failure explained) is c.reported.ensures).0
