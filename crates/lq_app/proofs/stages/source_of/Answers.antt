@@ -1,4 +1,4 @@
-use Rattle.std.proofs.Common.{Err, inr, refl, ap, sym, subst, ◌≡◌}
+use Rattle.std.proofs.Common.{Err, inr, refl, ap, subst, ◌≡◌}
 use Rattle.lq_annotated.specs.Whole.{program_of}
 use Rattle.lq_scoped.specs.Scoping.{Scoping}
 use Rattle.lq_straight.specs.declared.forms.FormError.{FormError}
