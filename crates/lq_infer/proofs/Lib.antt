@@ -5,6 +5,7 @@ pub mod Standing
 pub mod Opens
 pub mod Using
 pub mod Sharing
+pub mod Opened
 pub mod Going
 pub mod Stepping
 pub mod Fronts

@@ -172,3 +172,7 @@ module _ (s : System) (sound : IsSystem s) (fixed : List ℕ) (definition : ℕ)
       let same = fixed_same s sound types others a b parents' shapes' found' known' fixed open_ o h in
       reached_same s sound types others a b parents shapes found known definition reached reaches
       (λ k d l. let i = marked.only (get_or reached k d) (all_ k d l) in subst (λ (v : ℕ). types v ≡ others v) i.2 (same i.0 0 i.1))
+
+-- what some of the fixed slots determine they all do
+pub among_determined : (s : System) (asked fixed : List ℕ) (i : ℕ) → All (IsIn fixed) asked → IsDetermined s asked i → IsDetermined s fixed i
+among_determined s asked fixed i among d types others a b h = d types others a b (λ k e l. let q = among k e l in subst (λ (j : ℕ). types j ≡ others j) q.2 (h q.0 0 q.1))

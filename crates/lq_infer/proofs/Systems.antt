@@ -42,15 +42,6 @@ copied_system old new parents shapes weak definition node used s a l c n u e = r
 pub lent_back : (n : ℕ) (m xs : List Bool) → length m ≡ n → take n (m ++ drop (length m) xs) ≡ m
 lent_back n m xs e = take-append-le n m (drop (length m) xs) (omega arith) ∙ take_all n m (omega arith)
 
-reverse_slots : (nodes : ℕ) (ps : List ℕ) → reverse (binder_slots nodes ps) ≡ binder_slots nodes (reverse ps)
-reverse_slots nodes [] = refl
-reverse_slots nodes (p ∷ ps) =
-    reverse-append ((nodes + p) ∷ []) (binder_slots nodes ps) ∙ ap (λ (l : List ℕ). l ++ (nodes + p) ∷ []) (reverse_slots nodes ps)
-    ∙ sym (map-append (λ x. nodes + x) (reverse ps) (p ∷ [])) ∙ ap (binder_slots nodes) (sym (reverse-append (p ∷ []) ps))
-
-pub all_slots : (nodes k : ℕ) (ps all back : List ℕ) → back ≡ reverse all → all ≡ binder_slots nodes (take k ps) → length ps ≤ k → back ≡ binder_slots nodes (reverse ps)
-all_slots nodes k ps all back e f l = e ∙ ap reverse (f ∙ ap (binder_slots nodes) (take_all k ps l)) ∙ reverse_slots nodes ps
-
 pub on_ok : {A E : Type 0} (P Q : Type 0) (r : Result A E) → (P → Q) → OnOk r P → OnOk r Q
 on_ok P Q (Ok x) f h = f h
 on_ok P Q (Err e) f h = tt

@@ -143,15 +143,16 @@ module _ (old new : System) (fixed : List ℕ) (definition node : ℕ) (sound : 
     weak_hold : (P : ℕ → Type 0) → All (λ i. simply.Each P (before i)) fixed → (v : ℕ) → weak v ≡ true → P v
     unfolding weak
     weak_hold P h v e =
-        let a = opens_hold (forms_of old) n c.parents_before c.shapes_before c.found_before old.equations.items c.known_before inside w (solved types solves) P fixed c.open_ c.opens h in
+        let a = opens_hold (forms_of old) n c.parents_before c.shapes_before c.found_before old.equations.items c.known_before inside w (solved types solves) P c.asked c.open_ c.opens
+        (λ j d l. let q = c.among j d l in subst (λ (i : ℕ). simply.Each P (before i)) q.2 (h q.0 0 q.1)) in
         let k = c.marked.only v e in
         subst P k.2 (a k.0 0 k.1)
 
-    -- each variable of a fixed slot's type is weak
-    are_weak : All (λ i. simply.Each (λ v. weak v ≡ true) (before i)) fixed
+    -- each variable of the type of a slot that was asked is weak
+    are_weak : All (λ i. simply.Each (λ v. weak v ≡ true) (before i)) c.asked
     unfolding weak
     are_weak k d l =
-        let i = get_or fixed k d in
+        let i = get_or c.asked k d in
         let o = values.each_open (forms_of old) n c.parents_before c.shapes_before c.found_before old.equations.items c.known_before inside w (solved types solves) i in
         let e = c.opens.every k d l (values.level (forms_of old) n c.parents_before c.shapes_before c.found_before old.equations.items c.known_before inside w) in
         replacing.each_map (λ v. values.IsOpenRoot (forms_of old) n c.parents_before c.shapes_before c.found_before old.equations.items c.known_before inside w (solved types solves) v
@@ -285,13 +286,19 @@ module _ (old new : System) (fixed : List ℕ) (definition node : ℕ) (sound : 
     unfolding free
     free_definition = ap read (replaced_alike by copied.by (now types (keeps types h) definition) definition_by ∙ sym copied.copied) ∙ read_written (types c.used) ∙ sym (as_used types h)
 
-    free_fixed : All (λ i. free i ≡ types i) fixed
+    free_asked : All (λ i. free i ≡ types i) c.asked
     unfolding free
-    free_fixed k d l =
-        let i = get_or fixed k d in
+    free_asked k d l =
+        let i = get_or c.asked k d in
         let weak_here : simply.Each (λ v. weak v ≡ true) (now types (keeps types h) i) = subst (simply.Each (λ v. weak v ≡ true)) (alike types (keeps types h) i) (are_weak types (keeps types h) k d l) in
         ap read (replaced_alike by (λ v. written (types v)) (now types (keeps types h) i) (replacing.each_map (λ v. weak v ≡ true) (λ v. by v ≡ written (types v)) (now types (keeps types h) i) by_weak weak_here)
         ∙ sym (as_now types (keeps types h) types (keeps types h) i)) ∙ read_written (types i)
+
+    free_fixed : All (λ i. free i ≡ types i) fixed
+    free_fixed k d l = elim (c.others k d l) [
+      | inl q ↦ subst (λ (i : ℕ). free i ≡ types i) q.2 (free_asked q.0 0 q.1)
+      | inr closed ↦ closed free types free_solves (keeps types h) (λ j e m. absurd (omega arith))
+    ]
 
     -- types of the old nodes by which the definition has the type of the use, and the fixed slots have theirs
     pub copy_free : (t : ℕ → MlType) × Solves old old.equations.items t × (t definition ≡ types node) × All (λ i. t i ≡ types i) fixed

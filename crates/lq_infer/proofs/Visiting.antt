@@ -1,8 +1,11 @@
 -- One visit more.
-use Rattle.std.proofs.Common.{◌≡◌, inl, inr, ℕ, zero, suc, ◌+◌, ◌<◌, ◌≤◌, List, [], ◌∷◌, ◌++◌, take, reverse, Option, Some, None, Result, Ok, Err, IfOk, All, length, sym, ap, subst, ◌∙◌, arith}
-use Rattle.std.proofs.lemmas.List.{reverse-append, map-append, length-append}
+use Rattle.std.proofs.Common.{◌≡◌, ◌⊎◌, inl, inr, Bool, true, false, ℕ, zero, suc, ◌+◌, ◌<◌, ◌≤◌, List, [], ◌∷◌, ◌++◌, take, reverse, Option, Some, None, Result, Ok, Err, IfOk, All, length, refl, sym, ap, subst, ◌∙◌, arith}
+use Rattle.std.proofs.lemmas.List.{reverse-append, reverse-reverse, append-nil, map-append, length-append}
 use Rattle.std.proofs.Math.Seq.{take-append_seam}
 use Rattle.lq_tree.specs.Tree.{Tree, tree}
+use Rattle.lq_tree.specs.MlType.{MlType}
+use Rattle.lq_tree.specs.Items.{ItemForm, type_of, let_of, let_rec_of}
+use Rattle.lq_tree.specs.Pattern.{Pattern, pattern, any, bind, nothing, tuple_of, build_of}
 use Rattle.lq_tree.specs.Types.{Signature}
 use Rattle.lq_unify.specs.declared.arena.Equation.{Equation}
 use Rattle.lq_unify.specs.Knowing.{IsLonger, Knows}
@@ -10,16 +13,22 @@ use Rattle.lq_walk.specs.Shape as shape
 use Rattle.lq_walk.specs.Shape.{Leaf, Shape, shape_of}
 use Rattle.lq_walk.specs.Visits.{Visit, enter_item, leave_item, enter, leave, leave_function, declare, show, hide, show_name, hide_name}
 use Rattle.lq_rules.specs.declared.system.System.{System}
-use Rattle.lq_rules.specs.Adding.{Adds, Grows}
+use Rattle.lq_rules.specs.Adding.{IsSystem, Adds, Grows}
+use Rattle.lq_rules.specs.Solved.{Solves}
 use Rattle.lq_rules.specs.Gathered.{VisitRule, VisitIn}
 use Rattle.lq_rules.specs.Within.{LeafIn, ShapeIn, TreeIn}
 use Rattle.lq_apart.specs.Owning.{binder_slots, visit_slots, slots_by, slots_at}
-use Rattle.lq_typings.specs.Uses.{Known, GeneralUse, use_at, use_at_tree, use_at_shape, use_at_leaf, use_by, before_in}
+use Rattle.lq_typings.specs.Uses.{Known, GeneralUse, use_at, use_at_tree, use_at_shape, use_at_leaf, use_by, before_in, with_name, behind_let, behind_form, behind, is_value}
 use Rattle.lq_infer.specs.declared.equations.Equations.{Equations}
 use Rattle.lq_infer.specs.Copying.{AreClear, AddsUse}
-use Rattle.lq_infer.specs.Adding.{IsKept, IsAdded}
+use Rattle.lq_infer.specs.Adding.{IsAdded}
+use Rattle.lq_infer.specs.Defining.{HasKnown}
+use Rattle.lq_infer.specs.Opening.{AreTold}
+use Rattle.lq_infer.specs.declared.definitions.Definitions.{Definitions}
 use Rattle.lq_infer.specs.Gathering.{StepBy, IsStep}
-use Rattle.lq_infer.proofs.Sharing.{same_system, same_longer}
+use Rattle.lq_infer.proofs.Sharing.{same_system, same_longer, same_keeps}
+use Rattle.lq_infer.proofs.Using.{keeps}
+use Rattle.lq_infer.proofs.Opened.{told_later}
 use Rattle.lq_infer.proofs.Naming.{all_left, all_right, all_first, all_rest}
 
 -- ---- the slots of binders
@@ -105,26 +114,77 @@ pub front_short : (old new more : List Equation) → new ≡ old ++ more → len
 front_short old new more e = let x = ap length e in let y = length-append old more in omega arith
 
 -- a use adds one equation
-pub use_added : (old new : Equations) (fixed : List ℕ) (definition node : ℕ) → IsKept old → Knows new.system.arena old.system.equations.items new.solver → AreClear new.weak.items → new.definitions ≡ old.definitions
-    → AddsUse old.system new.system fixed definition node → IsAdded old new
-use_added old new fixed definition node kept knows clear same (inl c) = record {
-  system = c.system;
-  longer = c.longer;
-  room = front_short old.system.equations.items _ _ c.equations_are;
-  front = front_is old.system.equations.items _ _ c.equations_are;
-  knows = knows;
-  clear = clear;
-  same = same;
-}
-use_added old new fixed definition node kept knows clear same (inr c) = record {
-  system = same_system old.system new.system fixed definition node c kept.system;
-  longer = same_longer old.system new.system fixed definition node c;
-  room = front_short old.system.equations.items _ _ c.equations_are;
-  front = front_is old.system.equations.items _ _ c.equations_are;
-  knows = knows;
-  clear = clear;
-  same = same;
-}
+pub use_keeps : (old new : System) (fixed : List ℕ) (definition node : ℕ) → IsSystem old → AddsUse old new fixed definition node → (types : ℕ → MlType) → Solves new new.equations.items types → Solves old old.equations.items types
+use_keeps old new fixed definition node s (inl c) = keeps old new fixed definition node s c c.definition_in c.node_in c.fixed_in
+use_keeps old new fixed definition node s (inr c) = same_keeps old new fixed definition node c
+
+pub use_added : (nodes : ℕ) (old new : Equations) (fixed : List ℕ) (definition node : ℕ) → IsSystem old.system → Knows new.system.arena old.system.equations.items new.solver → AreClear new.weak.items → new.definitions ≡ old.definitions
+    → AreTold nodes old.system new.definitions.plain.items new.opened.told new.opened.places.items → AddsUse old.system new.system fixed definition node → IsAdded nodes old new
+use_added nodes old new fixed definition node sound knows clear same told added = by added
+  where
+    now_told : AreTold nodes new.system new.definitions.plain.items new.opened.told new.opened.places.items
+    now_told = told_later nodes old.system new.definitions.plain.items new.opened.told new.opened.places.items told new.system (use_keeps old.system new.system fixed definition node sound added)
+
+    by : AddsUse old.system new.system fixed definition node → IsAdded nodes old new
+    by (inl c) = record {
+      system = c.system;
+      longer = c.longer;
+      room = front_short old.system.equations.items _ _ c.equations_are;
+      front = front_is old.system.equations.items _ _ c.equations_are;
+      knows = knows;
+      clear = clear;
+      told = now_told;
+      same = same;
+    }
+    by (inr c) = record {
+      system = same_system old.system new.system fixed definition node c sound;
+      longer = same_longer old.system new.system fixed definition node c;
+      room = front_short old.system.equations.items _ _ c.equations_are;
+      front = front_is old.system.equations.items _ _ c.equations_are;
+      knows = knows;
+      clear = clear;
+      told = now_told;
+      same = same;
+    }
+
+-- what is known behind a visit has one more definition that isn't generalised, or none
+plain_by_name : (k : Known) (x : ℕ) (value : Bool) → ((with_name k x value).plain ≡ k.plain) ⊎ ((y : ℕ) × ((with_name k x value).plain ≡ y ∷ k.plain))
+plain_by_name k x true = inl refl
+plain_by_name k x false = inr (x, refl)
+
+plain_by_let : (k : Known) (q : Pattern) (value : Bool) → ((behind_let k q value).plain ≡ k.plain) ⊎ ((y : ℕ) × ((behind_let k q value).plain ≡ y ∷ k.plain))
+plain_by_let k (pattern p any) value = inl refl
+plain_by_let k (pattern p (bind x)) value = plain_by_name k x value
+plain_by_let k (pattern p nothing) value = inl refl
+plain_by_let k (pattern p (tuple_of qs)) value = inl refl
+plain_by_let k (pattern p (build_of c m qs)) value = inl refl
+
+plain_by_form : (k : Known) (f : ItemForm) → ((behind_form k f).plain ≡ k.plain) ⊎ ((y : ℕ) × ((behind_form k f).plain ≡ y ∷ k.plain))
+plain_by_form k (type_of d) = inl refl
+plain_by_form k (let_of q e) = plain_by_let k q (is_value e)
+plain_by_form k (let_rec_of f r) = inl refl
+
+plain_by : (k : Known) (v : Visit) → ((behind k v).plain ≡ k.plain) ⊎ ((y : ℕ) × ((behind k v).plain ≡ y ∷ k.plain))
+plain_by k (enter_item i) = inl refl
+plain_by k (leave_item i) = plain_by_form k i.form
+plain_by k (enter t) = inl refl
+plain_by k (leave t) = inl refl
+plain_by k (leave_function r) = inl refl
+plain_by k (declare q) = inl refl
+plain_by k (show q) = inl refl
+plain_by k (hide q) = inl refl
+plain_by k (show_name x) = inl refl
+plain_by k (hide_name x) = inl refl
+
+pub plain_grows : (k : Known) (v : Visit) (old new : Definitions) → HasKnown old k → HasKnown new (behind k v) → (more : List ℕ) × (new.plain.items ≡ old.plain.items ++ more)
+plain_grows k v old new h g = by (plain_by k v)
+  where
+    turned : (d : Definitions) (j : Known) → HasKnown d j → d.plain.items ≡ reverse j.plain
+    turned d j x = sym (ap reverse x.plain_is ∙ reverse-reverse d.plain.items)
+
+    by : ((behind k v).plain ≡ k.plain) ⊎ ((y : ℕ) × ((behind k v).plain ≡ y ∷ k.plain)) → (more : List ℕ) × (new.plain.items ≡ old.plain.items ++ more)
+    by (inl e) = ([], turned new (behind k v) g ∙ ap reverse e ∙ sym (turned old k h) ∙ sym (append-nil old.plain.items))
+    by (inr (y, e)) = (y ∷ [], turned new (behind k v) g ∙ ap reverse e ∙ reverse-append (y ∷ []) k.plain ∙ ap (λ xs. xs ++ y ∷ []) (sym (turned old k h)))
 
 pub longer_arena : (old new : System) (more : List Equation) → Grows old new more → IsLonger old.arena new.arena
 longer_arena old new more g = record { more = g.longer; same = g.kept }

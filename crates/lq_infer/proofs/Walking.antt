@@ -31,14 +31,14 @@ pub record IsFront (p : Program) (n : ℕ) (left : List Visit) (s : Equations) :
   pub done : List Visit
   pub all_is : visits_in p ≡ done ++ left
   pub count : length done ≡ n
-  pub kept : IsKept s
+  pub kept : IsKept p.nodes s
   pub longer : p.slots ≤ count_of s.system
   pub known : HasKnown s.definitions (known_at done)
   pub first : System
   pub fresh : IsFresh p.slots first
   pub steps : (g : Signature) → HasSignature p.constructors g → AreSteps g p.nodes none_known done first s.system
 
-pub front_none : (p : Program) (left : List Visit) (s : Equations) → IsFresh p.slots s.system → IsKept s → HasKnown s.definitions none_known → left ≡ visits_in p → IsFront p 0 left s
+pub front_none : (p : Program) (left : List Visit) (s : Equations) → IsFresh p.slots s.system → IsKept p.nodes s → HasKnown s.definitions none_known → left ≡ visits_in p → IsFront p 0 left s
 front_none p left s f kept known e = record {
   done = [];
   all_is = sym e;
@@ -115,7 +115,7 @@ module _ (p : Program) (n : ℕ) (left : List Visit) (s : Equations) (ready : Is
     steps_by : (next : System) → IsStepOf p.constructors p.nodes s v next → (g : Signature) → HasSignature p.constructors g → AreSteps g p.nodes none_known (i.done ++ v ∷ []) i.first next
     steps_by next step g h = steps_more g p.nodes none_known i.done v i.first s.system next (i.steps g h) (step g (known_at i.done) h i.known)
 
-    pub front_more : (new : Equations) → IsKept new → count_of s.system ≤ count_of new.system → IsStepOf p.constructors p.nodes s v new.system → IsBehind v s.definitions new.definitions → IsFront p (n + 1) rest new
+    pub front_more : (new : Equations) → IsKept p.nodes new → count_of s.system ≤ count_of new.system → IsStepOf p.constructors p.nodes s v new.system → IsBehind v s.definitions new.definitions → IsFront p (n + 1) rest new
     front_more new kept longer step b = record {
       done = i.done ++ v ∷ [];
       all_is = all_is ∙ sym (append_assoc i.done (v ∷ []) rest);

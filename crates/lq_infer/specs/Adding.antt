@@ -15,21 +15,24 @@ use Rattle.lq_infer.specs.declared.equations.Equations.{Equations}
 use Rattle.lq_infer.specs.Copying.{AreClear}
 use Rattle.lq_infer.specs.Defining.{HasKnown}
 use Rattle.lq_infer.specs.Gathering.{IsStep}
+use Rattle.lq_infer.specs.Opening.{AreTold}
 
--- the classes are those of the equations, and no class is marked
-pub record IsKept (s : Equations) : Type 0 where
+-- the classes are those of the equations, no class is marked, and the definitions whose types may have variables are told
+pub record IsKept (nodes : ℕ) (s : Equations) : Type 0 where
   pub system : IsSystem s.system
   pub knows : Knows s.system.arena s.system.equations.items s.solver
   pub clear : AreClear s.weak.items
+  pub told : AreTold nodes s.system s.definitions.plain.items s.opened.told s.opened.places.items
 
 -- more equations behind those that there were, of which alone the classes are
-pub record IsAdded (old new : Equations) : Type 0 where
+pub record IsAdded (nodes : ℕ) (old new : Equations) : Type 0 where
   pub system : IsSystem new.system
   pub longer : count_of old.system ≤ count_of new.system
   pub room : length old.system.equations.items ≤ length new.system.equations.items
   pub front : take (length old.system.equations.items) new.system.equations.items ≡ old.system.equations.items
   pub knows : Knows new.system.arena old.system.equations.items new.solver
   pub clear : AreClear new.weak.items
+  pub told : AreTold nodes new.system new.definitions.plain.items new.opened.told new.opened.places.items
   pub same : new.definitions ≡ old.definitions
 
 -- what is known at a visit, whose rule names slots that are nodes

@@ -18,8 +18,14 @@ pub record AreMarked (weak : List Bool) (classes : List ℕ) : Type 0 where
   pub all_ : All (λ v. slice_index_or weak v false ≡ true) classes
   pub only : (v : ℕ) → slice_index_or weak v false ≡ true → IsIn classes v
 
+-- Solutions by which the fixed slots have the same types give the node the same type: it has no variables but those of the fixed slots.
+abbrev pub IsDetermined : System → List ℕ → ℕ → Type 0
+IsDetermined s fixed i =
+    (types others : ℕ → MlType) → Solves s s.equations.items types → Solves s s.equations.items others → All (λ j. types j ≡ others j) fixed → types i ≡ others i
+
 -- More nodes are a copy of the definition's type that leaves the open classes that some slots reach, and one more equation says that a
--- node has its type. What is open was asked before the copy was made, of classes that the same equations make.
+-- node has its type. What is open was asked before the copy was made, of classes that the same equations make, and of those of the slots
+-- alone whose types may have variables.
 pub record AddsCopy (old new : System) (fixed : List ℕ) (definition node : ℕ) : Type 0 where
   pub system : IsSystem new
   pub longer : count_of old ≤ count_of new
@@ -29,6 +35,9 @@ pub record AddsCopy (old new : System) (fixed : List ℕ) (definition node : ℕ
   pub used : ℕ
   pub inside : used < count_of new
   pub equations_are : new.equations.items ≡ old.equations.items ++ (record { left = node; right = used }) ∷ []
+  pub asked : List ℕ
+  pub among : All (IsIn fixed) asked
+  pub others : All (λ i. IsIn asked i ⊎ IsDetermined old [] i) fixed
   pub open_ : List ℕ
   pub weak : List Bool
   pub marked : AreMarked weak open_
@@ -37,18 +46,13 @@ pub record AddsCopy (old new : System) (fixed : List ℕ) (definition node : ℕ
   pub shapes_before : List ℕ
   pub found_before : List Equation
   pub known_before : IsKnown (forms_of old) (count_of old) parents_before shapes_before found_before old.equations.items
-  pub opens : AreOpens (forms_of old) parents_before shapes_before fixed open_
+  pub opens : AreOpens (forms_of old) parents_before shapes_before asked open_
   -- the classes when the copy was made
   pub parents : List ℕ
   pub shapes : List ℕ
   pub found : List Equation
   pub known : IsKnown (forms_of old) (count_of old) parents shapes found old.equations.items
   pub copy : IsCopy (forms_of old) (forms_of new) (count_of old) (count_of new) parents shapes weak definition used
-
--- Solutions by which the fixed slots have the same types give the node the same type: it has no variables but those of the fixed slots.
-abbrev pub IsDetermined : System → List ℕ → ℕ → Type 0
-IsDetermined s fixed i =
-    (types others : ℕ → MlType) → Solves s s.equations.items types → Solves s s.equations.items others → All (λ j. types j ≡ others j) fixed → types i ≡ others i
 
 -- No more nodes; one more equation says that a node has the definition's own type, which those of some slots determine.
 pub record AddsSame (old new : System) (fixed : List ℕ) (definition node : ℕ) : Type 0 where

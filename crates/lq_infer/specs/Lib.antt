@@ -2,6 +2,7 @@
 pub mod Pending
 pub mod Defining
 pub mod Copying
+pub mod Opening
 pub mod Gathering
 pub mod Inferring
 pub mod Adding

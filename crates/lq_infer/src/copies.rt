@@ -1,27 +1,13 @@
 // The types of generalised definitions' uses: copies of the definitions' types, or these themselves where no variable is replaced.
-ghost use Rattle.std.specs.Prelude.{◌≡◌, ℕ, ◌+◌, ◌<◌, ◌≤◌, ◌^◌, [], ◌∷◌, ◌++◌, All, length, reverse, slice_index_or, IfOk, OnOk, true, false};
+ghost use Rattle.std.specs.Prelude.{◌≡◌, ℕ, ◌<◌, ◌≤◌, ◌⊎◌, List, [], ◌∷◌, ◌++◌, All, length, slice_index_or, OnOk, true, false};
 ghost use Rattle.lq_unify.specs.Knowing.{Knows};
 ghost use Rattle.lq_unify.specs.Opens.{IsIn};
 ghost use Rattle.lq_rules.specs.Adding.{IsSystem, count_of};
-ghost use Rattle.lq_apart.specs.Owning.{binder_slots};
-ghost use Rattle.lq_infer.specs.Copying.{AreClear, AreMarked, AddsUse};
+ghost use Rattle.lq_infer.specs.Copying.{AreClear, AreMarked, IsDetermined, AddsUse};
 
 use lq_rules::System;
 use lq_unify::{Equation, Solver};
 use std::alloc::{AllocError, Global};
-
-/// The slots of binders, the last first.
-pub(crate) fn slots_of(alloc: Global, nodes: u32, binders: &[u32]) -> Result<Vec<u32>, AllocError>
-    requires { All (λ p. nodes + p < 2 ^ 32) binders.now }
-    ensures { IfOk result (λ all. all.items ≡ binder_slots nodes (reverse binders.now)) }
-{
-    let mut all = Vec::new(alloc);
-    for binder in binders {
-        all.push(nodes + *binder)?;
-    }
-    all.reverse();
-    Ok(all)
-}
 
 // A table of so many, or more.
 fn widen(weak: &mut Vec<bool>, count: usize) -> Result<(), AllocError>
@@ -70,8 +56,8 @@ fn are_marked(weak: &[bool], classes: &[u32]) -> bool
     true
 }
 
-// A node has the type of a definition.
-fn add_same(system: &mut System, definition: u32, node: u32) -> Result<(), AllocError>
+/// A node has the type of a definition.
+pub(crate) fn add_same(system: &mut System, definition: u32, node: u32) -> Result<(), AllocError>
     ensures arena { OnOk result (system.new.arena ≡ system.old.arena) }
     ensures equations { OnOk result (system.new.equations.items
         ≡ system.old.equations.items ++ (record { left = node; right = definition }) ∷ []) }
@@ -84,32 +70,31 @@ fn add_same(system: &mut System, definition: u32, node: u32) -> Result<(), Alloc
 }
 
 /// A node has the type of a copy of a definition's, with other types for its variables, but not for those that these slots' types have:
-/// the classes that are open there are marked while it is copied. Where all open classes of the definition are marked, and so where it has
-/// none, the copy would be the definition's own type again, so the node has this, and nothing is copied.
+/// the classes that are open there are marked while it is copied. Slots whose types have no variables may be left out. Where all open
+/// classes of the definition are marked the copy would be the definition's own type again, so the node has this, and nothing is copied.
 pub(crate) fn add_use(
     alloc: Global,
     system: &mut System,
     solver: &mut Solver,
     weak: &mut Vec<bool>,
-    fixed: &[u32],
+    asked: &[u32],
     definition: u32,
     node: u32,
 ) -> Result<(), AllocError>
     requires system { IsSystem system.old }
     requires knows { Knows system.old.arena system.old.equations.items solver.old }
     requires clear { AreClear weak.old.items }
-    requires fixed { All (λ i. i < count_of system.old) fixed.now }
+    requires asked { All (λ i. i < count_of system.old) asked.now }
     requires definition { definition < count_of system.old }
     requires node { node < count_of system.old }
     ensures clear { OnOk result (AreClear weak.new.items) }
     ensures knows { OnOk result (Knows system.new.arena system.old.equations.items solver.new) }
-    ensures added { OnOk result (AddsUse system.old system.new fixed.now definition node) }
+    ensures added { OnOk result ((fixed : List ℕ) → All (λ i. i < count_of system.old) fixed
+        → All (IsIn fixed) asked.now → All (λ i. IsIn asked.now i ⊎ IsDetermined system.old [] i) fixed
+        → AddsUse system.old system.new fixed definition node) }
 {
     let varying = solver.open_classes(alloc, &system.arena, &[definition])?;
-    if varying.is_empty() {
-        return add_same(system, definition, node);
-    }
-    let open = solver.open_classes(alloc, &system.arena, fixed)?;
+    let open = solver.open_classes(alloc, &system.arena, asked)?;
     widen(weak, system.arena.nodes.len())?;
     mark(weak, &open);
     if are_marked(weak, &varying) {

@@ -5,7 +5,8 @@ ghost use Rattle.lq_tree.specs.MlType.{MlType};
 ghost use Rattle.lq_tree.specs.Types.{Signature};
 ghost use Rattle.lq_walk.specs.Pending.{visit_view};
 ghost use Rattle.lq_unify.specs.Solved.{HasOrder};
-ghost use Rattle.lq_rules.specs.Adding.{IsFresh, Adds, count_of};
+ghost use Rattle.lq_unify.specs.Knowing.{Knows};
+ghost use Rattle.lq_rules.specs.Adding.{IsFresh, IsSystem, Adds, count_of};
 ghost use Rattle.lq_rules.specs.Gathered.{VisitIn, VisitRule};
 ghost use Rattle.lq_rules.specs.Solved.{IsPrincipal, Solves, types_in};
 ghost use Rattle.lq_rules.specs.Templates.{AreWhole, HasSignature};
@@ -15,8 +16,9 @@ ghost use Rattle.lq_infer.specs.Defining.{HasKnown, first_of};
 ghost use Rattle.lq_infer.specs.Adding.{IsKept, IsAdded, IsAtVisit, IsStepOf, IsBehind, HasClash};
 ghost use Rattle.lq_typings.specs.Uses.{none_known};
 
-use crate::copies::{add_use, slots_of};
+use crate::copies::{add_same, add_use};
 use crate::definitions::{Definitions, Use};
+use crate::open::{Opened, Sifted, may_vary, sift};
 use lq_rules::{Constructors, System};
 use lq_tree::Binder;
 use lq_unify::{Solution, Solver};
@@ -31,6 +33,8 @@ pub(crate) struct Equations {
     /// The classes that stay themselves in a copy; none is marked between copies.
     pub weak: Vec<bool>,
     pub definitions: Definitions,
+    /// The definitions whose types may have variables, of those that aren't generalised.
+    pub opened: Opened,
 }
 
 /// The equations of a program with their most general solution.
@@ -44,7 +48,7 @@ impl Equations {
     /// Those of no visits, between so many slots.
     pub(crate) fn new(alloc: Global, slots: usize) -> Result<Equations, AllocError>
         ensures fresh { IfOk result (λ s. IsFresh slots s.system) }
-        ensures kept { IfOk result (λ s. IsKept s) }
+        ensures kept { IfOk result (λ s. (nodes : ℕ) → IsKept nodes s) }
         ensures known { IfOk result (λ s. HasKnown s.definitions none_known) }
     {
         let system = System::new(alloc, slots)?;
@@ -54,33 +58,67 @@ impl Equations {
             solver,
             weak: Vec::new(alloc),
             definitions: Definitions::new(alloc),
+            opened: Opened {
+                told: 0,
+                places: Vec::new(alloc),
+            },
         })
     }
 
-    // With what a use of a generalised definition adds.
-    fn with_use(mut self, alloc: Global, nodes: u32, found: Use) -> Result<Equations, AllocError>
-        requires kept { IsKept self }
+    // With what a use adds of a definition whose type may have variables.
+    fn with_copy(mut self, alloc: Global, nodes: u32, found: Use) -> Result<Equations, AllocError>
+        requires kept { IsKept nodes self }
         requires before { found.before ≤ length self.definitions.plain.items }
         requires fixed { All (λ i. i < count_of self.system)
             (binder_slots nodes (first_of self.definitions.plain.items found.before)) }
         requires definition { nodes + found.binder < count_of self.system }
         requires node { found.node < count_of self.system }
-        ensures added { IfOk result (λ s. IsAdded self s) }
+        ensures added { IfOk result (λ s. IsAdded nodes self s) }
         ensures used { IfOk result (λ s. AddsUse self.system s.system
             (binder_slots nodes (first_of self.definitions.plain.items found.before)) (nodes + found.binder)
             found.node) }
     {
-        let fixed = slots_of(alloc, nodes, &self.definitions.plain[..found.before])?;
-        let definition = nodes + found.binder;
+        self.opened.tell(found.before)?;
+        let Sifted { kept, asked } = sift(
+            alloc,
+            &self.system,
+            &mut self.solver,
+            nodes,
+            &self.definitions.plain,
+            &self.opened.places,
+            found.before,
+        )?;
+        self.opened.places = kept;
         add_use(
             alloc,
             &mut self.system,
             &mut self.solver,
             &mut self.weak,
-            &fixed,
-            definition,
+            &asked,
+            nodes + found.binder,
             found.node,
         )?;
+        Ok(self)
+    }
+
+    // With what a use of a generalised definition adds.
+    fn with_use(mut self, alloc: Global, nodes: u32, found: Use) -> Result<Equations, AllocError>
+        requires kept { IsKept nodes self }
+        requires before { found.before ≤ length self.definitions.plain.items }
+        requires fixed { All (λ i. i < count_of self.system)
+            (binder_slots nodes (first_of self.definitions.plain.items found.before)) }
+        requires definition { nodes + found.binder < count_of self.system }
+        requires node { found.node < count_of self.system }
+        ensures added { IfOk result (λ s. IsAdded nodes self s) }
+        ensures used { IfOk result (λ s. AddsUse self.system s.system
+            (binder_slots nodes (first_of self.definitions.plain.items found.before)) (nodes + found.binder)
+            found.node) }
+    {
+        let definition = nodes + found.binder;
+        if may_vary(alloc, &self.system, &mut self.solver, definition)? {
+            return self.with_copy(alloc, nodes, found);
+        }
+        add_same(&mut self.system, definition, found.node)?;
         Ok(self)
     }
 
@@ -92,11 +130,11 @@ impl Equations {
         nodes: u32,
         visit: Visit<'_, Binder>,
     ) -> Result<Equations, AllocError>
-        requires kept { IsKept self }
+        requires kept { IsKept nodes self }
         requires whole { AreWhole constructors.now }
         requires signature { (g : Signature) × HasSignature constructors.now g }
         requires within { VisitIn nodes (count_of self.system) (visit_view Binder (λ b. b.0) visit) }
-        ensures added { IfOk result (λ s. IsAdded self s) }
+        ensures added { IfOk result (λ s. IsAdded nodes self s) }
         ensures rule { IfOk result (λ s. (g : Signature) → HasSignature constructors.now g → Adds self.system
             s.system (VisitRule g nodes (visit_view Binder (λ b. b.0) visit.entry))) }
     {
@@ -105,6 +143,7 @@ impl Equations {
             mut solver,
             weak,
             definitions,
+            opened,
         } = self;
         let system = system.with_visit(alloc, constructors, nodes, visit)?;
         solver.grow(&system.arena)?;
@@ -113,6 +152,7 @@ impl Equations {
             solver,
             weak,
             definitions,
+            opened,
         })
     }
 
@@ -124,12 +164,12 @@ impl Equations {
         nodes: u32,
         visit: Visit<'_, Binder>,
     ) -> Result<Equations, AllocError>
-        requires kept { IsKept self }
+        requires kept { IsKept nodes self }
         requires whole { AreWhole constructors.now }
         requires signature { (g : Signature) × HasSignature constructors.now g }
         requires within { VisitIn nodes (count_of self.system) (visit_view Binder (λ b. b.0) visit) }
         requires known { IsAtVisit nodes self (visit_view Binder (λ b. b.0) visit) }
-        ensures added { IfOk result (λ s. IsAdded self s) }
+        ensures added { IfOk result (λ s. IsAdded nodes self s) }
         ensures step { IfOk result (λ s. IsStepOf constructors.now nodes self
             (visit_view Binder (λ b. b.0) visit.entry) s.system) }
     {
@@ -147,12 +187,12 @@ impl Equations {
         nodes: u32,
         visit: Visit<'_, Binder>,
     ) -> Result<Option<Equations>, AllocError>
-        requires kept { IsKept self }
+        requires kept { IsKept nodes self }
         requires whole { AreWhole constructors.now }
         requires signature { (g : Signature) × HasSignature constructors.now g }
         requires within { VisitIn nodes (count_of self.system) (visit_view Binder (λ b. b.0) visit) }
         requires known { IsAtVisit nodes self (visit_view Binder (λ b. b.0) visit) }
-        ensures kept { IfOk result (λ found. IfSome found (λ s. IsKept s)) }
+        ensures kept { IfOk result (λ found. IfSome found (λ s. IsKept nodes s)) }
         ensures step { IfOk result (λ found. IfSome found (λ s. IsStepOf constructors.now nodes self
             (visit_view Binder (λ b. b.0) visit.entry) s.system)) }
         ensures longer { IfOk result (λ found. IfSome found (λ s. count_of self.system ≤ count_of s.system)) }
@@ -175,7 +215,8 @@ impl Equations {
 
     /// With their most general solution, or None where they have none.
     pub(crate) fn solved(self, alloc: Global) -> Result<Option<Inferred>, AllocError>
-        requires kept { IsKept self }
+        requires system { IsSystem self.system }
+        requires knows { Knows self.system.arena self.system.equations.items self.solver }
         ensures same { IfOk result (λ found. IfSome found (λ i. i.system ≡ self.system)) }
         ensures principal { IfOk result (λ found. IfSome found (λ i. IsPrincipal i.system
             (types_in i.system i.solution))) }
@@ -188,6 +229,7 @@ impl Equations {
             solver,
             weak: _weak,
             definitions: _definitions,
+            opened: _opened,
         } = self;
         match solver.solution(alloc, &system.arena)? {
             Some(solution) => Ok(Some(Inferred { system, solution })),

@@ -5,6 +5,7 @@ mod copies;
 mod definitions;
 mod equations;
 mod laws;
+mod open;
 mod program;
 mod solving;
 mod values;

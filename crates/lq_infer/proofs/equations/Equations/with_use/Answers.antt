@@ -1,13 +1,20 @@
-use Rattle.std.proofs.Common.{◌+◌, ◌<◌, ◌^◌, All, refl, sym, subst, take, arith}
-use Rattle.lq_rules.specs.Adding.{count_of}
-use Rattle.lq_infer.proofs.Visiting.{slots_low, use_added}
+use Rattle.std.proofs.Common.{◌+◌, inr, refl, sym, subst, arith}
+use Rattle.lq_unify.specs.Knowing.{Knows}
+use Rattle.lq_apart.specs.Owning.{binder_slots}
+use Rattle.lq_infer.specs.Defining.{first_of}
+use Rattle.lq_infer.proofs.Visiting.{use_added}
 use Rattle.lq_infer.proofs.equations.Equations.with_use.Goals as goal
+
+pub returns-clause-used : goal.returns-clause-used
+returns-clause-used c = inr (record {
+  arena_is = c.in_ok-add_same.ensures.arena;
+  definition_in = c.requires.definition;
+  node_in = c.requires.node;
+  equations_are = c.in_ok-add_same.ensures.equations;
+  determined = λ types others a b h. c.in_ok-may_vary.ensures.determined c.if-branch.false types others a b (λ k d l. absurd (omega arith));
+})
 
 pub returns-clause-added : goal.returns-clause-added
 returns-clause-added c =
-    use_added c.args.self _ _ (c.args.nodes + c.args.found.binder) c.args.found.node c.requires.kept c.in_ok-add_use.ensures.knows c.in_ok-add_use.ensures.clear refl c.in_ok-add_use.ensures.added
-
-pub slots_of-requires : goal.slots_of-requires
-slots_of-requires c =
-    subst (λ xs. All (λ p. c.args.nodes + p < 2 ^ 32) (take c.args.found.before xs)) (sym c.deref.ensures.value)
-    (λ k d l. let x = slots_low c.args.nodes (count_of c.args.self.system) (take c.args.found.before c.args.self.definitions.plain.items) c.requires.fixed k d l in let y = c.requires.kept.system.arena.small in omega arith)
+    use_added c.args.nodes c.args.self _ (binder_slots c.args.nodes (first_of c.args.self.definitions.plain.items c.args.found.before)) (c.args.nodes + c.args.found.binder) c.args.found.node c.requires.kept.system
+    (subst (λ a. Knows a c.args.self.system.equations.items c.may_vary.new.solver) (sym c.in_ok-add_same.ensures.arena) c.in_ok-may_vary.ensures.knows) c.requires.kept.clear refl c.requires.kept.told (returns-clause-used c)

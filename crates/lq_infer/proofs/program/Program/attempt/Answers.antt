@@ -6,7 +6,7 @@ use Rattle.lq_infer.proofs.program.Program.attempt.Goals as goal
 
 pub loop-taken-init : goal.loop-taken-init
 loop-taken-init c =
-    front_none c.args.self.now (left Binder (λ b. b.0) c.in_ok-walk.walk) c.in_ok-equations.equations c.in_ok-equations.ensures.fresh c.in_ok-equations.ensures.kept c.in_ok-equations.ensures.known c.in_ok-walk.ensures
+    front_none c.args.self.now (left Binder (λ b. b.0) c.in_ok-walk.walk) c.in_ok-equations.equations c.in_ok-equations.ensures.fresh (c.in_ok-equations.ensures.kept c.args.self.now.nodes) c.in_ok-equations.ensures.known c.in_ok-walk.ensures
 
 pub with_visit-requires-clause-within : goal.with_visit-requires-clause-within
 with_visit-requires-clause-within c =
