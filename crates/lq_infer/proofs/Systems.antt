@@ -1,8 +1,8 @@
 -- The system with a copy.
-use Rattle.std.proofs.Common.{◌≡◌, inl, inr, ℕ, zero, suc, ◌+◌, ◌<◌, ◌≤◌, Bool, List, [], ◌∷◌, ◌++◌, take, drop, reverse, Option, Some, None, Result, Ok, Err, OnOk, All, length, refl, sym, ap, subst, ◌∙◌, arith}
+use Rattle.std.proofs.Common.{◌≡◌, inl, inr, ℕ, zero, suc, ◌<◌, ◌≤◌, Bool, List, [], ◌∷◌, ◌++◌, take, drop, Option, Some, None, Result, Ok, Err, OnOk, All, length, refl, sym, subst, ◌∙◌, arith}
 use Rattle.std.specs.Option.{option_map}
 use Rattle.std.proofs.lemmas.Bool.{cases_lt}
-use Rattle.std.proofs.lemmas.List.{length-map, take_all, take-append-le, reverse-append, map-append}
+use Rattle.std.proofs.lemmas.List.{length-map, take_all, take-append-le}
 use Rattle.std.proofs.lemmas.List.Elements.{All-append}
 use Rattle.lq_unify.specs.declared.arena.Equation.{Equation}
 use Rattle.lq_unify.specs.Nodes.{Form, renamed, IsArena}
@@ -10,7 +10,6 @@ use Rattle.lq_unify.specs.Classes.{up, root}
 use Rattle.lq_unify.specs.Copying.{IsCopy}
 use Rattle.lq_rules.specs.declared.system.System.{System}
 use Rattle.lq_rules.specs.Adding.{IsRight, IsSystem, count_of, forms_of}
-use Rattle.lq_apart.specs.Owning.{binder_slots}
 
 right_by : (o : Option Form) (f : Form) (to : ℕ → ℕ) → option_map (renamed to) o ≡ Some f → ((g : Form) → o ≡ Some g → IsRight g.head (length g.parts)) → IsRight f.head (length f.parts)
 right_by None f to e h = absurd (cc)

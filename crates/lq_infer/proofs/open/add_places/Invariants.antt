@@ -1,4 +1,4 @@
-use Rattle.std.proofs.Common.{◌≡◌, ℕ, ◌<◌, ◌≤◌}
+use Rattle.std.proofs.Common.{ℕ, ◌<◌, ◌≤◌}
 use Rattle.lq_unify.specs.Opens.{IsIn}
 use Rattle.lq_infer.proofs.open.add_places.Given as goal
 

@@ -1,4 +1,4 @@
-use Rattle.std.proofs.Common.{◌∷◌, ◌++◌, [], ◌+◌, take, get_or, sym, subst, arith}
+use Rattle.std.proofs.Common.{◌∷◌, ◌++◌, [], take, get_or, sym, subst, arith}
 use Rattle.lq_infer.specs.Opening.{IsSifted}
 use Rattle.lq_infer.proofs.Opened.{sifted_later, sifted_closed, sifted_asked, next_place}
 use Rattle.lq_infer.proofs.open.sift.Goals as goal

@@ -1,10 +1,10 @@
-use Rattle.std.proofs.Common.{◌≡◌, ◌⊎◌, ℕ, ◌+◌, ◌<◌, [], All, take, length, get_or, refl, sym, subst, arith}
+use Rattle.std.proofs.Common.{◌⊎◌, ℕ, ◌+◌, ◌<◌, [], All, take, length, get_or, refl, sym, subst, arith}
 use Rattle.lq_unify.specs.Opens.{IsIn}
 use Rattle.lq_rules.specs.Adding.{count_of}
 use Rattle.lq_apart.specs.Owning.{binder_slots}
 use Rattle.lq_infer.specs.Copying.{IsDetermined}
 use Rattle.lq_infer.specs.Defining.{first_of}
-use Rattle.lq_infer.specs.Opening.{AreTold, IsSifted}
+use Rattle.lq_infer.specs.Opening.{IsSifted}
 use Rattle.lq_infer.proofs.Opened.{told_more, told_sifted, asked_others, asked_among, of_taken}
 use Rattle.lq_infer.proofs.Visiting.{slots_low, use_added}
 use Rattle.lq_infer.proofs.equations.Equations.with_copy.Goals as goal
