@@ -1,7 +1,7 @@
 -- Numbers that are given to the variables of types.
 use Rattle.std.specs.Prelude.{◌||◌, All, reverse, slice_index_or}
-use Rattle.std.proofs.Common.{◌≡◌, ℕ, zero, suc, ◌+◌, ◌<◌, ◌≤◌, Bool, true, false, List, [], ◌∷◌, ◌++◌, length, set, drop, get_or, drop-cons, Option, Some, None, ◌⊎◌, inl, inr, refl, sym, ap, ap₂, subst, ◌∙◌, arith, append_assoc}
-use Rattle.std.proofs.lemmas.Bool.{cases_eq, false≢true, or_left, or_right}
+use Rattle.std.proofs.Common.{◌≡◌, ℕ, zero, suc, ◌+◌, ◌<◌, Bool, true, false, List, [], ◌∷◌, ◌++◌, length, map, set, Option, Some, None, ◌⊎◌, inl, inr, refl, sym, ap, ap₂, subst, ◌∙◌, arith, append_assoc}
+use Rattle.std.proofs.lemmas.Bool.{cases_eq, false≢true}
 use Rattle.std.proofs.lemmas.List.{append-nil, reverse-append, length-set, get_or-set_same, get_or-set_other}
 use Rattle.std.proofs.lemmas.Option.{none-some}
 use Rattle.lq_tree.specs.MlType as ml
@@ -15,7 +15,7 @@ use Rattle.lq_types.specs.Seen.{IsOver}
 use Rattle.lq_typings.specs.Principal.{is_open, some_open, variables_of, variables_in, variables_at}
 use Rattle.lq_typings.specs.Uses.{Each, EachIn}
 use Rattle.lq_annotated.specs.Measuring.{total}
-use Rattle.lq_annotated.specs.Numbering.{Numbers, number_in, numbered_by, with_number, with_numbers, coming, work, variable_in, HasNumber}
+use Rattle.lq_annotated.specs.Numbering.{Numbers, number_in, numbered_by, with_number, with_numbers, coming, work, variable_in, HasNumber, AreDone}
 use Rattle.lq_annotated.proofs.Measuring.{size_over}
 use Rattle.lq_annotated.proofs.Types.{AllOf, from_all, to_all, all_both, left_part, right_part}
 
@@ -23,15 +23,6 @@ use Rattle.lq_annotated.proofs.Types.{AllOf, from_all, to_all, all_both, left_pa
 
 pub reverse_push : (xs : List ℕ) (x : ℕ) → reverse (xs ++ x ∷ []) ≡ x ∷ reverse xs
 reverse_push xs x = reverse-append xs (x ∷ [])
-
-pub parts_next : (parts pending base : List ℕ) (left next : ℕ) → next + 1 ≡ left → left ≤ length parts → reverse pending ≡ drop left parts ++ base
-    → (new : List ℕ) → new ≡ pending ++ get_or parts next 0 ∷ [] → reverse new ≡ drop next parts ++ base
-parts_next parts pending base left next is low goes new pushed =
-    let inside : next < length parts = omega (arith, is, low) in
-    let e : suc next ≡ left = omega (arith, is) in
-    ap reverse pushed ∙ reverse_push pending (get_or parts next 0)
-    ∙ ap (λ (xs : List ℕ). get_or parts next 0 ∷ xs) (goes ∙ ap (λ (k : ℕ). drop k parts ++ base) (sym e))
-    ∙ ap (λ (xs : List ℕ). xs ++ base) (sym (drop-cons parts next 0 inside))
 
 -- ---- one level of a type
 
@@ -41,7 +32,7 @@ module _ (types : ℕ → MlType) where
   variables_are (p ∷ ps) = ap (λ (xs : List ℕ). variables_of (types p) ++ xs) (variables_are ps)
 
   -- a head over the parts that it takes
-  record Made (h : TypeHead) (parts : List ℕ) : Type 0 where
+  record Made (h : TypeHead) (parts : List ℕ) : Type 1 where
     variables : variables_of (made h (each types parts)) ≡ variables_in (each types parts)
     all_of : (P : ℕ → Type 0) → EachIn P (each types parts) → Each P (made h (each types parts))
 
@@ -174,7 +165,8 @@ mutual
   closed_nones : (ts : MlTypes) → some_open ts ≡ false → variables_in ts ≡ []
   closed_nones ml.no_types h = refl
   closed_nones (ml.more_types t ts) h =
-      let both = or_parts (is_open t) (some_open ts) h in both_empty (variables_of t) (variables_in ts) (closed_none t both.0) (closed_nones ts both.1)
+      let both = or_parts (is_open t) (some_open ts) h in
+      both_empty (variables_of t) (variables_in ts) (closed_none t both.0) (closed_nones ts both.1)
 
 -- ---- numbers
 
@@ -191,9 +183,6 @@ variables_append types (x ∷ xs) ys =
 -- a number that is there stays as it is
 pub number_there : (n : Numbers) (v k : ℕ) → number_in n.names v ≡ Some k → with_number n v ≡ n
 number_there n v k is = ap (λ (o : Option ℕ). numbered_by o n v) is
-
-pub number_next : (n : Numbers) (v : ℕ) → number_in n.names v ≡ None → with_number n v ≡ record { names = set n.names v (Some n.next); next = suc n.next }
-number_next n v is = ap (λ (o : Option ℕ). numbered_by o n v) is
 
 pub all_there : (n : Numbers) (xs : List ℕ) → AllOf (HasNumber n.names) xs → with_numbers n xs ≡ n
 all_there n [] h = refl
@@ -231,26 +220,6 @@ given n (x ∷ xs) h =
 
 -- ---- a step of the walk
 
--- a variable is named
-pub step_variable : (all : List MlType) (i v : ℕ) (old new : Numbers) (rest : List ℕ) → variable_in (at all i) ≡ Some v → new ≡ with_number old v
-    → with_numbers new rest ≡ with_numbers old (variables_of (at all i) ++ rest)
-step_variable all i v old new rest is named =
-    ap (λ (n : Numbers). with_numbers n rest) named ∙ ap (λ (xs : List ℕ). with_numbers old (xs ++ rest)) (sym (variable_list (at all i) v is))
-  where
-    pair_of : (x y : ℕ) → Some x ≡ Some y → x ∷ [] ≡ y ∷ []
-    pair_of x y e = cc
-
-    variable_list : (a : MlType) (w : ℕ) → variable_in a ≡ Some w → variables_of a ≡ w ∷ []
-    variable_list (ml.var i) w e = pair_of i w e
-    variable_list ml.int w e = absurd (none-some w e)
-    variable_list ml.bool w e = absurd (none-some w e)
-    variable_list ml.unit w e = absurd (none-some w e)
-    variable_list (ml.arrow a b) w e = absurd (none-some w e)
-    variable_list (ml.tuple ts) w e = absurd (none-some w e)
-    variable_list (ml.array a) w e = absurd (none-some w e)
-    variable_list (ml.named d ts) w e = absurd (none-some w e)
-    variable_list (ml.map_of a) w e = absurd (none-some w e)
-
 -- parts come first
 pub step_parts : (all : List MlType) (i : ℕ) (parts old new : List ℕ) (n : Numbers) → IsOver all i parts → variable_in (at all i) ≡ None
     → reverse new ≡ parts ++ reverse old → with_numbers n (coming all new) ≡ with_numbers n (variables_of (at all i) ++ coming all old)
@@ -271,17 +240,6 @@ less_parts all i parts old new over_it is =
     let sum : work all new ≡ total f parts + work all old = ap (total f) is ∙ total_append f parts (reverse old) in
     omega (arith, size, sum)
 
-pub less_variable : (a : MlType) (v rest : ℕ) → variable_in a ≡ Some v → rest < size_of a + rest
-less_variable (ml.var i) v rest e = omega arith
-less_variable ml.int v rest e = absurd (none-some v e)
-less_variable ml.bool v rest e = absurd (none-some v e)
-less_variable ml.unit v rest e = absurd (none-some v e)
-less_variable (ml.arrow a b) v rest e = absurd (none-some v e)
-less_variable (ml.tuple ts) v rest e = absurd (none-some v e)
-less_variable (ml.array a) v rest e = absurd (none-some v e)
-less_variable (ml.named d ts) v rest e = absurd (none-some v e)
-less_variable (ml.map_of a) v rest e = absurd (none-some v e)
-
 pub inside_parts : (all : List MlType) (i : ℕ) (parts old new : List ℕ) → i < length all → All (λ p. p < i) parts
     → All (λ p. p < length all) (reverse old) → reverse new ≡ parts ++ reverse old → All (λ p. p < length all) (reverse new)
 inside_parts all i parts old new low earlier inside is =
@@ -293,3 +251,72 @@ inside_parts all i parts old new low earlier inside is =
     lower : (ps : List ℕ) → AllOf (λ p. p < i) ps → AllOf (λ p. p < length all) ps
     lower [] h = tt
     lower (p ∷ ps) h = ((let l = h.0 in omega (arith, l, low)), lower ps h.1)
+
+-- ---- the next one is taken
+
+pub pop_rest : (pending rest : List ℕ) (next : ℕ) → pending ≡ rest ++ next ∷ [] → reverse pending ≡ next ∷ reverse rest
+pop_rest pending rest next is = ap reverse is ∙ reverse_push rest next
+
+pub pop_inside : (all : List MlType) (pending rest : List ℕ) (next : ℕ) → pending ≡ rest ++ next ∷ [] → All (λ p. p < length all) (reverse pending)
+    → All (λ p. p < length all) (reverse rest)
+pop_inside all pending rest next is inside =
+    let Low : ℕ → Type 0 = λ p. p < length all in
+    to_all Low (reverse rest) (from_all Low (next ∷ reverse rest) (subst (All Low) (pop_rest pending rest next is) inside)).1
+
+-- ---- slots
+
+opened_at : (all : List MlType) (i : ℕ) → i < length all → slice_index_or (map is_open all) i false ≡ is_open (at all i)
+opened_at [] i low = absurd (omega (arith, low))
+opened_at (a ∷ as_) zero low = refl
+opened_at (a ∷ as_) (suc i) low = opened_at as_ i (omega (arith, low))
+
+pub closed_slot : (all : List MlType) (open_ : List Bool) (i : ℕ) (n : Numbers) → i < length all → open_ ≡ map is_open all
+    → slice_index_or open_ i false ≡ false → n ≡ with_numbers n (variables_of (at all i))
+closed_slot all open_ i n low are is =
+    sym (ap (with_numbers n) (closed_none (at all i)
+    (sym (opened_at all i low) ∙ ap (λ (bs : List Bool). slice_index_or bs i false) (sym are) ∙ is)))
+
+module _ (P : ℕ → Type 0) where
+  mutual
+    to_list : (a : MlType) → Each P a → AllOf P (variables_of a)
+    to_list ml.int h = tt
+    to_list ml.bool h = tt
+    to_list ml.unit h = tt
+    to_list (ml.var i) h = (h, tt)
+    to_list (ml.arrow a b) h = all_both P (variables_of a) (variables_of b) (to_list a h.0) (to_list b h.1)
+    to_list (ml.tuple ts) h = to_lists ts h
+    to_list (ml.array a) h = to_list a h
+    to_list (ml.named d ts) h = to_lists ts h
+    to_list (ml.map_of a) h = to_list a h
+
+    to_lists : (ts : MlTypes) → EachIn P ts → AllOf P (variables_in ts)
+    to_lists ml.no_types h = tt
+    to_lists (ml.more_types t ts) h = all_both P (variables_of t) (variables_in ts) (to_list t h.0) (to_lists ts h.1)
+
+pub done_slot : (a : MlType) (n : Numbers) → Each (HasNumber n.names) a → n ≡ with_numbers n (variables_of a)
+done_slot a n h = sym (all_there n (variables_of a) (to_list (HasNumber n.names) a h))
+
+pub done_next : (all : List MlType) (old new : Numbers) (done : List Bool) (i : ℕ) → i < length done
+    → Each (λ v. v < length old.names) (at all i) → AreDone all done old.names → new ≡ with_numbers old (variables_of (at all i))
+    → AreDone all (set done i true) new.names
+done_next all old new done i low room before is r h = by_cases (cases_eq r i)
+  where
+    xs : List ℕ
+    xs = variables_of (at all i)
+
+    by_cases : (r ≡ i) ⊎ (r ≡ i → ⊥) → Each (HasNumber new.names) (at all r)
+    by_cases (inl e) =
+        subst (λ j. Each (HasNumber new.names) (at all j)) (sym e)
+        (subst (λ (n : Numbers). Each (HasNumber n.names) (at all i)) (sym is)
+        (from_list (HasNumber (with_numbers old xs).names) (at all i) (given old xs (to_list (λ v. v < length old.names) (at all i) room))))
+    by_cases (inr other) =
+        subst (λ (n : Numbers). Each (HasNumber n.names) (at all r)) (sym is)
+        (each_weaker (HasNumber old.names) (HasNumber (with_numbers old xs).names) (stays old xs) (at all r)
+        (before r (sym (get_or-set_other done i r true false other) ∙ h)))
+
+pub room_next : (all : List MlType) (old new : Numbers) (xs : List ℕ) → new ≡ with_numbers old xs
+    → ((r : ℕ) → r < length all → Each (λ v. v < length old.names) (at all r))
+    → (r : ℕ) → r < length all → Each (λ v. v < length new.names) (at all r)
+room_next all old new xs is room r low =
+    let long : length new.names ≡ length old.names = ap (λ (n : Numbers). length n.names) is ∙ same_length old xs in
+    subst (λ (k : ℕ). Each (λ v. v < k) (at all r)) (sym long) (room r low)
