@@ -13,10 +13,6 @@ abbrev pub own_of : List ItemTree → List ℕ
 own_of [] = []
 own_of (i ∷ is) = own_node i.form
 
--- what comes at a visit, and what comes behind it
-pub one_gone : (old new here rest whole : List ℕ) → new ≡ old ++ here → old ++ (here ++ rest) ≡ whole → new ++ rest ≡ whole
-one_gone old new here rest whole is goes = ap (λ (l : List ℕ). l ++ rest) is ∙ append_assoc old here rest ∙ goes
-
 pub nodes_gone : (i : ItemTree) → left_in (visits_of_items (i ∷ [])) ≡ nodes_of_form i.form
 nodes_gone i = items_left (i ∷ []) ∙ append-nil (nodes_of_form i.form)
 
