@@ -11,6 +11,7 @@ mod Refusing
 mod Naming
 mod SlotsOf
 mod Visited
+mod Room
 mod Numbers
 mod Owners
 mod Answered
