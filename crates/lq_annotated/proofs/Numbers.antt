@@ -1,13 +1,13 @@
 -- Numbers that are given one after another number the variables of each item, where no variable is of two.
 use Rattle.std.specs.Prelude.{All, slice_index_or}
-use Rattle.std.proofs.Common.{◌≡◌, ℕ, zero, suc, ◌+◌, ◌<◌, ◌≤◌, List, [], ◌∷◌, ◌++◌, length, map, set, Option, Some, None, ◌⊎◌, inl, inr, refl, sym, ap, subst, ◌∙◌, arith}
+use Rattle.std.proofs.Common.{◌≡◌, ℕ, zero, suc, ◌+◌, ◌<◌, ◌≤◌, List, [], ◌∷◌, ◌++◌, length, map, set, drop, Option, Some, None, ◌⊎◌, inl, inr, refl, sym, ap, subst, ◌∙◌, arith}
 use Rattle.std.proofs.lemmas.Bool.{cases_eq}
 use Rattle.std.proofs.lemmas.List.{length-set, length_push, get_or-set_same, get_or-set_other, get_or_append_left, get_or_push}
 use Rattle.std.proofs.lemmas.List.Elements.{All-nil, All-cons}
 use Rattle.std.proofs.lemmas.Option.{none-some, same_Some}
 use Rattle.lq_tree.specs.Items.{ItemTree}
 use Rattle.lq_tree.specs.MlType.{MlType}
-use Rattle.lq_typings.specs.Principal.{AreNumbered}
+use Rattle.lq_typings.specs.Principal.{AreNumbered, variables_of, variables_at}
 use Rattle.lq_annotated.specs.Naming.{item_variables, NumbersItem}
 use Rattle.lq_annotated.specs.Numbering.{Numbers, number_in, numbered_by, with_number, with_numbers, behind_item, behind_items}
 use Rattle.lq_annotated.proofs.Types.{AllOf, to_all}
@@ -173,3 +173,27 @@ module _ (Of : ℕ → ℕ → Type 0) (nodes : ℕ) (types : ℕ → MlType) (a
               d.numbers f has,
             );
       }
+
+-- ---- slots of an item, one after another
+
+drop_next : (ks : List ℕ) (i d : ℕ) → i < length ks → drop i ks ≡ slice_index_or ks i d ∷ drop (i + 1) ks
+drop_next [] i d low = absurd (omega (arith, low))
+drop_next (k ∷ ks) zero d low = refl
+drop_next (k ∷ ks) (suc i) d low =
+    let e : suc i + 1 ≡ suc (i + 1) = omega arith in
+    drop_next ks i d (omega (arith, low)) ∙ ap (λ (j : ℕ). slice_index_or ks i d ∷ drop j (k ∷ ks)) (sym e)
+
+appended : (n : Numbers) (xs ys : List ℕ) → with_numbers n (xs ++ ys) ≡ with_numbers (with_numbers n xs) ys
+appended n [] ys = refl
+appended n (x ∷ xs) ys = appended (with_number n x) xs ys
+
+pub slot_next : (types : ℕ → MlType) (now next whole : Numbers) (ks : List ℕ) (i d : ℕ) → i < length ks
+    → next ≡ with_numbers now (variables_of (types (slice_index_or ks i d)))
+    → with_numbers now (variables_at types (drop i ks)) ≡ whole
+    → with_numbers next (variables_at types (drop (i + 1) ks)) ≡ whole
+slot_next types now next whole ks i d low is goes =
+    let k = slice_index_or ks i d in
+    let rest = drop (i + 1) ks in
+    ap (λ (n : Numbers). with_numbers n (variables_at types rest)) is
+    ∙ sym (appended now (variables_of (types k)) (variables_at types rest))
+    ∙ ap (λ (l : List ℕ). with_numbers now (variables_at types l)) (sym (drop_next ks i d low)) ∙ goes
