@@ -1,13 +1,15 @@
 -- The numbers of a program's variables, where each is of one item.
 use Rattle.std.specs.List.{list_any}
 use Rattle.std.specs.Prelude.{All, ◌||◌, ◌==◌, slice_index_or}
-use Rattle.std.proofs.Common.{◌≡◌, ℕ, zero, suc, ◌+◌, ◌<◌, List, [], ◌∷◌, ◌++◌, length, map, Option, Some, None, refl, sym, ap, subst, ◌∙◌, arith}
+use Rattle.std.proofs.Common.{◌≡◌, ℕ, zero, suc, ◌+◌, ◌<◌, List, [], ◌∷◌, ◌++◌, length, map, take, drop, Option, Some, None, refl, sym, ap, subst, ◌∙◌, arith}
 use Rattle.std.proofs.lemmas.Bool.{or_left, or_right, eq-eqb}
 use Rattle.std.proofs.lemmas.List.Elements.{All-get_or}
 use Rattle.std.proofs.lemmas.Option.{none-some, same_Some}
-use Rattle.lq_tree.specs.Items.{ItemTree}
+use Rattle.lq_name.specs.declared.name.Binder.{Binder}
+use Rattle.lq_tree.specs.Items.{ItemTree, item_view, items_view}
 use Rattle.lq_tree.specs.MlType as ml
 use Rattle.lq_tree.specs.MlType.{MlType, MlTypes}
+use Rattle.lq_tree.specs.declared.item.Item.{Item}
 use Rattle.lq_types.specs.Nodes.{at}
 use Rattle.lq_walk.specs.Visits.{visits_of_item}
 use Rattle.lq_scoped.specs.Numbers.{nodes_of_form, binders_in}
@@ -17,7 +19,7 @@ use Rattle.lq_typings.specs.Uses.{Each, EachIn}
 use Rattle.lq_apart.specs.Laws.{slot_count, IsOf, OwnSlots}
 use Rattle.lq_annotated.specs.Laws.{IsIn, AreVariablesApart}
 use Rattle.lq_annotated.specs.Naming.{item_variables, names_in, NumbersItem}
-use Rattle.lq_annotated.specs.Numbering.{number_in, behind_items, value_or_zero, AreUnnamed}
+use Rattle.lq_annotated.specs.Numbering.{number_in, behind_items, numbers_from_zero, value_or_zero, with_numbers, AreUnnamed}
 use Rattle.lq_annotated.specs.Slots.{slot_types, AreRows}
 use Rattle.lq_annotated.proofs.Numbers.{AreOf, Ready, HasNumbers, items}
 use Rattle.lq_annotated.proofs.Types.{AllOf, from_all, to_all, all_both, all_at}
@@ -72,18 +74,26 @@ module _ (nodes slots : ℕ) (owner : ℕ → ℕ) (seen : ℕ → MlType) where
   of_slots n [] h = tt
   of_slots n (k ∷ ks) h = all_both (Of n) (variables_of (seen k)) (variables_at seen ks) (of_slot n k h.0) (of_slots n ks h.1)
 
-  are_of : (n : ℕ) (is : List ItemTree) → OwnSlots nodes slots owner n is → AreOf Of nodes seen n is
-  are_of n [] own = tt
-  are_of n (i ∷ is) own =
+  -- the slots of the first item are its own
+  first_own : (n : ℕ) (i : ItemTree) (is : List ItemTree) → OwnSlots nodes slots owner n (i ∷ is)
+      → AllOf (IsOf slots owner n) (in_order nodes i)
+  first_own n i is own =
       let P : ℕ → Type 0 = IsOf slots owner n in
       let ks = nodes_of_form i.form in
       let xs = binders_in (visits_of_item i) in
       let binders = to_mapped P nodes xs (from_all (λ x. P (nodes + x)) xs own.1) in
-      let rest = all_both P ks (map (λ x. nodes + x) xs) (from_all P ks own.0) binders in (
-        of_slots n (in_order nodes i)
-            (all_both P (own_node i.form) (ks ++ map (λ x. nodes + x) xs) (from_all P (own_node i.form) own.2) rest),
-        are_of (suc n) is own.3,
-      )
+      let rest = all_both P ks (map (λ x. nodes + x) xs) (from_all P ks own.0) binders in
+      all_both P (own_node i.form) (ks ++ map (λ x. nodes + x) xs) (from_all P (own_node i.form) own.2) rest
+
+  are_of : (n : ℕ) (is : List ItemTree) → OwnSlots nodes slots owner n is → AreOf Of nodes seen n is
+  are_of n [] own = tt
+  are_of n (i ∷ is) own = (of_slots n (in_order nodes i) (first_own n i is own), are_of (suc n) is own.3)
+
+  -- so are those of each later one
+  own_behind : (n : ℕ) (is : List ItemTree) → OwnSlots nodes slots owner n is → (k : ℕ) → (m : ℕ) × OwnSlots nodes slots owner m (drop k is)
+  own_behind n is own zero = (n, own)
+  own_behind n [] own (suc k) = (n, tt)
+  own_behind n (i ∷ is) own (suc k) = own_behind (suc n) is own.3 k
 
 value_at : (final : List (Option ℕ)) (v d k : ℕ) → number_in final v ≡ Some k → slice_index_or (map value_or_zero final) v d ≡ k
 value_at [] v d k h = absurd (none-some k h)
@@ -113,3 +123,56 @@ numbers_are s all rows owner own apart are first none =
     } in
     let done = items OfItem nodes seen differ 0 s.items first ready (are_of nodes slots owner seen 0 s.items own) in
     to_all (NumbersItem nodes seen f) s.items (done.numbers f (λ v k h. value_at final v v k h))
+
+-- ---- items, one after another
+
+abbrev views : List (Item Binder) → List ItemTree
+views = items_view Binder (λ b. b.0)
+
+-- the next item, alone and in front of the others
+next_item : (items : List (Item Binder)) (k : ℕ) → k < length items
+    → (i : ItemTree) × ((c : ℕ) → c ≡ 1 → views (take c (drop k items)) ≡ i ∷ []) × (drop k (views items) ≡ i ∷ drop (k + 1) (views items))
+next_item [] k low = absurd (omega (arith, low))
+next_item (x ∷ xs) zero low = (item_view Binder (λ b. b.0) x, (λ c e. ap (λ (m : ℕ). views (take m (x ∷ xs))) e), refl)
+next_item (x ∷ xs) (suc k) low =
+    let r = next_item xs k (omega (arith, low)) in
+    let e : suc k + 1 ≡ suc (k + 1) = omega arith in
+    (r.0, r.1, r.2 ∙ ap (λ (j : ℕ). r.0 ∷ drop j (views (x ∷ xs))) (sym e))
+
+pub record NextItem (items : List (Item Binder)) (trees : List ItemTree) (k : ℕ) : Type 0 where
+  pub item : ItemTree
+  pub alone : (c : ℕ) → c ≡ 1 → views (take c (drop k items)) ≡ item ∷ []
+  pub first : drop k trees ≡ item ∷ drop (k + 1) trees
+
+pub next_is : (items : List (Item Binder)) (trees : List ItemTree) (k : ℕ) → k < length items → views items ≡ trees → NextItem items trees k
+next_is items trees k low e =
+    let r = next_item items k low in
+    record {
+      item = r.0;
+      alone = r.1;
+      first = ap (drop k) (sym e) ∙ r.2 ∙ ap (λ (l : List ItemTree). r.0 ∷ drop (k + 1) l) e;
+    }
+
+-- its slots have types
+pub slots_in : (s : Scoping) (all : List MlType) (rows : List ℕ) (owner : ℕ → ℕ) → OwnSlots (node_count s) (slot_count s) owner 0 s.items
+    → AreRows all rows (slot_count s) → (k nodes : ℕ) (i : ItemTree) (rest : List ItemTree) → drop k s.items ≡ i ∷ rest → nodes ≡ node_count s
+    → (given slots : List ℕ) → given ≡ slots → slots ≡ in_order nodes i → All (λ j. j < length rows) given
+slots_in s all rows owner own are k nodes i rest e count given slots same is =
+    let n = node_count s in
+    let Low : ℕ → Type 0 = λ j. j < length rows in
+    let seen = slot_types all rows in
+    let later = own_behind n (slot_count s) owner seen 0 s.items own k in
+    let here = subst (OwnSlots n (slot_count s) owner later.0) e later.1 in
+    let low = weaker (IsOf (slot_count s) owner later.0) Low (λ j h. let l = h.0 in let long = are.long in omega (arith, l, long))
+    (in_order n i) (first_own n (slot_count s) owner seen later.0 i rest here) in
+    subst (All Low) (sym (same ∙ is ∙ ap (λ (m : ℕ). in_order m i) count)) (to_all Low (in_order n i) low)
+
+pub item_next : (s : Scoping) (types : ℕ → MlType) (old new whole : List (Option ℕ)) (k nodes : ℕ) (i : ItemTree) (rest : List ItemTree)
+    → drop k s.items ≡ i ∷ rest → nodes ≡ node_count s → (given slots : List ℕ) → given ≡ slots → slots ≡ in_order nodes i
+    → new ≡ (with_numbers (numbers_from_zero old) (variables_at types given)).names → behind_items (node_count s) types old (drop k s.items) ≡ whole
+    → behind_items (node_count s) types new rest ≡ whole
+item_next s types old new whole k nodes i rest e count given slots same is named goes =
+    let n = node_count s in
+    let after : List ℕ → List (Option ℕ) = λ ks. (with_numbers (numbers_from_zero old) (variables_at types ks)).names in
+    ap (λ (l : List (Option ℕ)). behind_items n types l rest) (named ∙ ap after (same ∙ is ∙ ap (λ (m : ℕ). in_order m i) count))
+    ∙ sym (ap (behind_items n types old) e) ∙ goes
