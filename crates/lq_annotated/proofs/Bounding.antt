@@ -1,6 +1,6 @@
 -- The number past the last variable of a type, from those of its parts.
 use Rattle.std.specs.Prelude.{max, All, slice_index_or}
-use Rattle.std.proofs.Common.{◌≡◌, ℕ, zero, suc, ◌+◌, ◌<◌, ◌++◌, map, take, drop, get_or, drop-cons, List, [], ◌∷◌, length, inl, inr, refl, sym, ap, ap₂, subst, ◌∙◌, arith}
+use Rattle.std.proofs.Common.{◌≡◌, ℕ, suc, ◌+◌, ◌<◌, ◌++◌, map, take, drop, get_or, drop-cons, List, [], ◌∷◌, length, inl, inr, refl, sym, ap, ap₂, subst, ◌∙◌, arith}
 use Rattle.lq_tree.specs.MlType as ml
 use Rattle.lq_tree.specs.MlType.{MlType}
 use Rattle.lq_types.specs.declared.type_node.TypeHead.{TypeHead}

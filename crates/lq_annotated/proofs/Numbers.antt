@@ -1,15 +1,14 @@
 -- Numbers that are given one after another number the variables of each item, where no variable is of two.
-use Rattle.std.specs.Prelude.{All, slice_index_or}
+use Rattle.std.specs.Prelude.{slice_index_or}
 use Rattle.std.proofs.Common.{◌≡◌, ℕ, zero, suc, ◌+◌, ◌<◌, ◌≤◌, List, [], ◌∷◌, ◌++◌, length, map, set, drop, Option, Some, None, ◌⊎◌, inl, inr, refl, sym, ap, subst, ◌∙◌, arith}
 use Rattle.std.proofs.lemmas.Bool.{cases_eq}
 use Rattle.std.proofs.lemmas.List.{length-set, length_push, get_or-set_same, get_or-set_other, get_or_append_left, get_or_push}
-use Rattle.std.proofs.lemmas.List.Elements.{All-nil, All-cons}
 use Rattle.std.proofs.lemmas.Option.{none-some, same_Some}
 use Rattle.lq_tree.specs.Items.{ItemTree}
 use Rattle.lq_tree.specs.MlType.{MlType}
 use Rattle.lq_typings.specs.Principal.{AreNumbered, variables_of, variables_at}
 use Rattle.lq_annotated.specs.Naming.{item_variables, NumbersItem}
-use Rattle.lq_annotated.specs.Numbering.{Numbers, number_in, numbered_by, with_number, with_numbers, behind_item, behind_items}
+use Rattle.lq_annotated.specs.Numbering.{Numbers, number_in, numbered_by, with_number, with_numbers, behind_items}
 use Rattle.lq_annotated.proofs.Types.{AllOf, to_all}
 
 -- a number stays

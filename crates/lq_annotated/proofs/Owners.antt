@@ -1,16 +1,15 @@
 -- The numbers of a program's variables, where each is of one item.
 use Rattle.std.specs.List.{list_any}
-use Rattle.std.specs.Prelude.{All, ◌||◌, ◌==◌, slice_index_or}
-use Rattle.std.proofs.Common.{◌≡◌, ℕ, zero, suc, ◌+◌, ◌<◌, List, [], ◌∷◌, ◌++◌, length, map, take, drop, Option, Some, None, refl, sym, ap, subst, ◌∙◌, arith}
+use Rattle.std.specs.Prelude.{All, ◌==◌, slice_index_or}
+use Rattle.std.proofs.Common.{◌≡◌, ℕ, zero, suc, ◌+◌, ◌<◌, List, [], ◌∷◌, ◌++◌, length, map, take, drop, Option, Some, refl, sym, ap, subst, ◌∙◌, arith}
 use Rattle.std.proofs.lemmas.Bool.{or_left, or_right, eq-eqb}
 use Rattle.std.proofs.lemmas.List.Elements.{All-get_or}
-use Rattle.std.proofs.lemmas.Option.{none-some, same_Some}
+use Rattle.std.proofs.lemmas.Option.{none-some}
 use Rattle.lq_name.specs.declared.name.Binder.{Binder}
 use Rattle.lq_tree.specs.Items.{ItemTree, item_view, items_view}
 use Rattle.lq_tree.specs.MlType as ml
 use Rattle.lq_tree.specs.MlType.{MlType, MlTypes}
 use Rattle.lq_tree.specs.declared.item.Item.{Item}
-use Rattle.lq_types.specs.Nodes.{at}
 use Rattle.lq_walk.specs.Visits.{visits_of_item}
 use Rattle.lq_scoped.specs.Numbers.{nodes_of_form, binders_in}
 use Rattle.lq_scoped.specs.Scoping.{Scoping}
@@ -18,10 +17,10 @@ use Rattle.lq_typings.specs.Principal.{node_count, variables_of, variables_in, v
 use Rattle.lq_typings.specs.Uses.{Each, EachIn}
 use Rattle.lq_apart.specs.Laws.{slot_count, IsOf, OwnSlots}
 use Rattle.lq_annotated.specs.Laws.{IsIn, AreVariablesApart}
-use Rattle.lq_annotated.specs.Naming.{item_variables, names_in, NumbersItem}
+use Rattle.lq_annotated.specs.Naming.{names_in, NumbersItem}
 use Rattle.lq_annotated.specs.Numbering.{number_in, behind_items, numbers_from_zero, value_or_zero, with_numbers, AreUnnamed}
 use Rattle.lq_annotated.specs.Slots.{slot_types, AreRows}
-use Rattle.lq_annotated.proofs.Numbers.{AreOf, Ready, HasNumbers, items}
+use Rattle.lq_annotated.proofs.Numbers.{AreOf, Ready, items}
 use Rattle.lq_annotated.proofs.Types.{AllOf, from_all, to_all, all_both, all_at}
 
 module _ (P Q : ℕ → Type 0) where

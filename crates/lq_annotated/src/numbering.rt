@@ -278,11 +278,7 @@ fn push_bound(
 
 // The slots of binders that a pattern binds, from left to right.
 #[cycle(binders)]
-fn push_binders(
-    slots: &mut Vec<usize>,
-    nodes: u32,
-    pattern: &Pat<Binder>,
-) -> Result<(), AllocError>
+fn push_binders(slots: &mut Vec<usize>, nodes: u32, pattern: &Pat<Binder>) -> Result<(), AllocError>
     ensures { OnOk result (slots.new.items ≡ slots.old.items
         ++ map (λ x. nodes + x) (bound_in (pat_view Binder (λ b. b.0) pattern.now))) }
 {
@@ -290,11 +286,7 @@ fn push_binders(
 }
 
 #[cycle(binders)]
-fn push_form(
-    slots: &mut Vec<usize>,
-    nodes: u32,
-    form: &PatNode<Binder>,
-) -> Result<(), AllocError>
+fn push_form(slots: &mut Vec<usize>, nodes: u32, form: &PatNode<Binder>) -> Result<(), AllocError>
     ensures { OnOk result (slots.new.items ≡ slots.old.items
         ++ map (λ x. nodes + x) (bound_in_form (pat_form_view Binder (λ b. b.0) form.now))) }
 {
