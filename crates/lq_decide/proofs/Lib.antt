@@ -1,1 +1,7 @@
 pub mod Applications
+pub mod Chains
+pub mod Places
+pub mod Longer
+pub mod Rows
+pub mod Sides
+pub mod Joining

@@ -1,3 +1,5 @@
 pub mod Case
 pub mod CaseView
 pub mod Deciding
+pub mod Naming
+pub mod Equating

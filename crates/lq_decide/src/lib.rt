@@ -1,9 +1,15 @@
 //! Cases: literals in order, with the table that numbers the terms of their rows.
 #![tactic(auto)]
 
+mod application;
+mod chain;
+mod equating;
 mod fact;
 mod laws;
 mod literals;
+mod objects;
+mod searching;
+mod taking;
 
 pub use fact::{Fact, Facts};
 pub use laws::proved_cases_have_no_point;

@@ -1,0 +1,121 @@
+// The objects of which a case speaks.
+ghost use Rattle.std.specs.Prelude.{◌≡◌, ◌<◌, [], ◌∷◌, ◌++◌, true, Some, IfOk, OnOk, length, map, slice_get};
+ghost use Rattle.lq_decide.specs.Case.{fact_of};
+ghost use Rattle.lq_decide.specs.Naming.{HasAllArguments, HasAllSides, HasArgument, HasSides, Keeps, objects_of};
+ghost use Rattle.lq_pred.specs.Table.{has_term, with_term};
+ghost use Rattle.lq_pred.specs.TableView.{terms_of};
+ghost use Rattle.lq_pred.specs.TermView.{sum_of};
+
+use crate::fact::Fact;
+use indexmap::IndexSet;
+use lq_pred::{Term, TermTable};
+use std::alloc::{AllocError, Global};
+
+/// Objects, numbered from 0 by their first appearance.
+#[derive(Drop)]
+pub(crate) struct ObjectTable {
+    terms: IndexSet<Term>,
+}
+
+impl ObjectTable {
+    fn new(alloc: Global) -> ObjectTable
+        ensures { objects_of result ≡ [] }
+    {
+        ObjectTable {
+            terms: IndexSet::new(alloc),
+        }
+    }
+
+    /// How many objects there are.
+    pub(crate) fn len(&self) -> usize
+        ensures { result ≡ length (objects_of self.now) }
+    {
+        self.terms.len()
+    }
+
+    /// Adds an object that may be there.
+    fn add(&mut self, alloc: Global, object: &Term) -> Result<(), AllocError>
+        ensures { OnOk result (objects_of self.new ≡ with_term (objects_of self.old) (sum_of object.now)) }
+    {
+        if self.terms.get_index_of(object).is_none() {
+            self.terms.insert(object.copy(alloc)?)?;
+        }
+        Ok(())
+    }
+
+    /// The number of an object.
+    pub(crate) fn number(&self, object: &Term) -> u64
+        requires { has_term (objects_of self.now) (sum_of object.now) ≡ true }
+        ensures { slice_get (objects_of self.now) result ≡ Some (sum_of object.now) }
+    {
+        match self.terms.get_index_of(object) {
+            Some(at) => at as u64,
+            None => unreachable!(),
+        }
+    }
+}
+
+/// Adds the objects of a literal.
+fn add_sides(alloc: Global, fact: &Fact, objects: &mut ObjectTable) -> Result<(), AllocError>
+    ensures keeps { OnOk result (Keeps (objects_of objects.old) (objects_of objects.new)) }
+    ensures has { OnOk result (HasSides (objects_of objects.new) (fact_of fact.now)) }
+{
+    match fact {
+        Fact::Row(_) | Fact::Flag(_, _) => Ok(()),
+        Fact::Same(left, right, _) => {
+            objects.add(alloc, left)?;
+            objects.add(alloc, right)
+        }
+    }
+}
+
+/// Adds the object of which a term is the length or a measure.
+fn add_argument(alloc: Global, term: &Term, objects: &mut ObjectTable) -> Result<(), AllocError>
+    ensures keeps { OnOk result (Keeps (objects_of objects.old) (objects_of objects.new)) }
+    ensures has { OnOk result (HasArgument (objects_of objects.new) (sum_of term.now)) }
+{
+    match term {
+        Term::Length(object) | Term::Measure(_, object) => objects.add(alloc, object),
+        _ => Ok(()),
+    }
+}
+
+/// Adds the objects of which terms are lengths or measures.
+fn add_arguments(
+    alloc: Global,
+    table: &TermTable,
+    objects: &mut ObjectTable,
+) -> Result<(), AllocError>
+    ensures keeps { OnOk result (Keeps (objects_of objects.old) (objects_of objects.new)) }
+    ensures has { OnOk result (HasAllArguments (objects_of objects.new) (terms_of table.now)) }
+{
+    for at in 0..table.len() {
+        add_argument(alloc, table.term(at), objects)?;
+    }
+    Ok(())
+}
+
+/// The objects of literals.
+fn sides_of(alloc: Global, facts: &[Fact]) -> Result<ObjectTable, AllocError>
+    ensures { IfOk result (λ objects. HasAllSides (objects_of objects) (map fact_of facts.now)) }
+{
+    let mut objects = ObjectTable::new(alloc);
+    for fact in facts {
+        add_sides(alloc, fact, &mut objects)?;
+    }
+    Ok(objects)
+}
+
+/// The objects of literals, and those of which terms are lengths or measures.
+pub(crate) fn case_objects(
+    alloc: Global,
+    facts: &[Fact],
+    table: &TermTable,
+) -> Result<ObjectTable, AllocError>
+    ensures sides { IfOk result (λ objects. HasAllSides (objects_of objects) (map fact_of facts.now)) }
+    ensures arguments { IfOk result (λ objects. HasAllArguments (objects_of objects) (terms_of table.now)) }
+{
+    let mut objects = sides_of(alloc, facts)?;
+    add_arguments(alloc, table, &mut objects)?;
+    Ok(objects)
+}

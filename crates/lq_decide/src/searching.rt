@@ -1,0 +1,65 @@
+// A case without a point has a proof tree.
+ghost use Rattle.std.specs.Prelude.{◌≡◌, [], IfOk, IfSome, length};
+ghost use Rattle.lq_case.specs.PathState.{facts_in};
+ghost use Rattle.lq_case.specs.RowState.{terms_of as row_terms};
+ghost use Rattle.lq_combine.specs.Proves.{Proves};
+ghost use Rattle.lq_combine.specs.Tree.{leaf};
+ghost use Rattle.lq_combine.specs.TreeView.{clash_of, tree_view};
+ghost use Rattle.lq_decide.specs.Case.{path_of};
+ghost use Rattle.lq_decide.specs.CaseView.{case_of};
+ghost use Rattle.lq_decide.specs.Deciding.{IsChainOfEquals};
+ghost use Rattle.lq_decide.specs.Equating.{around, numbering_by};
+ghost use Rattle.lq_decide.specs.Naming.{AllBelow, HasAllArguments, HasAllSides, name_in, objects_of};
+ghost use Rattle.lq_pred.specs.TableView.{terms_of};
+
+use crate::chain::{Joint, wrapped};
+use crate::equating::equate_all;
+use crate::literals::Literals;
+use crate::objects::ObjectTable;
+use crate::taking::take_facts;
+use lq_case::PathState;
+use lq_combine::{CaseProof, ProofTree};
+use lq_linear::LinearStop;
+use std::alloc::{AllocError, Global};
+
+/// The tree of a clash behind these nodes.
+fn refutation(alloc: Global, joints: Vec<Joint>, clash: CaseProof) -> Result<ProofTree, LinearStop>
+    ensures { IfOk result (λ tree. tree_view tree ≡ around joints.items (leaf (clash_of clash))) }
+{
+    match wrapped(alloc, joints, ProofTree::Leaf(clash)) {
+        Ok(tree) => Ok(tree),
+        Err(AllocError) => Err(LinearStop::Memory),
+    }
+}
+
+/// A proof tree of a case, where the state that takes its literals has no values for them.
+pub(crate) fn refute(
+    alloc: Global,
+    literals: &Literals,
+    objects: &ObjectTable,
+    state: &mut PathState,
+) -> Result<Option<ProofTree>, LinearStop>
+    requires empty { facts_in (name_in (objects_of objects.now)) state.old ≡ [] }
+    requires sides { HasAllSides (objects_of objects.now) (case_of literals.now).facts }
+    requires arguments { HasAllArguments (objects_of objects.now) (case_of literals.now).terms }
+    requires below { AllBelow (row_terms state.old.rows) (case_of literals.now).facts }
+    requires count { state.old.objects.count ≡ length (objects_of objects.now) }
+    requires terms { row_terms state.old.rows ≡ length (case_of literals.now).terms }
+    ensures tree { IfOk result (λ found. IfSome found (λ t. Proves (numbering_by (case_of literals.now).terms)
+        (path_of (case_of literals.now)) (tree_view t))) }
+    ensures form { IfOk result (λ found. IfSome found (λ t. IsChainOfEquals (tree_view t))) }
+{
+    let table = literals.table();
+    let _count = table.len();
+    if let Some(clash) = take_facts(state, objects, literals.facts().as_slice())? {
+        return Ok(Some(ProofTree::Leaf(clash)));
+    }
+    let (joints, found) = equate_all(alloc, state, objects, table)?;
+    if let Some(clash) = found {
+        return Ok(Some(refutation(alloc, joints, clash)?));
+    }
+    match state.check()? {
+        Some(clash) => Ok(Some(refutation(alloc, joints, clash)?)),
+        None => Ok(None),
+    }
+}

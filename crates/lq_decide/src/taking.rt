@@ -1,0 +1,72 @@
+// The literals of a case are taken as facts of a path.
+ghost use Rattle.std.specs.Prelude.{◌≡◌, [], ◌∷◌, ◌++◌, IfOk, IfNone, IfSome, OnOk, length, map};
+ghost use Rattle.lq_case.specs.PathState.{facts_in};
+ghost use Rattle.lq_case.specs.RowState.{terms_of};
+ghost use Rattle.lq_combine.specs.Proves.{Clashes};
+ghost use Rattle.lq_combine.specs.TreeView.{clash_of};
+ghost use Rattle.lq_decide.specs.Case.{fact_of};
+ghost use Rattle.lq_decide.specs.Naming.{AllBelow, HasAllSides, HasSides, IsBelow, name_in, objects_of};
+
+use crate::fact::Fact;
+use crate::objects::ObjectTable;
+use lq_case::PathState;
+use lq_combine::CaseProof;
+use lq_linear::LinearStop;
+use std::alloc::AllocError;
+
+/// Takes a literal as the next fact. A clash with it is the answer.
+fn take_fact(
+    state: &mut PathState,
+    objects: &ObjectTable,
+    fact: &Fact,
+) -> Result<Option<CaseProof>, LinearStop>
+    requires sides { HasSides (objects_of objects.now) (fact_of fact.now) }
+    requires below { IsBelow (terms_of state.old.rows) (fact_of fact.now) }
+    requires count { state.old.objects.count ≡ length (objects_of objects.now) }
+    ensures stands { OnOk result (facts_in (name_in (objects_of objects.now)) state.new
+        ≡ facts_in (name_in (objects_of objects.now)) state.old ++ fact_of fact.now ∷ []) }
+    ensures limits { (terms_of state.new.rows ≡ terms_of state.old.rows)
+        × (state.new.rows.pivots ≡ state.old.rows.pivots) × (state.new.objects.count ≡ state.old.objects.count) }
+    ensures clash { IfOk result (λ clash. IfSome clash (λ p.
+        Clashes (facts_in (name_in (objects_of objects.now)) state.new) (clash_of p))) }
+{
+    match fact {
+        Fact::Row(row) => state.take_row(row),
+        Fact::Flag(flag, value) => match state.take_flag(*flag, *value) {
+            Ok(clash) => Ok(clash),
+            Err(AllocError) => Err(LinearStop::Memory),
+        },
+        Fact::Same(left, right, one) => {
+            let left = objects.number(left);
+            let right = objects.number(right);
+            match state.take_same(left, right, *one) {
+                Ok(clash) => Ok(clash),
+                Err(AllocError) => Err(LinearStop::Memory),
+            }
+        }
+    }
+}
+
+/// Takes the literals in order. Where some of the first ones clash, this is the answer, and the others aren't taken.
+pub(crate) fn take_facts(
+    state: &mut PathState,
+    objects: &ObjectTable,
+    facts: &[Fact],
+) -> Result<Option<CaseProof>, LinearStop>
+    requires empty { facts_in (name_in (objects_of objects.now)) state.old ≡ [] }
+    requires sides { HasAllSides (objects_of objects.now) (map fact_of facts.now) }
+    requires below { AllBelow (terms_of state.old.rows) (map fact_of facts.now) }
+    requires count { state.old.objects.count ≡ length (objects_of objects.now) }
+    ensures stands { IfOk result (λ clash. IfNone clash (facts_in (name_in (objects_of objects.now)) state.new
+        ≡ map fact_of facts.now)) }
+    ensures limits { (terms_of state.new.rows ≡ terms_of state.old.rows)
+        × (state.new.rows.pivots ≡ state.old.rows.pivots) × (state.new.objects.count ≡ state.old.objects.count) }
+    ensures clash { IfOk result (λ clash. IfSome clash (λ p. Clashes (map fact_of facts.now) (clash_of p))) }
+{
+    for fact in facts {
+        if let Some(clash) = take_fact(state, objects, fact)? {
+            return Ok(Some(clash));
+        }
+    }
+    Ok(None)
+}
