@@ -1,5 +1,5 @@
 -- Nodes around a tree, one more at a time.
-use Rattle.std.proofs.Common.{◌≡◌, ℕ, List, [], ◌∷◌, ◌++◌, Some, refl, sym, ap, subst}
+use Rattle.std.proofs.Common.{◌≡◌, List, [], ◌∷◌, ◌++◌, Some, refl, sym, ap, subst}
 use Rattle.lq_combine.specs.Path.{Fact, row_fact, Path, numbered_at}
 use Rattle.lq_combine.specs.Proves.{Numbering, AreJoined, ApplyOne, Clashes, Proves, by_equal, by_clash}
 use Rattle.lq_combine.specs.Tree.{Clash, Tree, equal, leaf}

@@ -1,5 +1,5 @@
 -- Two applications of one function of one object make a node.
-use Rattle.std.proofs.Common.{◌≡◌, ℕ, zero, suc, ◌+◌, pos, negsuc, ◌<◌, ◌≤◌, ◌&&◌, ◌==◌, List, [], ◌∷◌, ◌++◌, Bool, true, false, cond, Option, Some, None, length, refl, sym, ap, subst, ◌∙◌, arith, slice_get}
+use Rattle.std.proofs.Common.{◌≡◌, ℕ, suc, ◌+◌, pos, negsuc, ◌<◌, ◌≤◌, ◌&&◌, ◌==◌, List, [], ◌∷◌, ◌++◌, Bool, true, false, cond, Option, Some, None, length, refl, sym, ap, subst, ◌∙◌, arith, slice_get}
 use Rattle.std.specs.List.{filter}
 use Rattle.std.specs.Map.{lookup}
 use Rattle.std.specs.Option.{option_eq, IfSome, is_some}
@@ -14,7 +14,7 @@ use Rattle.lq_literals.specs.Parts.{is_application, places_from}
 use Rattle.lq_name.specs.declared.name.Name.{Name}
 use Rattle.lq_pred.specs.Comparison.{IsRowOf}
 use Rattle.lq_pred.specs.Literals.{equal_row}
-use Rattle.lq_pred.specs.Sum.{Sum, len, measure}
+use Rattle.lq_pred.specs.Sum.{Sum}
 use Rattle.lq_pred.specs.Table.{all_differ}
 use Rattle.lq_decide.specs.Equating.{AreFirsts, IsApplication, IsFirst, applied, numbering_by}
 use Rattle.lq_decide.specs.Naming.{name_in, term_or}
@@ -23,7 +23,7 @@ use Rattle.lq_decide.specs.declared.application.Application.{Application}
 use Rattle.lq_decide.specs.declared.application.FunctionAt.{FunctionAt}
 use Rattle.lq_decide.specs.declared.chain.Joint.{Joint}
 use Rattle.lq_decide.proofs.Chains.{IsJoint}
-use Rattle.lq_decide.proofs.Places.{IsPlace, place_at, place_rises}
+use Rattle.lq_decide.proofs.Places.{place_at, place_rises}
 use Rattle.lq_decide.proofs.Rows.{is_row_of}
 
 -- an application is there under its number

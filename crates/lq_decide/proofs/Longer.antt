@@ -1,7 +1,7 @@
 -- A clash of the first facts is one of all.
 use Rattle.std.proofs.Common.{◌≡◌, ℕ, suc, List, [], ◌∷◌, ◌++◌, Bool, true, false, Some, ◌==◌, if◌then◌else◌, ◌+◌, map, take, sym, ap, subst, ◌∙◌}
 use Rattle.std.proofs.lemmas.List.{map-append}
-use Rattle.lq_case.proofs.Evidence.{AreFound, contradiction_more}
+use Rattle.lq_case.proofs.Evidence.{contradiction_more}
 use Rattle.lq_case.proofs.Giving.{numbered_more}
 use Rattle.lq_combine.specs.Path.{Fact, row_fact, flag_fact, objects_fact, never}
 use Rattle.lq_combine.specs.Proves.{AreJoined, itself, onward, backward, Clashes, rows_clash, flags_clash, merges_clash, rows_from, rows_among}

@@ -1,5 +1,5 @@
 -- The places of the applications among the terms.
-use Rattle.std.proofs.Common.{◌≡◌, ℕ, zero, suc, ◌+◌, ◌<◌, ◌≤◌, List, [], ◌∷◌, Bool, true, false, Some, cond, refl, ap, sym, ◌∙◌, arith, if◌then◌else◌, slice_get}
+use Rattle.std.proofs.Common.{◌≡◌, ℕ, zero, suc, ◌+◌, ◌<◌, List, [], ◌∷◌, Bool, true, false, Some, cond, refl, arith, if◌then◌else◌, slice_get}
 use Rattle.std.specs.List.{filter}
 use Rattle.lq_literals.specs.Parts.{is_application, places_from}
 use Rattle.lq_pred.specs.Sum.{Sum}

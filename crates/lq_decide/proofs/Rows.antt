@@ -1,16 +1,16 @@
 -- The row that two applications of one function are equal.
-use Rattle.std.proofs.Common.{◌≡◌, ◌≢◌, ℕ, suc, ℤ, pos, negsuc, ◌-ℤ◌, ◌+ℤ◌, ◌<◌, ◌≤◌, List, [], ◌∷◌, Bool, true, false, Option, Some, None, ◌==◌, if◌then◌else◌, length, refl, sym, ap, ap₂, subst, ◌∙◌, arith, slice_get}
+use Rattle.std.proofs.Common.{◌≡◌, ◌≢◌, ℕ, pos, negsuc, ◌-ℤ◌, ◌+ℤ◌, ◌<◌, ◌≤◌, List, [], ◌∷◌, Bool, true, false, Option, Some, None, ◌==◌, if◌then◌else◌, length, refl, sym, ap, ap₂, ◌∙◌, arith, slice_get}
 use Rattle.std.proofs.lemmas.Bool.{eq-eqb, ne_eqb}
 use Rattle.std.proofs.lemmas.List.Elements.{All-nil, All-cons}
 use Rattle.std.proofs.lemmas.Option.{slice_get_within}
-use Rattle.lq_linear.specs.Row.{Row, IsRow}
+use Rattle.lq_linear.specs.Row.{IsRow}
 use Rattle.lq_name.specs.declared.name.Name.{Name}
-use Rattle.lq_pred.specs.Comparison.{IsRowOf, entry}
+use Rattle.lq_pred.specs.Comparison.{IsRowOf}
 use Rattle.lq_pred.specs.LinearForm.{coefficient, constant_of, one_at}
 use Rattle.lq_pred.specs.Literals.{equal_row}
 use Rattle.lq_pred.specs.Numbering.{index_of-absent, index_of-slice_get, slice_get-index_of}
-use Rattle.lq_pred.specs.SameLaws.{same-is, same-from, same-refl}
-use Rattle.lq_pred.specs.Sum.{Sum, same, len, measure}
+use Rattle.lq_pred.specs.SameLaws.{same-is, same-from}
+use Rattle.lq_pred.specs.Sum.{Sum, same}
 use Rattle.lq_pred.specs.Table.{all_differ, has_term, index_of}
 use Rattle.lq_decide.specs.Equating.{applied}
 

@@ -1,13 +1,11 @@
 -- Objects that are there, as more come.
-use Rattle.std.proofs.Common.{Result, Ok, Err, OnOk, ◌≡◌, ℕ, zero, suc, ◌+◌, ◌<◌, ◌≤◌, List, [], ◌∷◌, ◌++◌, Bool, true, false, Some, Option, None, if◌then◌else◌, length, map, take, get_or, slice_get, refl, sym, ap, subst, ◌∙◌, arith}
+use Rattle.std.proofs.Common.{Result, Ok, Err, OnOk, ◌≡◌, ℕ, zero, suc, ◌+◌, ◌<◌, List, [], ◌∷◌, ◌++◌, Bool, true, false, Some, if◌then◌else◌, length, map, take, get_or, slice_get, refl, sym, ap, subst, ◌∙◌, arith}
 use Rattle.std.proofs.lemmas.List.{map-append, take_more}
 use Rattle.lq_combine.specs.Path.{Fact, row_fact, flag_fact, objects_fact, never}
 use Rattle.lq_pred.specs.Numbering.{has_term-append, has_term-with_term}
 use Rattle.lq_pred.specs.Sum.{Sum, whole, var, neg, add, sub, mul, div, rem, len, measure}
 use Rattle.lq_pred.specs.Table.{has_term, with_term}
-use Rattle.lq_decide.specs.Case.{fact_of}
-use Rattle.lq_decide.specs.Naming.{HasSides, HasArgument, HasAllSides, HasAllArguments, Keeps, IsBelow, AllBelow}
-use Rattle.lq_decide.specs.declared.fact.Fact.{Fact as CodeFact}
+use Rattle.lq_decide.specs.Naming.{HasSides, HasArgument, HasAllSides, HasAllArguments, Keeps}
 
 pub keeps_with : (os : List Sum) (a : Sum) → Keeps os (with_term os a)
 keeps_with os a = λ t h. by t h (has_term os a)

@@ -1,5 +1,5 @@
 -- Objects by their numbers, and which objects a case speaks of.
-use Rattle.std.specs.Prelude.{◌≡◌, ℕ, pos, true, List, [], ◌∷◌, Option, Some, None, map, slice_get}
+use Rattle.std.specs.Prelude.{◌≡◌, ℕ, pos, true, List, Option, Some, None, map, slice_get}
 use Rattle.lq_combine.specs.Path.{Fact, row_fact, flag_fact, objects_fact, never}
 use Rattle.lq_decide.specs.declared.objects.ObjectTable.{ObjectTable}
 use Rattle.lq_linear.specs.Difference.{TermsBelow}

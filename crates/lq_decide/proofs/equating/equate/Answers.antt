@@ -1,4 +1,4 @@
-use Rattle.std.proofs.Common.{◌≡◌, ◌∷◌, [], ◌++◌, ◌+◌, ◌<◌, refl, sym, subst, arith}
+use Rattle.std.proofs.Common.{◌∷◌, [], ◌++◌, ◌+◌, refl, sym, subst}
 use Rattle.lq_case.specs.PathState.{facts_in}
 use Rattle.lq_case.specs.RowState.{terms_of as row_terms}
 use Rattle.lq_combine.specs.Path.{row_fact}

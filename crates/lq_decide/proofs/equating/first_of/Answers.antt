@@ -1,4 +1,4 @@
-use Rattle.std.proofs.Common.{◌≡◌, ◌∙◌, suc, refl, sym, subst, arith}
+use Rattle.std.proofs.Common.{◌∙◌, suc, refl, sym, subst, arith}
 use Rattle.indexmap.proofs.CallerLemmas.{insert_entry-new}
 use Rattle.lq_decide.specs.Equating.{AreFirsts}
 use Rattle.lq_decide.specs.declared.application.FunctionAt.{FunctionAt}
