@@ -1,8 +1,8 @@
 -- Texts that are not judged, and the lines on refusals.
 use Rattle.std.proofs.Common.{◌≡◌, ◌⊎◌, inl, inr, ℕ, List, length, Some, None, Result, Ok, Err, refl, sym, ap, subst, ◌∙◌}
 use Rattle.lq_annotated.specs.Errors.{HasTypeError}
-use Rattle.lq_annotated.specs.declared.error.TypeError.{TypeError}
-use Rattle.lq_annotated.specs.declared.error.TypeError.TheVariants as typing
+use Rattle.lq_annotated.specs.declared.errors.TypeError.{TypeError}
+use Rattle.lq_annotated.specs.declared.errors.TypeError.TheVariants as typing
 use Rattle.lq_lex.specs.Places.{place_at}
 use Rattle.lq_lex.specs.Reading.{IsTokens, HasFault}
 use Rattle.lq_lex.specs.declared.error.LexError.{LexError}

@@ -1,8 +1,8 @@
 -- The stages in which a text is judged: its tokens, its trees, these with their names bound, their types, and its straight-line items.
 use Rattle.std.specs.Prelude.{◌≡◌, ◌++◌, codes, ℕ, List, length, Option, Some, None, Result, Ok, Err}
 use Rattle.lq_action.specs.Value as value
-use Rattle.lq_annotated.specs.declared.error.TypeError.{TypeError}
-use Rattle.lq_annotated.specs.declared.error.TypeError.TheVariants as typing
+use Rattle.lq_annotated.specs.declared.errors.TypeError.{TypeError}
+use Rattle.lq_annotated.specs.declared.errors.TypeError.TheVariants as typing
 use Rattle.lq_lex.specs.Places.{place_at}
 use Rattle.lq_lex.specs.Reading.{IsTokens, HasFault}
 use Rattle.lq_lex.specs.declared.error.LexError.{LexError}
