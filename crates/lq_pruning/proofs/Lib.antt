@@ -1,0 +1,5 @@
+pub mod Items
+pub mod Numbers
+pub mod Taking
+pub mod Clashing
+pub mod Pruned
