@@ -1,0 +1,4 @@
+pub mod Literals
+pub mod Meeting
+pub mod Readings
+pub mod SearchPath

@@ -1,0 +1,13 @@
+//! Paths of a search: readings that are taken as facts and choices.
+#![tactic(auto)]
+
+mod choice;
+mod literal;
+mod meeting;
+mod numbering;
+mod taking;
+
+pub use choice::Choice;
+pub use meeting::{meets, meets_any};
+pub use numbering::number_of;
+pub use taking::take;

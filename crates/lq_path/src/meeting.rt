@@ -1,0 +1,145 @@
+// What is known to hold at the values of a path.
+ghost use Rattle.std.specs.Prelude.{◌≡◌, ◌==◌, List, true, pos, IfOk, IsTrue, MatchBool, length, map};
+ghost use Rattle.lq_case.specs.RowState.{is_solved, row_point, terms_of};
+ghost use Rattle.lq_linear.specs.Row.{RowHolds, level};
+ghost use Rattle.lq_math.specs.Rational.{whole};
+ghost use Rattle.lq_math.specs.RationalOrder.{◌≤ℚ◌};
+ghost use Rattle.lq_num.specs.Value.{value_of};
+ghost use Rattle.lq_pred.specs.NnfView.{nnf_view, nnfs_view};
+ghost use Rattle.lq_pred.specs.Points.{Point};
+ghost use Rattle.lq_pred.specs.RowMeaning.{MeetsAllRows, MeetsAnyRow, MeetsRows};
+ghost use Rattle.lq_pred.specs.Sum.{Sum};
+ghost use Rattle.lq_pred.specs.Table.{has_term};
+ghost use Rattle.lq_pred.specs.TermView.{sum_of};
+ghost use Rattle.lq_path.specs.Meeting.{IsAt};
+ghost use Rattle.lq_path.specs.Readings.{AreOver, IsOver};
+
+use crate::numbering::number_of;
+use indexmap::IndexSet;
+use lq_case::PathState;
+use lq_linear::LinearRow;
+use lq_num::{Frac, NumberPast};
+use lq_pred::{Nnf, Nnfs, Symbol, Term};
+use std::cmp::Ordering;
+
+/// The sum and the constant of a row at the values.
+fn level_at(state: &PathState, row: &LinearRow) -> Result<Frac, NumberPast>
+    requires { is_solved state.now.rows ≡ true }
+    ensures { IfOk result (λ f. value_of f ≡ level (row_point state.now.rows) row.now) }
+{
+    let mut total = Frac::whole(0);
+    for (term, coefficient) in row.parts() {
+        let product = Frac::whole(*coefficient).mul(&state.value(*term))?;
+        total = total.add(&product)?;
+    }
+    total.add(&Frac::whole(row.constant()))
+}
+
+/// Whether a row with this level holds.
+fn is_met(level: &Frac, equal: bool) -> bool
+    ensures { IsTrue result → MatchBool equal (value_of level.now ≡ whole (pos 0))
+        (value_of level.now ≤ℚ whole (pos 0)) }
+{
+    match level.cmp(&Frac::whole(0)) {
+        Ordering::Less => !equal,
+        Ordering::Equal => true,
+        Ordering::Greater => false,
+    }
+}
+
+/// Whether a row is known to hold at the values. It isn't known where an operation has no form of 128 bits.
+fn row_holds(state: &PathState, row: &LinearRow) -> bool
+    requires { is_solved state.now.rows ≡ true }
+    ensures { IsTrue result → RowHolds (row_point state.now.rows) row.now }
+{
+    match level_at(state, row) {
+        Ok(level) => is_met(&level, row.equal()),
+        Err(_) => false,
+    }
+}
+
+/// Whether a flag has a value. A flag that no fact gives one is false.
+fn flag_holds(state: &PathState, flag: Symbol, value: bool) -> bool
+    ensures { (objects : List Sum) (p : Point) → IsAt objects state.now p → IsTrue result → p.holds flag ≡ value }
+{
+    let known = match state.flag(flag) {
+        Some(given) => given.value,
+        None => false,
+    };
+    known == value
+}
+
+/// Whether two objects are one, or whether they aren't.
+fn same_holds(
+    state: &PathState,
+    objects: &IndexSet<Term>,
+    left: &Term,
+    right: &Term,
+    one: bool,
+) -> bool
+    requires left_in { has_term (map sum_of objects.now.keys) (sum_of left.now) ≡ true }
+    requires right_in { has_term (map sum_of objects.now.keys) (sum_of right.now) ≡ true }
+    requires count { state.now.objects.count ≡ length objects.now.keys }
+    ensures { (p : Point) → IsAt (map sum_of objects.now.keys) state.now p → IsTrue result
+        → (p.class_of (sum_of left.now) == p.class_of (sum_of right.now)) ≡ one }
+{
+    let left = number_of(objects, left) as usize;
+    let right = number_of(objects, right) as usize;
+    let classes = state.classes();
+    (classes[left] == classes[right]) == one
+}
+
+/// Whether a reading is known to be met at the values. A flag that no fact gives a value is false, and objects are one only where facts
+/// make them one. Of a row it isn't known where an operation has no form of 128 bits.
+#[cycle(meets)]
+pub fn meets(state: &PathState, objects: &IndexSet<Term>, reading: &Nnf) -> bool
+    requires solved { is_solved state.now.rows ≡ true }
+    requires over { IsOver (terms_of state.now.rows) (map sum_of objects.now.keys) (nnf_view reading.now) }
+    requires count { state.now.objects.count ≡ length objects.now.keys }
+    ensures { (p : Point) → IsAt (map sum_of objects.now.keys) state.now p → IsTrue result
+        → MeetsRows (row_point state.now.rows) p (nnf_view reading.now) }
+{
+    match reading {
+        Nnf::Yes => true,
+        Nnf::No => false,
+        Nnf::Row(row) => row_holds(state, row),
+        Nnf::Flag(flag, value) => flag_holds(state, *flag, *value),
+        Nnf::Same(left, right, one) => same_holds(state, objects, left, right, *one),
+        Nnf::All(all) => meets_all(state, objects, all),
+        Nnf::Any(any) => meets_any(state, objects, any),
+    }
+}
+
+/// Whether all of some readings are known to be met.
+#[cycle(meets)]
+fn meets_all(state: &PathState, objects: &IndexSet<Term>, all: &Nnfs) -> bool
+    requires solved { is_solved state.now.rows ≡ true }
+    requires over { AreOver (terms_of state.now.rows) (map sum_of objects.now.keys) (nnfs_view all.now) }
+    requires count { state.now.objects.count ≡ length objects.now.keys }
+    ensures { (p : Point) → IsAt (map sum_of objects.now.keys) state.now p → IsTrue result
+        → MeetsAllRows (row_point state.now.rows) p (nnfs_view all.now) }
+{
+    for reading in all.as_slice() {
+        if !meets(state, objects, reading) {
+            return false;
+        }
+    }
+    true
+}
+
+/// Whether at least one of some readings is known to be met.
+#[cycle(meets)]
+pub fn meets_any(state: &PathState, objects: &IndexSet<Term>, any: &Nnfs) -> bool
+    requires solved { is_solved state.now.rows ≡ true }
+    requires over { AreOver (terms_of state.now.rows) (map sum_of objects.now.keys) (nnfs_view any.now) }
+    requires count { state.now.objects.count ≡ length objects.now.keys }
+    ensures { (p : Point) → IsAt (map sum_of objects.now.keys) state.now p → IsTrue result
+        → MeetsAnyRow (row_point state.now.rows) p (nnfs_view any.now) }
+{
+    for reading in any.as_slice() {
+        if meets(state, objects, reading) {
+            return true;
+        }
+    }
+    false
+}
