@@ -1,0 +1,8 @@
+//! The typing rules with refinements as a judgement, and the implications of a program as a list: definitions and laws.
+#![tactic(auto)]
+
+mod laws;
+
+pub use laws::{
+    block_examples, data_examples, examples, list_is_checks, typed_is_ready, typed_list_is_checks,
+};
