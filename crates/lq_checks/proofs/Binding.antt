@@ -109,13 +109,15 @@ mutual
       let bs = block_binders b in
       let e = differ_rest os (x ∷ bs) d in
       let r = apart_rest ns os (x ∷ bs) a in
-      (new_operation ns o (differ_first os (x ∷ bs) d) (apart_first ns os (x ∷ bs) a), r.0, new_block (x ∷ ns) b e.1 (apart_more x ns bs e.0 r.1))
+      let first = new_operation ns o (differ_first os (x ∷ bs) d) (apart_first ns os (x ∷ bs) a) in
+      (first, r.0, new_block (x ∷ ns) b e.1 (apart_more x ns bs e.0 r.1))
   new_block ns (recursive g p y b c) d a =
       let bs = block_binders b in
       let cs = block_binders c in
       let m = apart_more g ns (y ∷ (bs ++ cs)) d.0 a.1 in
       let k = apart_more y (g ∷ ns) bs (not_first y bs cs d.1.0) (apart_first (g ∷ ns) bs cs m.1) in
-      (a.0, m.0, new_block (y ∷ g ∷ ns) b (differ_first bs cs d.1.1) k, new_block (g ∷ ns) c (differ_rest bs cs d.1.1) (apart_rest (g ∷ ns) bs cs m.1))
+      let rest = new_block (g ∷ ns) c (differ_rest bs cs d.1.1) (apart_rest (g ∷ ns) bs cs m.1) in
+      (a.0, m.0, new_block (y ∷ g ∷ ns) b (differ_first bs cs d.1.1) k, rest)
 
   new_arms : (ns : List ℕ) (arms : Arms) → AllDiffer (arms_binders arms) → Apart ns (arms_binders arms) → NewInArms ns arms
   new_arms ns no_arms d a = tt
@@ -124,7 +126,9 @@ mutual
       let bs = block_binders b in
       let e = differ_first (xs ++ bs) (arms_binders arms) d in
       let r = apart_first ns (xs ++ bs) (arms_binders arms) a in
-      (new_names xs ns (differ_first xs bs e) (apart_first ns xs bs r), new_block (with_names xs ns) b (differ_rest xs bs e) (apart_names xs ns bs e (apart_rest ns xs bs r)), new_arms ns arms (differ_rest (xs ++ bs) (arms_binders arms) d) (apart_rest ns (xs ++ bs) (arms_binders arms) a))
+      let body = new_block (with_names xs ns) b (differ_rest xs bs e) (apart_names xs ns bs e (apart_rest ns xs bs r)) in
+      let rest = new_arms ns arms (differ_rest (xs ++ bs) (arms_binders arms) d) (apart_rest ns (xs ++ bs) (arms_binders arms) a) in
+      (new_names xs ns (differ_first xs bs e) (apart_first ns xs bs r), body, rest)
 
 -- what a list and a block's binders lack, the names at the block's end lack
 apart_last : (b : Block) (ns ys : List ℕ) → AllDiffer (block_binders b ++ ys) → Apart ns ys → Apart (last_names ns b) ys
@@ -147,13 +151,15 @@ new_program ns (define x l k b rest) d a =
     let ps = binders rest in
     let e = differ_rest bs (x ∷ ps) d in
     let r = apart_last b ns (x ∷ ps) d (apart_rest ns bs (x ∷ ps) a) in
-    (new_block ns b (differ_first bs (x ∷ ps) d) (apart_first ns bs (x ∷ ps) a), r.0, new_program (x ∷ last_names ns b) rest e.1 (apart_more x (last_names ns b) ps e.0 r.1))
+    let first = new_block ns b (differ_first bs (x ∷ ps) d) (apart_first ns bs (x ∷ ps) a) in
+    (first, r.0, new_program (x ∷ last_names ns b) rest e.1 (apart_more x (last_names ns b) ps e.0 r.1))
 new_program ns (define_recursive g p y b rest) d a =
     let bs = block_binders b in
     let ps = binders rest in
     let m = apart_more g ns (y ∷ (bs ++ ps)) d.0 a.1 in
     let k = apart_more y (g ∷ ns) bs (not_first y bs ps d.1.0) (apart_first (g ∷ ns) bs ps m.1) in
-    (a.0, m.0, new_block (y ∷ g ∷ ns) b (differ_first bs ps d.1.1) k, new_program (g ∷ ns) rest (differ_rest bs ps d.1.1) (apart_rest (g ∷ ns) bs ps m.1))
+    let others = new_program (g ∷ ns) rest (differ_rest bs ps d.1.1) (apart_rest (g ∷ ns) bs ps m.1) in
+    (a.0, m.0, new_block (y ∷ g ∷ ns) b (differ_first bs ps d.1.1) k, others)
 new_program ns (run_unit b rest) d a =
     let bs = block_binders b in
     let ps = binders rest in

@@ -84,7 +84,8 @@ built_shapes : (es : List Pure) {ss : MlTypes} {ts : Refineds} → HaveShapes ss
 built_shapes [] ss = empty_shapes ss
 built_shapes (e ∷ es) ss = ss
 
-built_shape : (es : List Pure) (q : Parts) {d : ℕ} {ss : MlTypes} {t : Refined} → HasShape (ml.named d ss) t → HasShape (ml.named d ss) (data_with (datatype_of t) (built_arguments es (arguments_of t)) (matrix_of t) q)
+built_shape : (es : List Pure) (q : Parts) {d : ℕ} {ss : MlTypes} {t : Refined} → HasShape (ml.named d ss) t
+    → HasShape (ml.named d ss) (data_with (datatype_of t) (built_arguments es (arguments_of t)) (matrix_of t) q)
 built_shape es q (shape_data ts) = shape_data (built_shapes es ts)
 
 module _ (scopes : Scopes) (θ : Subst) where
@@ -141,11 +142,13 @@ guards_fit : (qs : Parts) {Δ : Types} {Γ : Context} → Fits Δ Γ → Fits Δ
 guards_fit [] f = f
 guards_fit (q ∷ qs) f = guards_fit qs (fits_guard f)
 
-names_fit : (xs : List ℕ) {ss : MlTypes} {ts : Refineds} {Δ : Types} {Γ : Context} → HaveShapes ss ts → Fits Δ Γ → Fits (with_types xs ss Δ) (bind_all xs ts Γ)
+names_fit : (xs : List ℕ) {ss : MlTypes} {ts : Refineds} {Δ : Types} {Γ : Context} → HaveShapes ss ts → Fits Δ Γ
+    → Fits (with_types xs ss Δ) (bind_all xs ts Γ)
 names_fit [] ss f = f
 names_fit (x ∷ xs) ss f = names_fit xs (rest_shapes ss) (fits_bind (first_shape ss) f)
 
-components_fit : (scopes : Scopes) (xs : List ℕ) (θ : Subst) (j : ℕ) (us : MlTypes) (ts : Refineds) {Δ : Types} {Γ : Context} → HaveShapes us ts → Fits Δ Γ → Fits (with_types xs us Δ) (bind_components scopes θ j xs ts Γ)
+components_fit : (scopes : Scopes) (xs : List ℕ) (θ : Subst) (j : ℕ) (us : MlTypes) (ts : Refineds) {Δ : Types} {Γ : Context}
+    → HaveShapes us ts → Fits Δ Γ → Fits (with_types xs us Δ) (bind_components scopes θ j xs ts Γ)
 components_fit scopes [] θ j us ts ss f = f
 components_fit scopes (x ∷ xs) θ j us ts ss f =
     components_fit scopes xs (name_for j x (first_of ts) ∷ θ) (suc j) (rest_types us) (rest_of ts) (rest_shapes ss)
@@ -155,7 +158,8 @@ names_typed : (xs : List ℕ) (us : MlTypes) (Δ : Types) → names_in (with_typ
 names_typed [] us Δ = refl
 names_typed (x ∷ xs) us Δ = names_typed xs (rest_types us) ((x, first_type us) ∷ Δ)
 
-pub pattern_names : {P : Basis} {Δ Θ : Types} {a : MlType} {q : Pattern} → HasPattern P Δ a q Θ → names_in Θ ≡ with_names (names_of q) (names_in Δ)
+pub pattern_names : {P : Basis} {Δ Θ : Types} {a : MlType} {q : Pattern} → HasPattern P Δ a q Θ
+    → names_in Θ ≡ with_names (names_of q) (names_in Δ)
 pattern_names has_any = refl
 pattern_names has_name = refl
 pattern_names has_nothing = refl
@@ -196,10 +200,12 @@ module _ (keeps : KeepSimpleTypes) (P : Basis) (Q : Points) (are : AreTemplates 
   variable_shape : (x : ℕ) {s : MlType} {t : Refined} → HasShape s t → HasShape s (variable_type P.setting.scopes x t)
   variable_shape x {t = t} a = variable_shape_by (kind t) x a
 
-  instance_shape : (Γ : Context) (o : Option ℕ) {s : MlType} {t : Refined} → HasShape s t → HasShape (h.instance_of Q o s) (instance_of P Γ o t)
+  instance_shape : (Γ : Context) (o : Option ℕ) {s : MlType} {t : Refined} → HasShape s t
+      → HasShape (h.instance_of Q o s) (instance_of P Γ o t)
   instance_shape Γ None a = a
   instance_shape Γ (Some i) {s = s} {t = t} a =
-      let e : put (types.type_at (all_erased (P.instances i))) (erased t) ≡ put (types.type_at (Q.instances i)) s = both_put (are.instances i) (erased_is a) in
+      let e : put (types.type_at (all_erased (P.instances i))) (erased t) ≡ put (types.type_at (Q.instances i)) s = both_put
+      (are.instances i) (erased_is a) in
       shape_of _ (keeps.instantiating (P.instances i) t ∙ e)
 
   pub use_shape : {Δ : Types} {Γ : Context} → Fits Δ Γ → (u : Use) → HasShape (h.type_of_use Q Δ u) (type_of_use P Γ u)
@@ -223,50 +229,63 @@ module _ (keeps : KeepSimpleTypes) (P : Basis) (Q : Points) (are : AreTemplates 
   pure_shape f (has_and a b) = shape_bool
   pure_shape f (has_or a b) = shape_bool
 
-  pure_shapes : {Δ : Types} {Γ : Context} {es : List Pure} {ss : MlTypes} → Fits Δ Γ → HavePures Q Δ es ss → HaveShapes ss (pure_types P Γ es)
+  pure_shapes : {Δ : Types} {Γ : Context} {es : List Pure} {ss : MlTypes} → Fits Δ Γ → HavePures Q Δ es ss
+      → HaveShapes ss (pure_types P Γ es)
   pure_shapes f have_none = shapes_none
   pure_shapes f (have_more a rest) = shapes_more (pure_shape f a) (pure_shapes f rest)
 
-  pub operands_same : {Δ : Types} {Γ : Context} {es : List Pure} {ss : MlTypes} {ts : Refineds} → Fits Δ Γ → HavePures Q Δ es ss → HaveShapes ss ts → SameTypes P Γ es ts
+  pub operands_same : {Δ : Types} {Γ : Context} {es : List Pure} {ss : MlTypes} {ts : Refineds} → Fits Δ Γ → HavePures Q Δ es ss
+      → HaveShapes ss ts → SameTypes P Γ es ts
   operands_same f have_none ss = tt
   operands_same f (have_more a rest) ss = (same_type (pure_shape f a) (first_shape ss), operands_same f rest (rest_shapes ss))
 
   pub point_shape : (p : ℕ) {s : MlType} → Q.point p ≡ s → HasShape s (P.template p)
   point_shape p e = shape_of (P.template p) (are.templates p ∙ e)
 
-  field_shapes : (θ : Subst) (d : ℕ) (ts : Refineds) (m : _) (c : ℕ) {us : MlTypes} {k : Constructor} → P.setting.constructors c ≡ Some k → HaveShapes us ts → HaveShapes (fields_at us k) (unfolded P.setting.scopes θ d ts m c (fields_of (P.setting.constructors c)))
+  field_shapes : (θ : Subst) (d : ℕ) (ts : Refineds) (m : _) (c : ℕ) {us : MlTypes} {k : Constructor} → P.setting.constructors c ≡ Some k
+      → HaveShapes us ts → HaveShapes (fields_at us k) (unfolded P.setting.scopes θ d ts m c (fields_of (P.setting.constructors c)))
   field_shapes θ d ts m c {us = us} {k = k} e ss =
       let fs = fields_of (P.setting.constructors c) in
-      let q : put_all (types.type_at (all_erased ts)) fs ≡ put_all (types.type_at us) k.fields = both_put_all (all_erased_is ss) (ap fields_of e) in
+      let q : put_all (types.type_at (all_erased ts)) fs ≡ put_all (types.type_at us) k.fields = both_put_all (all_erased_is ss)
+      (ap fields_of e) in
       shapes_of _ (keeps.fields P.setting.scopes θ d ts m c fs ∙ q)
 
-  pub operand_shapes : (Γ : Context) (p c : ℕ) (es : List Pure) {d : ℕ} {us : MlTypes} {k : Constructor} → P.setting.constructors c ≡ Some k → Q.point p ≡ ml.named d us → HaveShapes (fields_at us k) (field_types P Γ p c es)
+  pub operand_shapes : (Γ : Context) (p c : ℕ) (es : List Pure) {d : ℕ} {us : MlTypes} {k : Constructor} → P.setting.constructors c ≡ Some k
+      → Q.point p ≡ ml.named d us → HaveShapes (fields_at us k) (field_types P Γ p c es)
   operand_shapes Γ p c es e q =
       let t = P.template p in
       field_shapes (operands_for P Γ 0 es) (datatype_of t) (arguments_of t) (matrix_of t) c e (argument_shapes (point_shape p q))
 
-  build_fits : {Δ : Types} {Γ : Context} (x c : ℕ) (xs : List ℕ) {d : ℕ} {us : MlTypes} {k : Constructor} {t : Refined} → Fits Δ Γ → P.setting.constructors c ≡ Some k → HasShape (ml.named d us) t → Fits (with_types xs (fields_at us k) Δ) (arm_context P Γ x t (pattern_build c xs))
+  build_fits : {Δ : Types} {Γ : Context} (x c : ℕ) (xs : List ℕ) {d : ℕ} {us : MlTypes} {k : Constructor} {t : Refined} → Fits Δ Γ
+      → P.setting.constructors c ≡ Some k → HasShape (ml.named d us) t
+      → Fits (with_types xs (fields_at us k) Δ) (arm_context P Γ x t (pattern_build c xs))
   build_fits {Γ = Γ} x c xs {t = t} f e s =
       let θ = names_for 0 xs (fields_by P Γ x t c []) in
-      guards_fit (equations_by P c (value_as x ∷ θ)) (names_fit xs (field_shapes θ (datatype_of t) (arguments_of t) (matrix_of t) c e (argument_shapes s)) f)
+      guards_fit (equations_by P c (value_as x ∷ θ))
+      (names_fit xs (field_shapes θ (datatype_of t) (arguments_of t) (matrix_of t) c e (argument_shapes s)) f)
 
   -- the environment of an arm has the types of its pattern
-  pub pattern_fits : {Δ Θ : Types} {Γ : Context} (x : ℕ) {s : MlType} {t : Refined} {q : Pattern} → Fits Δ Γ → HasShape s t → HasPattern P Δ s q Θ → Fits Θ (arm_context P Γ x t q)
+  pub pattern_fits : {Δ Θ : Types} {Γ : Context} (x : ℕ) {s : MlType} {t : Refined} {q : Pattern} → Fits Δ Γ → HasShape s t
+      → HasPattern P Δ s q Θ → Fits Θ (arm_context P Γ x t q)
   pattern_fits x f s has_any = f
   pattern_fits x f s has_name = fits_bind (variable_shape x s) f
   pattern_fits x f s has_nothing = f
-  pattern_fits x {t = t} f s (has_components {us = us} {xs = xs}) = components_fit P.setting.scopes xs [] 0 us (components_of t) (component_shapes s) f
+  pattern_fits x {t = t} f s (has_components {us = us} {xs = xs}) =
+      components_fit P.setting.scopes xs [] 0 us (components_of t) (component_shapes s) f
   pattern_fits x f s (has_fields {c = c} {xs = xs} e) = build_fits x c xs f e s
 
   -- what an operation gives has its simple type
-  pub operation_shape : {Δ : Types} {Γ : Context} {o : Operation} {s : MlType} → Fits Δ Γ → HasOperation P Q Δ o s → IsPointed Q o s → HasShape s (type_of P Γ o)
+  pub operation_shape : {Δ : Types} {Γ : Context} {o : Operation} {s : MlType} → Fits Δ Γ → HasOperation P Q Δ o s → IsPointed Q o s
+      → HasShape s (type_of P Γ o)
   operation_shape f (has_pure a) i = pure_shape f a
   operation_shape f (has_fun {p = p} b) e = point_shape p e
   operation_shape f (has_if {p = p} a b c) e = point_shape p e
   operation_shape f (has_match {p = p} arms) e = point_shape p e
-  operation_shape {Γ = Γ} f (has_call {f = g} {e = a} k b) i = put_shape (binder_of (pure_type P Γ g)) (pure_atom P Γ a) (result_shape (pure_shape f k))
+  operation_shape {Γ = Γ} f (has_call {f = g} {e = a} k b) i =
+      put_shape (binder_of (pure_type P Γ g)) (pure_atom P Γ a) (result_shape (pure_shape f k))
   operation_shape f (has_tuple es) i = shape_tuple (pure_shapes f es)
-  operation_shape {Γ = Γ} f (has_build {p = p} {c = c} {es = es} e q hs) i = built_shape es (equations_by P c (operands_for P Γ 0 es)) (point_shape p q)
+  operation_shape {Γ = Γ} f (has_build {p = p} {c = c} {es = es} e q hs) i =
+      built_shape es (equations_by P c (operands_for P Γ 0 es)) (point_shape p q)
   operation_shape f (has_make {p = p} e n a) i = shape_array (point_shape p e)
   operation_shape f (has_fetch {u = u} e k) i = element_shape (use_is f u e)
   operation_shape f (has_store e k a) i = shape_unit

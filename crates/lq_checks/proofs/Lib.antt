@@ -5,3 +5,4 @@ pub mod Binding
 pub mod Environments
 pub mod Readying
 pub mod Sample
+pub mod Solving

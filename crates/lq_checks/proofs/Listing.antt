@@ -7,10 +7,10 @@ use Rattle.lq_refined.specs.Context.{Context}
 use Rattle.lq_refined.specs.Refined.{Refined, Refineds}
 use Rattle.lq_subtype.specs.Implication.{Origin, Implication, AllHold}
 use Rattle.lq_subtype.specs.Splitting.{SplitIsSubtype, first_of, rest_of}
-use Rattle.lq_subtype.specs.Subtype.{facts}
+use Rattle.lq_subtype.specs.Subtype.{facts, IsSubtype}
 use Rattle.lq_checks.specs.Basis.{Basis}
-use Rattle.lq_checks.specs.Checks.{Demanded, IsBelow, AreBelow}
-use Rattle.lq_checks.specs.Listing.{demand, below, operands}
+use Rattle.lq_checks.specs.Checks.{Demanded, AreArguments}
+use Rattle.lq_checks.specs.Listing.{demand, subtyping, operands}
 use Rattle.lq_checks.specs.Pure.{pure_type}
 use Rattle.lq_checks.specs.Ready.{Where, SameType, SameTypes}
 use Rattle.lq_checks.specs.Tree.{Pure}
@@ -39,26 +39,29 @@ module _ (law : SplitIsSubtype) (P : Basis) (A : Assignment) where
   pub demand_hold : (Γ : Context) (p : Formula) (o : Origin) → AllHold A (demand P Γ p o) → Demanded P A Γ p
   demand_hold Γ p o m = subst (λ l. Implied A l (known p)) (nil_right (facts P.setting Γ)) m.0
 
-  pub below_met : (Γ : Context) (l r : Refined) (o : Origin) → SameType l r → IsBelow P A Γ l r → AllHold A (below P Γ l r o)
-  below_met Γ l r o e s = (law P.setting A o Γ l r (same_shape l r e)).1 s
+  pub subtyping_met : (Γ : Context) (l r : Refined) (o : Origin) → SameType l r → IsSubtype P.setting A Γ l r
+      → AllHold A (subtyping P Γ l r o)
+  subtyping_met Γ l r o e s = (law P.setting A o Γ l r (same_shape l r e)).1 s
 
-  pub below_hold : (Γ : Context) (l r : Refined) (o : Origin) → SameType l r → AllHold A (below P Γ l r o) → IsBelow P A Γ l r
-  below_hold Γ l r o e m = (law P.setting A o Γ l r (same_shape l r e)).0 m
+  pub subtyping_hold : (Γ : Context) (l r : Refined) (o : Origin) → SameType l r → AllHold A (subtyping P Γ l r o)
+      → IsSubtype P.setting A Γ l r
+  subtyping_hold Γ l r o e m = (law P.setting A o Γ l r (same_shape l r e)).0 m
 
-  pub operands_met : (Γ : Context) (es : List Pure) (ts : Refineds) (o : Origin) → SameTypes P Γ es ts → AreBelow P A Γ es ts
+  pub operands_met : (Γ : Context) (es : List Pure) (ts : Refineds) (o : Origin) → SameTypes P Γ es ts → AreArguments P A Γ es ts
       → AllHold A (operands P Γ es ts o)
   operands_met Γ [] ts o r f = tt
   operands_met Γ (e ∷ es) ts o r f =
-      hold_append A (below P Γ (pure_type P Γ e) (first_of ts) o) (operands P Γ es (rest_of ts) o)
-      (below_met Γ (pure_type P Γ e) (first_of ts) o r.0 f.0) (operands_met Γ es (rest_of ts) o r.1 f.1)
+      hold_append A (subtyping P Γ (pure_type P Γ e) (first_of ts) o) (operands P Γ es (rest_of ts) o)
+      (subtyping_met Γ (pure_type P Γ e) (first_of ts) o r.0 f.0) (operands_met Γ es (rest_of ts) o r.1 f.1)
 
   pub operands_hold : (Γ : Context) (es : List Pure) (ts : Refineds) (o : Origin) → SameTypes P Γ es ts
-      → AllHold A (operands P Γ es ts o) → AreBelow P A Γ es ts
+      → AllHold A (operands P Γ es ts o) → AreArguments P A Γ es ts
   operands_hold Γ [] ts o r m = tt
   operands_hold Γ (e ∷ es) ts o r m =
-      let first = below P Γ (pure_type P Γ e) (first_of ts) o in
+      let first = subtyping P Γ (pure_type P Γ e) (first_of ts) o in
       let rest = operands P Γ es (rest_of ts) o in
-      (below_hold Γ (pure_type P Γ e) (first_of ts) o r.0 (hold_first A first rest m), operands_hold Γ es (rest_of ts) o r.1 (hold_rest A first rest m))
+      let others = operands_hold Γ es (rest_of ts) o r.1 (hold_rest A first rest m) in
+      (subtyping_hold Γ (pure_type P Γ e) (first_of ts) o r.0 (hold_first A first rest m), others)
 
   -- one of two lists, by a test
   pub met_where : (b c : Bool) (U V : List Implication) → b ≡ c → AllHold A (cond c U V) → AllHold A (cond b U V)
@@ -68,23 +71,29 @@ module _ (law : SplitIsSubtype) (P : Basis) (A : Assignment) where
   ready_where b c X Y e r = subst (λ x. Where x X Y) e r
 
   -- a subtyping that is asked for by a test
-  pub unless_met : (b : Bool) (o : Origin) (Γ : Context) (l r : Refined) → Where b (Unit {0}) (SameType l r) → (b ≡ false → IsBelow P A Γ l r) → AllHold A (cond b [] (below P Γ l r o))
+  pub unless_met : (b : Bool) (o : Origin) (Γ : Context) (l r : Refined) → Where b (Unit {0}) (SameType l r)
+      → (b ≡ false → IsSubtype P.setting A Γ l r) → AllHold A (cond b [] (subtyping P Γ l r o))
   unless_met true o Γ l r s f = tt
-  unless_met false o Γ l r s f = below_met Γ l r o s (f refl)
+  unless_met false o Γ l r s f = subtyping_met Γ l r o s (f refl)
 
-  pub unless_hold : (b : Bool) (o : Origin) (Γ : Context) (l r : Refined) → Where b (Unit {0}) (SameType l r) → AllHold A (cond b [] (below P Γ l r o)) → b ≡ false → IsBelow P A Γ l r
+  pub unless_hold : (b : Bool) (o : Origin) (Γ : Context) (l r : Refined) → Where b (Unit {0}) (SameType l r)
+      → AllHold A (cond b [] (subtyping P Γ l r o)) → b ≡ false → IsSubtype P.setting A Γ l r
   unless_hold true o Γ l r s m e = absurd (cc)
-  unless_hold false o Γ l r s m e = below_hold Γ l r o s m
+  unless_hold false o Γ l r s m e = subtyping_hold Γ l r o s m
 
-  pub if_met : (b : Bool) (o : Origin) (Γ : Context) (l r : Refined) → Where b (SameType l r) (Unit {0}) → (b ≡ true → IsBelow P A Γ l r) → AllHold A (cond b (below P Γ l r o) [])
-  if_met true o Γ l r s f = below_met Γ l r o s (f refl)
+  pub if_met : (b : Bool) (o : Origin) (Γ : Context) (l r : Refined) → Where b (SameType l r) (Unit {0})
+      → (b ≡ true → IsSubtype P.setting A Γ l r)
+      → AllHold A (cond b (subtyping P Γ l r o) [])
+  if_met true o Γ l r s f = subtyping_met Γ l r o s (f refl)
   if_met false o Γ l r s f = tt
 
-  pub if_hold : (b : Bool) (o : Origin) (Γ : Context) (l r : Refined) → Where b (SameType l r) (Unit {0}) → AllHold A (cond b (below P Γ l r o) []) → b ≡ true → IsBelow P A Γ l r
-  if_hold true o Γ l r s m e = below_hold Γ l r o s m
+  pub if_hold : (b : Bool) (o : Origin) (Γ : Context) (l r : Refined) → Where b (SameType l r) (Unit {0})
+      → AllHold A (cond b (subtyping P Γ l r o) []) → b ≡ true → IsSubtype P.setting A Γ l r
+  if_hold true o Γ l r s m e = subtyping_hold Γ l r o s m
   if_hold false o Γ l r s m e = absurd (cc)
 
   -- one of two lists and of two premises, by a test
-  pub decide : (b : Bool) (X Y F : Type 0) (U V : List Implication) → Where b X Y → AllHold A (cond b U V) → (b ≡ true → X → AllHold A U → F) → (b ≡ false → Y → AllHold A V → F) → F
+  pub decide : (b : Bool) (X Y F : Type 0) (U V : List Implication) → Where b X Y → AllHold A (cond b U V)
+      → (b ≡ true → X → AllHold A U → F) → (b ≡ false → Y → AllHold A V → F) → F
   decide true X Y F U V r m f g = f refl r m
   decide false X Y F U V r m f g = g refl r m

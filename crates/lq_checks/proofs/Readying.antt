@@ -22,7 +22,8 @@ either : (b : Bool) {X Y : Type 0} → X → Y → Where b X Y
 either true x y = x
 either false x y = y
 
-new_in_arm : {P : Basis} {Δ Θ : Types} {a : MlType} {q : _} (b : Block) → HasPattern P Δ a q Θ → NewInBlock (with_names (names_of q) (names_in Δ)) b → NewInBlock (names_in Θ) b
+new_in_arm : {P : Basis} {Δ Θ : Types} {a : MlType} {q : _} (b : Block) → HasPattern P Δ a q Θ
+    → NewInBlock (with_names (names_of q) (names_in Δ)) b → NewInBlock (names_in Θ) b
 new_in_arm b h n = subst (λ l. NewInBlock l b) (sym (pattern_names h)) n
 
 module _ (keeps : KeepSimpleTypes) (P : Basis) (Q : Points) (are : AreTemplates P Q) where
@@ -36,24 +37,30 @@ module _ (keeps : KeepSimpleTypes) (P : Basis) (Q : Points) (are : AreTemplates 
   unpointed _ a e = tt
 
   -- what an operation gives, where its branches or its body aren't against the expected type
-  flow_ready : {Δ : Types} {Γ : Context} {o : Operation} {s : MlType} {t : Refined} (b : Bool) → passes_on o ≡ b → HasOperation P Q Δ o s → Fits Δ Γ → HasShape s t → Where b (Unit {0}) (SameType (type_of P Γ o) t)
+  flow_ready : {Δ : Types} {Γ : Context} {o : Operation} {s : MlType} {t : Refined} (b : Bool) → passes_on o ≡ b → HasOperation P Q Δ o s
+      → Fits Δ Γ → HasShape s t → Where b (Unit {0}) (SameType (type_of P Γ o) t)
   flow_ready true e h f s = tt
   flow_ready {o = o} {s = a} false e h f s = same_type (operation_shape keeps P Q are f h (unpointed o a e)) s
 
-  template_ready : {s : MlType} {t : Refined} {x : Bool} (b : Bool) → x ≡ b → (k : ℕ) → (x ≡ true → Q.point k ≡ s) → HasShape s t → Where b (SameType t (P.template k)) (Unit {0})
+  template_ready : {s : MlType} {t : Refined} {x : Bool} (b : Bool) → x ≡ b → (k : ℕ) → (x ≡ true → Q.point k ≡ s) → HasShape s t
+      → Where b (SameType t (P.template k)) (Unit {0})
   template_ready true e k q s = same_type s (point_shape keeps P Q are k (q e))
   template_ready false e k q s = tt
 
   mutual
-    operation_ready : {Δ : Types} {Γ : Context} {o : Operation} {s : MlType} {t : Refined} → HasOperation P Q Δ o s → NewInOperation (names_in Δ) o → Fits Δ Γ → HasShape s t → IsReadyOperation P Γ o t
+    operation_ready : {Δ : Types} {Γ : Context} {o : Operation} {s : MlType} {t : Refined} → HasOperation P Q Δ o s
+        → NewInOperation (names_in Δ) o → Fits Δ Γ → HasShape s t → IsReadyOperation P Γ o t
     operation_ready (has_pure a) n f s = tt
     operation_ready (has_fun {y = y} b) n f s = (new_fits f y n.0, block_ready b n.1 (fits_bind (argument_shape s) f) (body_shape y s))
     operation_ready (has_if a b c) n f s = (block_ready b n.0 (fits_guard f) s, block_ready c n.1 (fits_guard f) s)
     operation_ready {Γ = Γ} (has_match {u = u} arms) n f s =
-        either (is_data_match P Γ u) (λ c. case_ready u c arms n f (use_shape keeps P Q are f u) s, default_ready u arms n f (use_shape keeps P Q are f u) s) (first_ready u arms n f (use_shape keeps P Q are f u) s)
+        either (is_data_match P Γ u)
+        (λ c. case_ready u c arms n f (use_shape keeps P Q are f u) s, default_ready u arms n f (use_shape keeps P Q are f u) s)
+        (first_ready u arms n f (use_shape keeps P Q are f u) s)
     operation_ready (has_call g a) n f s = same_type (pure_shape keeps P Q are f a) (argument_shape (pure_shape keeps P Q are f g))
     operation_ready (has_tuple hs) n f s = tt
-    operation_ready {Γ = Γ} (has_build {p = p} {c = c} {es = es} e q hs) n f s = operands_same keeps P Q are f hs (operand_shapes keeps P Q are Γ p c es e q)
+    operation_ready {Γ = Γ} (has_build {p = p} {c = c} {es = es} e q hs) n f s =
+        operands_same keeps P Q are f hs (operand_shapes keeps P Q are Γ p c es e q)
     operation_ready (has_make {p = p} e k a) n f s = same_type (pure_shape keeps P Q are f a) (point_shape keeps P Q are p e)
     operation_ready (has_fetch e i) n f s = tt
     operation_ready (has_store {u = u} e i a) n f s = same_type (pure_shape keeps P Q are f a) (element_shape (use_is keeps P Q are f u e))
@@ -69,7 +76,8 @@ module _ (keeps : KeepSimpleTypes) (P : Basis) (Q : Points) (are : AreTemplates 
         (same_type (pure_shape keeps P Q are f a) (at_key_shape P.setting.scopes k t), same_type (pure_shape keeps P Q are f m) t)
     operation_ready (has_map_find i m) n f s = tt
 
-    block_ready : {Δ : Types} {Γ : Context} {b : Block} {s : MlType} {t : Refined} → HasBlock P Q Δ b s → NewInBlock (names_in Δ) b → Fits Δ Γ → HasShape s t → IsReadyBlock P Γ b t
+    block_ready : {Δ : Types} {Γ : Context} {b : Block} {s : MlType} {t : Refined} → HasBlock P Q Δ b s → NewInBlock (names_in Δ) b
+        → Fits Δ Γ → HasShape s t → IsReadyBlock P Γ b t
     block_ready (has_last {o = o} h) n f s = (operation_ready h n f s, flow_ready (passes_on o) refl h f s)
     block_ready (has_binding {x = x} h i b) n f s =
         let a = operation_shape keeps P Q are f h i in
@@ -77,23 +85,31 @@ module _ (keeps : KeepSimpleTypes) (P : Basis) (Q : Points) (are : AreTemplates 
     block_ready (has_recursive {g = g} {p = p} h c) n f s =
         (recursive_ready h (n.0, n.1, n.2) f, block_ready c n.3 (fits_bind (point_shape keeps P Q are p refl) f) s)
 
-    recursive_ready : {Δ : Types} {Γ : Context} {g p y : ℕ} {b : Block} → HasRecursive P Q Δ g p y b → IsNotIn (names_in Δ) g × IsNotIn (g ∷ names_in Δ) y × NewInBlock (y ∷ g ∷ names_in Δ) b → Fits Δ Γ → IsReadyRecursive P Γ g p y b
+    recursive_ready : {Δ : Types} {Γ : Context} {g p y : ℕ} {b : Block} → HasRecursive P Q Δ g p y b
+        → IsNotIn (names_in Δ) g × IsNotIn (g ∷ names_in Δ) y × NewInBlock (y ∷ g ∷ names_in Δ) b → Fits Δ Γ → IsReadyRecursive P Γ g p y b
     recursive_ready (has_body {g = g} {p = p} {y = y} e b) n f =
         let a = point_shape keeps P Q are p e in
         let d = fits_bind {x = g} (point_shape keeps P Q are p refl) f in
         (new_fits f g n.0, new_fits d y n.1, block_ready b n.2 (fits_bind (argument_shape a) d) (body_shape y a))
 
-    case_ready : {Δ : Types} {Γ : Context} (u : Use) (c : ℕ) {r s : MlType} {t : Refined} {arms : Arms} → HaveArms P Q Δ r arms s → NewInArms (names_in Δ) arms → Fits Δ Γ → HasShape r (type_of_use P Γ u) → HasShape s t → IsReadyCase P Γ u c t arms
+    case_ready : {Δ : Types} {Γ : Context} (u : Use) (c : ℕ) {r s : MlType} {t : Refined} {arms : Arms} → HaveArms P Q Δ r arms s
+        → NewInArms (names_in Δ) arms → Fits Δ Γ → HasShape r (type_of_use P Γ u) → HasShape s t → IsReadyCase P Γ u c t arms
     case_ready u c have_no_arms n f r s = tt
     case_ready u c (have_arm {q = q} {b = e} h b arms) n f r s =
-        either (is_arm_of c q) (all_new_fit f (names_of q) n.0, block_ready b (new_in_arm e h n.1) (pattern_fits keeps P Q are u.name f r h) s) (case_ready u c arms n.2 f r s)
+        either (is_arm_of c q)
+        (all_new_fit f (names_of q) n.0, block_ready b (new_in_arm e h n.1) (pattern_fits keeps P Q are u.name f r h) s)
+        (case_ready u c arms n.2 f r s)
 
-    default_ready : {Δ : Types} {Γ : Context} (u : Use) {r s : MlType} {t : Refined} {arms : Arms} → HaveArms P Q Δ r arms s → NewInArms (names_in Δ) arms → Fits Δ Γ → HasShape r (type_of_use P Γ u) → HasShape s t → IsReadyDefault P Γ u arms t
+    default_ready : {Δ : Types} {Γ : Context} (u : Use) {r s : MlType} {t : Refined} {arms : Arms} → HaveArms P Q Δ r arms s
+        → NewInArms (names_in Δ) arms → Fits Δ Γ → HasShape r (type_of_use P Γ u) → HasShape s t → IsReadyDefault P Γ u arms t
     default_ready u have_no_arms n f r s = tt
     default_ready u (have_arm {q = q} {b = e} h b arms) n f r s =
-        either (takes_all q) (all_new_fit f (names_of q) n.0, block_ready b (new_in_arm e h n.1) (pattern_fits keeps P Q are u.name f r h) s) (default_ready u arms n.2 f r s)
+        either (takes_all q)
+        (all_new_fit f (names_of q) n.0, block_ready b (new_in_arm e h n.1) (pattern_fits keeps P Q are u.name f r h) s)
+        (default_ready u arms n.2 f r s)
 
-    first_ready : {Δ : Types} {Γ : Context} (u : Use) {r s : MlType} {t : Refined} {arms : Arms} → HaveArms P Q Δ r arms s → NewInArms (names_in Δ) arms → Fits Δ Γ → HasShape r (type_of_use P Γ u) → HasShape s t → IsReadyFirst P Γ u arms t
+    first_ready : {Δ : Types} {Γ : Context} (u : Use) {r s : MlType} {t : Refined} {arms : Arms} → HaveArms P Q Δ r arms s
+        → NewInArms (names_in Δ) arms → Fits Δ Γ → HasShape r (type_of_use P Γ u) → HasShape s t → IsReadyFirst P Γ u arms t
     first_ready u have_no_arms n f r s = tt
     first_ready u (have_arm {q = q} {b = e} h b arms) n f r s =
         (all_new_fit f (names_of q) n.0, block_ready b (new_in_arm e h n.1) (pattern_fits keeps P Q are u.name f r h) s)
@@ -103,7 +119,8 @@ module _ (keeps : KeepSimpleTypes) (P : Basis) (Q : Points) (are : AreTemplates 
   names_end (end_binding h i b) = names_end b
   names_end (end_recursive h c) = names_end c
 
-  given_ready : {Δ Θ : Types} {Γ : Context} {b : Block} {s : MlType} → HasEnd P Q Δ b Θ s → NewInBlock (names_in Δ) b → Fits Δ Γ → IsReadyGiven P Γ b × Fits Θ (last_context P Γ b) × HasShape s (last_type P Γ b)
+  given_ready : {Δ Θ : Types} {Γ : Context} {b : Block} {s : MlType} → HasEnd P Q Δ b Θ s → NewInBlock (names_in Δ) b → Fits Δ Γ
+      → IsReadyGiven P Γ b × Fits Θ (last_context P Γ b) × HasShape s (last_type P Γ b)
   given_ready (end_last h i) n f =
       let a = operation_shape keeps P Q are f h i in (operation_ready h n f a, f, a)
   given_ready (end_binding {x = x} h i b) n f =
@@ -119,7 +136,8 @@ module _ (keeps : KeepSimpleTypes) (P : Basis) (Q : Points) (are : AreTemplates 
   program_ready (has_define {x = x} {k = k} {b = b} {rest = rest} e h q) n f =
       let r = given_ready h n.0 f in
       let w = sym (names_end h) in
-      (r.0, template_ready (has_template b) refl k e r.2, new_fits r.1 x (subst (λ l. IsNotIn l x) w n.1), program_ready q (subst (λ l. NewInProgram (x ∷ l) rest) w n.2) (fits_bind r.2 r.1))
+      let others = program_ready q (subst (λ l. NewInProgram (x ∷ l) rest) w n.2) (fits_bind r.2 r.1) in
+      (r.0, template_ready (has_template b) refl k e r.2, new_fits r.1 x (subst (λ l. IsNotIn l x) w n.1), others)
   program_ready (has_define_recursive {g = g} {p = p} h rest) n f =
       (recursive_ready h (n.0, n.1, n.2) f, program_ready rest n.3 (fits_bind (point_shape keeps P Q are p refl) f))
   program_ready (has_run_unit b rest) n f = (block_ready b n.0 f shape_unit, program_ready rest n.1 f)

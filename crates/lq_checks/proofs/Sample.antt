@@ -19,7 +19,8 @@ sample_typed =
     (has_body {a = int} {c = int} refl
     (has_last
     (has_if (has_compare has_use has_whole) (has_last (has_pure has_whole))
-    (has_binding {a = int} (has_call {a = int} has_use (has_subtract has_use has_whole)) tt (has_last (has_pure (has_add has_whole has_use)))))))
+    (has_binding {a = int} (has_call {a = int} has_use (has_subtract has_use has_whole)) tt
+    (has_last (has_pure (has_add has_whole has_use)))))))
     (has_run_unit
     (has_binding {a = int} (has_call {a = int} has_use has_whole) tt (has_last (has_assert (has_compare has_whole has_use)))) has_no_items)
 

@@ -13,10 +13,10 @@ use Rattle.lq_checks.specs.Listing.{implications_of}
 use Rattle.lq_checks.specs.Pure.{literal}
 use Rattle.lq_checks.specs.Sample.{at, the, variable, amount, bound, equals, is_sum, part, for_value, for_name, int_of, implies, basis, alone, and_with}
 use Rattle.lq_checks.specs.Tree as t
-use Rattle.lq_checks.specs.Tree.{Block, Program, pattern_name, pattern_unit, pattern_build, no_arms, arm, pure, fun, match_on, call, assert, print, last, binding, recursive, no_items, define, run_unit}
+use Rattle.lq_checks.specs.Tree.{Block, Program, pattern_name, pattern_unit, pattern_build, no_arms, arm, pure, fun, match_on, call, assert, print, last, binding, recursive, no_items, define, run_unit, run_any}
 
--- f, its parameter x, and an inner function g of y are 10 to 13: f has the unknowns 0 and 1, and g has 2 and 3, which may speak of x, and the
--- latter also of y
+-- f, its parameter x, and an inner function g of y are 10 to 13: f has the unknowns 0 and 1, and g has 2 and 3, which may speak of x, and
+-- the latter also of y
 abbrev pub inner_basis : Basis
 inner_basis =
     let x = symbol_of 11 in
@@ -62,7 +62,8 @@ BoundMatchExample =
     let of_o = unknown 1 (for_value (bound 11) ∷ []) in
     let option_type = data_with 5 (more (int_of 0) none) [] (part 1 ∷ []) in
     implications_of
-    (basis (alone ∷ alone ∷ and_with (symbol_of 11) ∷ and_with (symbol_of 11) ∷ []) (function (Some 11) option_type (int_of 2) ∷ int_of 3 ∷ []))
+    (basis (alone ∷ alone ∷ and_with (symbol_of 11) ∷ and_with (symbol_of 11) ∷ [])
+    (function (Some 11) option_type (int_of 2) ∷ int_of 3 ∷ []))
     []
     (outer_function
     (binding 12 (at 3)
@@ -92,11 +93,11 @@ NumberMatchExample =
     (outer_function (last (at 3) (match_on 1 (the 11) (arm (pattern_name 12) (last (at 4) (pure (variable 12))) no_arms))))
     ≡ implies (of_outer ∷ known (equals (bound 12) (bound 11)) ∷ []) (is_sum (bound 12) ∷ []) (part 1) 4 of_flow ∷ []
 
--- let u = () let () = match u with () -> print_int 1 let () = assert true, with u as 10: a demand `true` is one
+-- let u = () let () = match u with () -> print_int 1 let _ = assert true, with u as 10: a demand `true` is one
 abbrev pub UnitExample : Type 0
 UnitExample =
     implications_of (basis [] (unit_type ∷ [])) []
     (define 10 (at 1) 0 (last (at 2) (pure t.unit))
     (run_unit (last (at 3) (match_on 1 (the 10) (arm pattern_unit (last (at 4) (print (amount 1))) no_arms)))
-    (run_unit (last (at 5) (assert (t.flag true))) no_items)))
+    (run_any (last (at 5) (assert (t.flag true))) no_items)))
     ≡ implies [] [] (known truth) 5 of_assertion ∷ []

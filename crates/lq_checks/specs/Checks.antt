@@ -19,13 +19,10 @@ use Rattle.lq_checks.specs.Tree.{Use, Pure, Pattern, names_of, is_arm_of, takes_
 abbrev pub Demanded : Basis → Assignment → Context → Formula → Type 0
 Demanded P A Γ p = Implied A (facts P.setting Γ) (known p)
 
-abbrev pub IsBelow : Basis → Assignment → Context → Refined → Refined → Type 0
-IsBelow P A Γ l r = IsSubtype P.setting A Γ l r
-
 -- each operand has a subtype of its type
-abbrev pub AreBelow : Basis → Assignment → Context → List Pure → Refineds → Type 0
-AreBelow P A Γ [] ts = Unit {0}
-AreBelow P A Γ (e ∷ es) ts = IsBelow P A Γ (pure_type P Γ e) (first_of ts) × AreBelow P A Γ es (rest_of ts)
+abbrev pub AreArguments : Basis → Assignment → Context → List Pure → Refineds → Type 0
+AreArguments P A Γ [] ts = Unit {0}
+AreArguments P A Γ (e ∷ es) ts = IsSubtype P.setting A Γ (pure_type P Γ e) (first_of ts) × AreArguments P A Γ es (rest_of ts)
 
 abbrev pub IsNewName : ℕ → Context → Type 0
 IsNewName x Γ = IsNew (symbol_of x) Γ
@@ -61,16 +58,16 @@ mutual
     -- on another type: the first arm alone
     obeys_other_match : {Γ : Context} {p : ℕ} {u : Use} {arms : Arms} {t : Refined} → is_data_match P Γ u ≡ false
         → IsFirst P A Γ u arms t → Obeys P A Γ (match_on p u arms) t
-    obeys_call : {Γ : Context} {g a : Pure} {t : Refined} → IsBelow P A Γ (pure_type P Γ a) (argument_of (pure_type P Γ g))
+    obeys_call : {Γ : Context} {g a : Pure} {t : Refined} → IsSubtype P.setting A Γ (pure_type P Γ a) (argument_of (pure_type P Γ g))
         → Obeys P A Γ (call g a) t
     obeys_tuple : {Γ : Context} {es : List Pure} {t : Refined} → Obeys P A Γ (tuple es) t
-    obeys_build : {Γ : Context} {p c : ℕ} {es : List Pure} {t : Refined} → AreBelow P A Γ es (field_types P Γ p c es)
+    obeys_build : {Γ : Context} {p c : ℕ} {es : List Pure} {t : Refined} → AreArguments P A Γ es (field_types P Γ p c es)
         → Obeys P A Γ (build p c es) t
     obeys_make : {Γ : Context} {p : ℕ} {n e : Pure} {t : Refined} → Demanded P A Γ (not_negative n)
-        → IsBelow P A Γ (pure_type P Γ e) (P.template p) → Obeys P A Γ (make p n e) t
+        → IsSubtype P.setting A Γ (pure_type P Γ e) (P.template p) → Obeys P A Γ (make p n e) t
     obeys_fetch : {Γ : Context} {u : Use} {i : Pure} {t : Refined} → Demanded P A Γ (in_range u i) → Obeys P A Γ (fetch u i) t
     obeys_store : {Γ : Context} {u : Use} {i e : Pure} {t : Refined} → Demanded P A Γ (in_range u i)
-        → IsBelow P A Γ (pure_type P Γ e) (element_of (type_of_use P Γ u)) → Obeys P A Γ (store u i e) t
+        → IsSubtype P.setting A Γ (pure_type P Γ e) (element_of (type_of_use P Γ u)) → Obeys P A Γ (store u i e) t
     obeys_divide : {Γ : Context} {x y : Pure} {t : Refined} → Demanded P A Γ (not_zero y) → Obeys P A Γ (divide x y) t
     obeys_remainder : {Γ : Context} {x y : Pure} {t : Refined} → Demanded P A Γ (not_zero y) → Obeys P A Γ (remainder x y) t
     obeys_assert : {Γ : Context} {e : Pure} {t : Refined} → Demanded P A Γ (formula_of e) → Obeys P A Γ (assert e) t
@@ -80,14 +77,14 @@ mutual
     obeys_map_empty : {Γ : Context} {p : ℕ} {t : Refined} → Obeys P A Γ (map_empty p) t
     -- the value at the key, and then the map
     obeys_map_add : {Γ : Context} {p : ℕ} {k e m : Pure} {t : Refined}
-        → IsBelow P A Γ (pure_type P Γ e) (element_at P.setting.scopes k (P.template p))
-        → IsBelow P A Γ (pure_type P Γ m) (P.template p) → Obeys P A Γ (map_add p k e m) t
+        → IsSubtype P.setting A Γ (pure_type P Γ e) (element_at P.setting.scopes k (P.template p))
+        → IsSubtype P.setting A Γ (pure_type P Γ m) (P.template p) → Obeys P A Γ (map_add p k e m) t
     obeys_map_find : {Γ : Context} {k m : Pure} {t : Refined} → Obeys P A Γ (map_find k m) t
 
   -- the block against a type
   pub data Against (P : Basis) (A : Assignment) : Context → Block → Refined → Type 0 where
     against_last : {Γ : Context} {l : Place} {o : Operation} {t : Refined} → Obeys P A Γ o t
-        → (passes_on o ≡ false → IsBelow P A Γ (type_of P Γ o) t) → Against P A Γ (last l o) t
+        → (passes_on o ≡ false → IsSubtype P.setting A Γ (type_of P Γ o) t) → Against P A Γ (last l o) t
     against_binding : {Γ : Context} {x : ℕ} {l : Place} {o : Operation} {b : Block} {t : Refined} → Obeys P A Γ o (type_of P Γ o)
         → IsNewName x Γ → Against P A (bind x (type_of P Γ o) Γ) b t → Against P A Γ (binding x l o b) t
     against_recursive : {Γ : Context} {g p y : ℕ} {b c : Block} {t : Refined} → IsRecursive P A Γ g p y b
@@ -139,7 +136,7 @@ pub data Gives (P : Basis) (A : Assignment) : Context → Block → Type 0 where
 pub data Checks (P : Basis) (A : Assignment) : Context → Program → Type 0 where
   checks_none : {Γ : Context} → Checks P A Γ no_items
   checks_define : {Γ : Context} {x k : ℕ} {l : Place} {b : Block} {rest : Program} → Gives P A Γ b
-      → (has_template b ≡ true → IsBelow P A (last_context P Γ b) (last_type P Γ b) (P.template k))
+      → (has_template b ≡ true → IsSubtype P.setting A (last_context P Γ b) (last_type P Γ b) (P.template k))
       → IsNewName x (last_context P Γ b) → Checks P A (bind x (last_type P Γ b) (last_context P Γ b)) rest
       → Checks P A Γ (define x l k b rest)
   checks_recursive : {Γ : Context} {g p y : ℕ} {b : Block} {rest : Program} → IsRecursive P A Γ g p y b

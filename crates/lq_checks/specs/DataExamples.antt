@@ -34,7 +34,8 @@ TupleMatchExample =
     implications_of
     (basis (alone ∷ and_with (Position 1) ∷ alone ∷ []) (function (Some 11) pair_type (int_of 2) ∷ [])) []
     (define 10 (at 1) 0
-    (last (at 2) (fun 0 11 (last (at 3) (match_on 1 (the 11) (arm (pattern_tuple (12 ∷ 13 ∷ [])) (last (at 4) (pure (variable 13))) no_arms)))))
+    (last (at 2)
+    (fun 0 11 (last (at 3) (match_on 1 (the 11) (arm (pattern_tuple (12 ∷ 13 ∷ [])) (last (at 4) (pure (variable 13))) no_arms)))))
     no_items)
     ≡ implies
     (unknown 0 (for_value (bound 12) ∷ []) ∷ unknown 1 (for_field 1 (bound 12) ∷ for_value (bound 13) ∷ []) ∷ [])
@@ -42,7 +43,8 @@ TupleMatchExample =
 
 -- ---- let rec f l = match l with [] -> 0 | h :: t -> h + f t, with f, l, h, t and a made name as 10 to 14
 
--- the elements of l have the unknown 0, its matrix 1, which may speak of the head as `#1`, its top 2, and the result 3, which may speak of l
+-- the elements of l have the unknown 0, its matrix 1, which may speak of the head as `#1`, its top 2, and the result 3, which may speak
+-- of l
 abbrev pub list_basis : Basis
 list_basis =
     basis (alone ∷ and_with (Position 1) ∷ alone ∷ and_with (symbol_of 11) ∷ [])
@@ -100,7 +102,9 @@ MissingCaseExample =
 abbrev pub DefaultExample : Type 0
 DefaultExample =
     implications_of list_basis []
-    (list_function (arm (pattern_name 12) (last (at 4) (pure (amount 1))) (empty_arm (arm (pattern_build 7 []) (last (at 5) (pure (amount 2))) no_arms))))
+    (list_function
+    (arm (pattern_name 12) (last (at 4) (pure (amount 1)))
+    (empty_arm (arm (pattern_build 7 []) (last (at 5) (pure (amount 2))) no_arms))))
     ≡ implies in_empty (is_sum (literal 0) ∷ []) (part 3) 2 of_flow
     ∷ implies (of_l ∷ known (objects (bound 12) (bound 11)) ∷ []) (is_sum (literal 1) ∷ []) (part 3) 4 of_flow
     ∷ []

@@ -14,3 +14,6 @@ pub mod Sample
 pub mod Examples
 pub mod BlockExamples
 pub mod DataExamples
+pub mod NumberExamples
+pub mod TypeExamples
+pub mod Solutions

@@ -27,12 +27,12 @@ module _ (P : Basis) where
   abbrev pub demand : Context → Formula → Origin → List Implication
   demand Γ p o = record { hypotheses = facts P.setting Γ; left = []; goal = known p; origin = o } ∷ []
 
-  abbrev pub below : Context → Refined → Refined → Origin → List Implication
-  below Γ l r o = split P.setting o Γ l r
+  abbrev pub subtyping : Context → Refined → Refined → Origin → List Implication
+  subtyping Γ l r o = split P.setting o Γ l r
 
   abbrev pub operands : Context → List Pure → Refineds → Origin → List Implication
   operands Γ [] ts o = []
-  operands Γ (e ∷ es) ts o = below Γ (pure_type P Γ e) (first_of ts) o ++ operands Γ es (rest_of ts) o
+  operands Γ (e ∷ es) ts o = subtyping Γ (pure_type P Γ e) (first_of ts) o ++ operands Γ es (rest_of ts) o
 
   abbrev mutual
     -- of an operation at a place: its own, and those of its branches or its body against the type
@@ -45,14 +45,14 @@ module _ (P : Basis) where
         cond (is_data_match P Γ u)
         (each (λ c. of_constructor Γ l u (has_default arms) c t arms) (matched_constructors P Γ u) ++ of_default Γ u arms t)
         (of_first Γ u arms t)
-    of_operation Γ l (call g a) t = below Γ (pure_type P Γ a) (argument_of (pure_type P Γ g)) (from l of_argument)
+    of_operation Γ l (call g a) t = subtyping Γ (pure_type P Γ a) (argument_of (pure_type P Γ g)) (from l of_argument)
     of_operation Γ l (tuple es) t = []
     of_operation Γ l (build p c es) t = operands Γ es (field_types P Γ p c es) (from l of_argument)
     of_operation Γ l (make p n e) t =
-        demand Γ (not_negative n) (from l of_length) ++ below Γ (pure_type P Γ e) (P.template p) (from l of_argument)
+        demand Γ (not_negative n) (from l of_length) ++ subtyping Γ (pure_type P Γ e) (P.template p) (from l of_argument)
     of_operation Γ l (fetch u i) t = demand Γ (in_range u i) (from l of_index)
     of_operation Γ l (store u i e) t =
-        demand Γ (in_range u i) (from l of_index) ++ below Γ (pure_type P Γ e) (element_of (type_of_use P Γ u)) (from l of_argument)
+        demand Γ (in_range u i) (from l of_index) ++ subtyping Γ (pure_type P Γ e) (element_of (type_of_use P Γ u)) (from l of_argument)
     of_operation Γ l (divide x y) t = demand Γ (not_zero y) (from l of_divisor)
     of_operation Γ l (remainder x y) t = demand Γ (not_zero y) (from l of_divisor)
     of_operation Γ l (assert e) t = demand Γ (formula_of e) (from l of_assertion)
@@ -61,13 +61,13 @@ module _ (P : Basis) where
     of_operation Γ l (print e) t = []
     of_operation Γ l (map_empty p) t = []
     of_operation Γ l (map_add p k e m) t =
-        below Γ (pure_type P Γ e) (element_at P.setting.scopes k (P.template p)) (from l of_argument)
-        ++ below Γ (pure_type P Γ m) (P.template p) (from l of_argument)
+        subtyping Γ (pure_type P Γ e) (element_at P.setting.scopes k (P.template p)) (from l of_argument)
+        ++ subtyping Γ (pure_type P Γ m) (P.template p) (from l of_argument)
     of_operation Γ l (map_find k m) t = []
 
     -- of a block against the type
     pub of_block : Context → Block → Refined → List Implication
-    of_block Γ (last l o) t = of_operation Γ l o t ++ cond (passes_on o) [] (below Γ (type_of P Γ o) t (from l of_flow))
+    of_block Γ (last l o) t = of_operation Γ l o t ++ cond (passes_on o) [] (subtyping Γ (type_of P Γ o) t (from l of_flow))
     of_block Γ (binding x l o b) t = of_operation Γ l o (type_of P Γ o) ++ of_block (bind x (type_of P Γ o) Γ) b t
     of_block Γ (recursive g p y b c) t =
         of_block (recursive_context P Γ g p y) b (recursive_type P p y) ++ of_block (bind g (P.template p) Γ) c t
@@ -99,7 +99,7 @@ module _ (P : Basis) where
 
   -- of a definition's own template
   abbrev pub of_definition : Context → Place → ℕ → Block → List Implication
-  of_definition Γ l k b = cond (has_template b) (below (last_context P Γ b) (last_type P Γ b) (P.template k) (from l of_flow)) []
+  of_definition Γ l k b = cond (has_template b) (subtyping (last_context P Γ b) (last_type P Γ b) (P.template k) (from l of_flow)) []
 
   -- the implications of a program, in order
   abbrev pub implications_of : Context → Program → List Implication

@@ -1,5 +1,5 @@
--- What holds of a program and its templates whatever the assignment: both sides of each subtyping have one simple type, and each name is new
--- where it is bound.
+-- What holds of a program and its templates whatever the assignment: both sides of each subtyping have one simple type, and each name is
+-- new where it is bound.
 use Rattle.std.specs.Prelude.{◌≡◌, ℕ, Bool, true, false, List, [], ◌∷◌}
 use Rattle.lq_parts.specs.Part.{known}
 use Rattle.lq_pred.specs.Formula.{negation}

@@ -2,8 +2,12 @@
 ghost use Rattle.lq_checks.specs.BlockExamples.{InnerFunctionExample, InnerRecursionExample, BoundMatchExample, TruthExample, NumberMatchExample, UnitExample};
 ghost use Rattle.lq_checks.specs.DataExamples.{TupleExample, TupleMatchExample, ListExample, MissingCaseExample, DefaultExample, BuildExample, MapExample};
 ghost use Rattle.lq_checks.specs.Examples.{SampleExample, TypedExample, ReadExample, AliasExample, IfExample, DivideExample, RemainderExample, AssertFalseExample, PolymorphicExample, FunctionExample};
+ghost use Rattle.lq_checks.specs.NumberExamples.{SumExample, PartialCallExample, GuardExample, NestedGuardExample, AssertVariableExample, TruthCallExample, TruthGuardExample, QuotientExample, ZeroDivisorExample, AnyExample, KnownPartExample, KnownExample, OwnBlockExample, KeptNameExample};
+ghost use Rattle.lq_checks.specs.TypeExamples.{TripleExample, NestedTupleExample, TupleArgumentExample, ArrayInTupleExample, FunctionInTupleExample, NestedArrayExample, TruthArrayExample, PolymorphicArrayExample, SomeExample, NoneExample, NoFunctionExample, UnitListExample, OrderExample, OtherwiseExample, MatchTwiceExample, MatrixExample, NestedMapExample};
 ghost use Rattle.lq_checks.specs.Laws.{ListIsChecks, TypedIsReady, TypedListIsChecks};
+ghost use Rattle.lq_checks.specs.Solutions.{FlowsSolve};
 
+use lq_parts::unions_of_selections;
 use lq_refined::simple_types_are_kept;
 use lq_subtype::split_is_subtype;
 
@@ -28,6 +32,15 @@ pub fn typed_list_is_checks()
 {
     list_is_checks();
     typed_is_ready();
+}
+
+/// Of a ready program, the greatest selection of instances that makes the flows of the list valid is the strongest solution where it makes the
+/// whole list valid, and where there is any solution; where some demand is the first that isn't valid under it, there is no solution.
+pub fn flows_solve()
+    ensures { FlowsSolve }
+{
+    list_is_checks();
+    unions_of_selections();
 }
 
 /// The implications of some programs, worked out by hand: numbers, functions and arrays.
@@ -63,4 +76,43 @@ pub fn block_examples()
     ensures truth { TruthExample }
     ensures number_match { NumberMatchExample }
     ensures unit { UnitExample }
+{}
+
+/// The implications of some more programs, worked out by hand: numbers, truth values, calls and branches.
+pub fn number_examples()
+    ensures sum { SumExample }
+    ensures partial_call { PartialCallExample }
+    ensures guard { GuardExample }
+    ensures nested_guard { NestedGuardExample }
+    ensures assert_variable { AssertVariableExample }
+    ensures truth_call { TruthCallExample }
+    ensures truth_guard { TruthGuardExample }
+    ensures quotient { QuotientExample }
+    ensures zero_divisor { ZeroDivisorExample }
+    ensures any { AnyExample }
+    ensures known_part { KnownPartExample }
+    ensures known { KnownExample }
+    ensures own_block { OwnBlockExample }
+    ensures kept_name { KeptNameExample }
+{}
+
+/// The implications of some more programs, worked out by hand: each case of subtyping, one in another, and more of datatypes and maps.
+pub fn type_examples()
+    ensures triple { TripleExample }
+    ensures nested_tuple { NestedTupleExample }
+    ensures tuple_argument { TupleArgumentExample }
+    ensures array_in_tuple { ArrayInTupleExample }
+    ensures function_in_tuple { FunctionInTupleExample }
+    ensures nested_array { NestedArrayExample }
+    ensures truth_array { TruthArrayExample }
+    ensures polymorphic_array { PolymorphicArrayExample }
+    ensures some { SomeExample }
+    ensures none { NoneExample }
+    ensures no_function { NoFunctionExample }
+    ensures unit_list { UnitListExample }
+    ensures order { OrderExample }
+    ensures otherwise { OtherwiseExample }
+    ensures match_twice { MatchTwiceExample }
+    ensures matrix { MatrixExample }
+    ensures nested_map { NestedMapExample }
 {}
