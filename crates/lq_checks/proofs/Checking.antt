@@ -9,9 +9,10 @@ use Rattle.lq_refined.specs.Refined.{Refined, unit_type, argument_of, element_of
 use Rattle.lq_subtype.specs.Implication.{of_assertion, of_index, of_divisor, of_length, of_case, of_argument, of_flow, Implication, AllHold}
 use Rattle.lq_subtype.specs.Splitting.{SplitIsSubtype}
 use Rattle.lq_checks.specs.Basis.{Basis}
-use Rattle.lq_checks.specs.Checks.{AreNewNames, is_data_match, matched_constructors, in_arm, Obeys, obeys_pure, obeys_fun, obeys_if, obeys_data_match, obeys_other_match, obeys_call, obeys_tuple, obeys_build, obeys_make, obeys_fetch, obeys_store, obeys_divide, obeys_remainder, obeys_assert, obeys_assert_false, obeys_read, obeys_print, obeys_map_empty, obeys_map_add, obeys_map_find, Against, against_last, against_binding, against_recursive, IsRecursive, is_recursive, AreCases, cases_none, cases_more, IsCase, case_here, case_later, case_default, case_missing, IsDefault, default_none, default_here, default_later, IsFirst, first_none, first_arm, Gives, gives_last, gives_binding, gives_recursive, Checks, checks_none, checks_define, checks_recursive, checks_unit, checks_any}
+use Rattle.lq_checks.specs.Checks.{Obeys, obeys_pure, obeys_fun, obeys_if, obeys_data_match, obeys_other_match, obeys_call, obeys_tuple, obeys_build, obeys_make, obeys_fetch, obeys_store, obeys_divide, obeys_remainder, obeys_assert, obeys_assert_false, obeys_read, obeys_print, obeys_map_empty, obeys_map_add, obeys_map_find, Against, against_last, against_binding, against_recursive, IsRecursive, is_recursive, AreCases, cases_none, cases_more, IsCase, case_here, case_later, case_default, case_missing, IsDefault, default_none, default_here, default_later, IsFirst, first_none, first_arm, Gives, gives_last, gives_binding, gives_recursive, Checks, checks_none, checks_define, checks_recursive, checks_unit, checks_any}
 use Rattle.lq_checks.specs.Listing.{from, each, demand, subtyping, of_operation, of_block, of_recursive, of_constructor, of_default, of_first, of_given, of_definition, implications_of}
-use Rattle.lq_checks.specs.Match.{missing_context}
+use Rattle.lq_checks.specs.Binders.{AreNewNames}
+use Rattle.lq_checks.specs.Match.{is_data_match, matched_constructors, in_arm, missing_context}
 use Rattle.lq_checks.specs.Operation.{in_range, not_zero, not_negative, element_at, type_of, field_types, bind, body_context, body_type, recursive_context, recursive_type, last_context, last_type}
 use Rattle.lq_checks.specs.Pure.{formula_of, type_of_use, pure_type}
 use Rattle.lq_checks.specs.Ready.{IsReadyOperation, IsReadyBlock, IsReadyRecursive, IsReadyCase, IsReadyDefault, IsReadyFirst, IsReadyGiven, IsReady}
@@ -93,7 +94,7 @@ module _ (law : SplitIsSubtype) (P : Basis) (A : Assignment) where
         met_where law P A (is_arm_of c q) false (of_block P (in_arm P Γ u q) b t) (of_constructor P Γ l u d c t arms) e (case_met l h rest)
     case_met l case_default r = tt
     case_met l (case_missing {Γ = Γ} {u = u} {c = c} h) r =
-        demand_met law P A (missing_context P Γ u.name (type_of_use P Γ u) c) falsity (from l of_case) h
+        demand_met law P A (missing_context P Γ u c) falsity (from l of_case) h
 
     default_met : {Γ : Context} {u : Use} {t : Refined} {arms : Arms} → IsDefault P A Γ u arms t → IsReadyDefault P Γ u arms t
         → AllHold A (of_default P Γ u arms t)
@@ -137,7 +138,7 @@ module _ (law : SplitIsSubtype) (P : Basis) (A : Assignment) where
       → IsCase P A Γ u d c t no_arms
   missing_hold l Γ u true c t m = case_default
   missing_hold l Γ u false c t m =
-      case_missing (demand_hold law P A (missing_context P Γ u.name (type_of_use P Γ u) c) falsity (from l of_case) m)
+      case_missing (demand_hold law P A (missing_context P Γ u c) falsity (from l of_case) m)
 
   -- where the implications are valid, the rules are obeyed
   mutual

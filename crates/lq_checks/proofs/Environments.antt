@@ -16,8 +16,7 @@ use Rattle.lq_tree.specs.MlType.{MlType, MlTypes}
 use Rattle.lq_tree.specs.Types as types
 use Rattle.lq_tree.specs.Types.{Constructor, put, put_all}
 use Rattle.lq_checks.specs.Basis.{Basis}
-use Rattle.lq_checks.specs.Binders.{IsNotIn}
-use Rattle.lq_checks.specs.Checks.{IsNewName, AreNewNames}
+use Rattle.lq_checks.specs.Binders.{IsNewName, AreNewNames, IsNotIn}
 use Rattle.lq_checks.specs.Match.{name_for, names_for, bind_all, bind_components, value_as, fields_by, arm_context}
 use Rattle.lq_checks.specs.Operation.{empty_by, empty_type, empty_types, built_arguments, datatype_of, equations_by, keyed, all_keyed, element_at, type_of, field_types, bind}
 use Rattle.lq_checks.specs.Pure.{sum_of, variable_by, variable_type, instance_of, type_of_use, pure_type, pure_types, pure_atom, operands_for}

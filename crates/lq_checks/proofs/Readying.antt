@@ -8,7 +8,7 @@ use Rattle.lq_tree.specs.MlType as ml
 use Rattle.lq_tree.specs.MlType.{MlType}
 use Rattle.lq_checks.specs.Basis.{Basis}
 use Rattle.lq_checks.specs.Binders.{IsNotIn, binders, AllDiffer}
-use Rattle.lq_checks.specs.Checks.{is_data_match}
+use Rattle.lq_checks.specs.Match.{is_data_match}
 use Rattle.lq_checks.specs.Operation.{type_of, body_type, last_context, last_type}
 use Rattle.lq_checks.specs.Pure.{type_of_use}
 use Rattle.lq_checks.specs.Ready.{Where, SameType, IsReadyOperation, IsReadyBlock, IsReadyRecursive, IsReadyCase, IsReadyDefault, IsReadyFirst, IsReadyGiven, IsReady}

@@ -1,10 +1,22 @@
 -- The binders of a program, and that each is new where it is bound.
 use Rattle.std.specs.Prelude.{◌≡◌, ℕ, false, ◌==◌, List, [], ◌∷◌, ◌++◌}
+use Rattle.lq_refined.specs.Context.{Context, IsNew}
+use Rattle.lq_refined.specs.Operations.{symbol_of}
+use Rattle.lq_refined.specs.Refined.{unit_type}
+use Rattle.lq_checks.specs.Operation.{bind}
 use Rattle.lq_checks.specs.Tree.{names_of, Operation, fun, if_else, match_on, Block, last, binding, recursive, Arms, no_arms, arm, Program, no_items, define, define_recursive, run_unit, run_any}
 
 abbrev pub IsNotIn : List ℕ → ℕ → Type 0
 IsNotIn [] x = Unit {0}
 IsNotIn (y ∷ ys) x = ((y == x) ≡ false) × IsNotIn ys x
+
+-- in an environment
+abbrev pub IsNewName : ℕ → Context → Type 0
+IsNewName x Γ = IsNew (symbol_of x) Γ
+
+abbrev pub AreNewNames : List ℕ → Context → Type 0
+AreNewNames [] Γ = Unit {0}
+AreNewNames (x ∷ xs) Γ = IsNewName x Γ × AreNewNames xs (bind x unit_type Γ)
 
 -- no two of the list are one
 abbrev pub AllDiffer : List ℕ → Type 0

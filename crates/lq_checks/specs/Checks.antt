@@ -4,14 +4,14 @@ use Rattle.lq_name.specs.declared.place.Place.{Place}
 use Rattle.lq_parts.specs.Assignment.{Assignment, Implied}
 use Rattle.lq_parts.specs.Part.{known}
 use Rattle.lq_pred.specs.Formula.{Formula, falsity, negation}
-use Rattle.lq_refined.specs.Context.{guard, Context, IsNew}
-use Rattle.lq_refined.specs.Operations.{symbol_of}
+use Rattle.lq_refined.specs.Context.{guard, Context}
 use Rattle.lq_refined.specs.Refined.{Refined, unit_type, Refineds, argument_of, element_of}
 use Rattle.lq_subtype.specs.Splitting.{first_of, rest_of}
 use Rattle.lq_subtype.specs.Subtype.{facts, IsSubtype}
 use Rattle.lq_checks.specs.Basis.{Basis}
-use Rattle.lq_checks.specs.Match.{is_datatype, arm_context, missing_context}
-use Rattle.lq_checks.specs.Operation.{in_range, not_zero, not_negative, datatype_of, element_at, type_of, field_types, bind, body_context, body_type, recursive_context, recursive_type, last_context, last_type}
+use Rattle.lq_checks.specs.Binders.{IsNewName, AreNewNames}
+use Rattle.lq_checks.specs.Match.{is_data_match, matched_constructors, in_arm, missing_context}
+use Rattle.lq_checks.specs.Operation.{in_range, not_zero, not_negative, element_at, type_of, field_types, bind, body_context, body_type, recursive_context, recursive_type, last_context, last_type}
 use Rattle.lq_checks.specs.Pure.{formula_of, type_of_use, pure_type}
 use Rattle.lq_checks.specs.Tree.{Use, Pure, Pattern, names_of, is_arm_of, takes_all, has_default, passes_on, has_template, Operation, pure, fun, if_else, match_on, call, tuple, build, make, fetch, store, divide, remainder, assert, assert_false, read, print, map_empty, map_add, map_find, Block, last, binding, recursive, Arms, no_arms, arm, Program, no_items, define, define_recursive, run_unit, run_any}
 
@@ -23,24 +23,6 @@ Demanded P A Γ p = Implied A (facts P.setting Γ) (known p)
 abbrev pub AreArguments : Basis → Assignment → Context → List Pure → Refineds → Type 0
 AreArguments P A Γ [] ts = Unit {0}
 AreArguments P A Γ (e ∷ es) ts = IsSubtype P.setting A Γ (pure_type P Γ e) (first_of ts) × AreArguments P A Γ es (rest_of ts)
-
-abbrev pub IsNewName : ℕ → Context → Type 0
-IsNewName x Γ = IsNew (symbol_of x) Γ
-
-abbrev pub AreNewNames : List ℕ → Context → Type 0
-AreNewNames [] Γ = Unit {0}
-AreNewNames (x ∷ xs) Γ = IsNewName x Γ × AreNewNames xs (bind x unit_type Γ)
-
--- the type of the match's variable is a datatype
-abbrev pub is_data_match : Basis → Context → Use → Bool
-is_data_match P Γ u = is_datatype (type_of_use P Γ u)
-
--- the constructors of the match's variable, in the order of their definition
-abbrev pub matched_constructors : Basis → Context → Use → List ℕ
-matched_constructors P Γ u = P.constructors_of (datatype_of (type_of_use P Γ u))
-
-abbrev pub in_arm : Basis → Context → Use → Pattern → Context
-in_arm P Γ u q = arm_context P Γ u.name (type_of_use P Γ u) q
 
 mutual
   -- The operation obeys its row. The branches of `if` and `match`, and the body of `fun`, are against the type, which is idle in the
@@ -109,7 +91,7 @@ mutual
         → IsCase P A Γ u d c t arms → IsCase P A Γ u d c t (arm q b arms)
     case_default : {Γ : Context} {u : Use} {c : ℕ} {t : Refined} → IsCase P A Γ u true c t no_arms
     case_missing : {Γ : Context} {u : Use} {c : ℕ} {t : Refined}
-        → Demanded P A (missing_context P Γ u.name (type_of_use P Γ u) c) falsity → IsCase P A Γ u false c t no_arms
+        → Demanded P A (missing_context P Γ u c) falsity → IsCase P A Γ u false c t no_arms
 
   -- the first arm that takes all, where there is one
   pub data IsDefault (P : Basis) (A : Assignment) : Context → Use → Arms → Refined → Type 0 where

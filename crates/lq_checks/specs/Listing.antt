@@ -9,8 +9,7 @@ use Rattle.lq_subtype.specs.Implication.{Reason, of_assertion, of_index, of_divi
 use Rattle.lq_subtype.specs.Splitting.{first_of, rest_of, split}
 use Rattle.lq_subtype.specs.Subtype.{facts}
 use Rattle.lq_checks.specs.Basis.{Basis}
-use Rattle.lq_checks.specs.Checks.{is_data_match, matched_constructors, in_arm}
-use Rattle.lq_checks.specs.Match.{missing_context}
+use Rattle.lq_checks.specs.Match.{is_data_match, matched_constructors, in_arm, missing_context}
 use Rattle.lq_checks.specs.Operation.{in_range, not_zero, not_negative, element_at, type_of, field_types, bind, body_context, body_type, recursive_context, recursive_type, last_context, last_type}
 use Rattle.lq_checks.specs.Pure.{formula_of, type_of_use, pure_type}
 use Rattle.lq_checks.specs.Tree.{Use, Pure, is_arm_of, takes_all, has_default, passes_on, has_template, Operation, pure, fun, if_else, match_on, call, tuple, build, make, fetch, store, divide, remainder, assert, assert_false, read, print, map_empty, map_add, map_find, Block, last, binding, recursive, Arms, no_arms, arm, Program, no_items, define, define_recursive, run_unit, run_any}
@@ -75,7 +74,7 @@ module _ (P : Basis) where
     -- of the arm of a constructor, or that there is no value of it
     pub of_constructor : Context → Place → Use → Bool → ℕ → Refined → Arms → List Implication
     of_constructor Γ l u d c t no_arms =
-        cond d [] (demand (missing_context P Γ u.name (type_of_use P Γ u) c) falsity (from l of_case))
+        cond d [] (demand (missing_context P Γ u c) falsity (from l of_case))
     of_constructor Γ l u d c t (arm q b arms) =
         cond (is_arm_of c q) (of_block (in_arm P Γ u q) b t) (of_constructor Γ l u d c t arms)
 

@@ -12,8 +12,8 @@ use Rattle.lq_subtype.specs.Splitting.{first_of, rest_of}
 use Rattle.lq_subtype.specs.Subtype.{fields_of, with_guards}
 use Rattle.lq_checks.specs.Basis.{Basis}
 use Rattle.lq_checks.specs.Operation.{datatype_of, equations_by, bind}
-use Rattle.lq_checks.specs.Pure.{variable_type}
-use Rattle.lq_checks.specs.Tree.{Pattern, pattern_any, pattern_name, pattern_unit, pattern_tuple, pattern_build}
+use Rattle.lq_checks.specs.Pure.{type_of_use, variable_type}
+use Rattle.lq_checks.specs.Tree.{Use, Pattern, pattern_any, pattern_name, pattern_unit, pattern_tuple, pattern_build}
 
 abbrev pub is_datatype : Refined → Bool
 is_datatype (data_with d ts m p) = true
@@ -62,6 +62,19 @@ module _ (P : Basis) (Γ : Context) (x : ℕ) (t : Refined) where
   arm_context (pattern_tuple ys) = bind_components P.setting.scopes [] 0 ys (components_of t) Γ
   arm_context (pattern_build c ys) = build_context c ys
 
-  -- in which a constructor that no arm names is to be impossible: its equations of x, with `#k` for its fields
-  abbrev pub missing_context : ℕ → Context
-  missing_context c = with_guards (equations_by P c (value_as x ∷ [])) Γ
+-- ---- of a match on a use of a variable
+
+-- the type of the match's variable is a datatype
+abbrev pub is_data_match : Basis → Context → Use → Bool
+is_data_match P Γ u = is_datatype (type_of_use P Γ u)
+
+-- the constructors of the match's variable, in the order of their definition
+abbrev pub matched_constructors : Basis → Context → Use → List ℕ
+matched_constructors P Γ u = P.constructors_of (datatype_of (type_of_use P Γ u))
+
+abbrev pub in_arm : Basis → Context → Use → Pattern → Context
+in_arm P Γ u q = arm_context P Γ u.name (type_of_use P Γ u) q
+
+-- in which a constructor that no arm names is to be impossible: its equations of the variable, with `#k` for its fields
+abbrev pub missing_context : Basis → Context → Use → ℕ → Context
+missing_context P Γ u c = with_guards (equations_by P c (value_as u.name ∷ [])) Γ

@@ -7,7 +7,8 @@ use Rattle.lq_refined.specs.Context.{guard, Context}
 use Rattle.lq_refined.specs.Refined.{Refined, unit_type, Refineds, argument_of, element_of, erased}
 use Rattle.lq_subtype.specs.Splitting.{first_of, rest_of}
 use Rattle.lq_checks.specs.Basis.{Basis}
-use Rattle.lq_checks.specs.Checks.{IsNewName, AreNewNames, is_data_match, in_arm}
+use Rattle.lq_checks.specs.Binders.{IsNewName, AreNewNames}
+use Rattle.lq_checks.specs.Match.{is_data_match, in_arm}
 use Rattle.lq_checks.specs.Operation.{element_at, type_of, field_types, bind, body_context, body_type, recursive_context, recursive_type, last_context, last_type}
 use Rattle.lq_checks.specs.Pure.{formula_of, type_of_use, pure_type}
 use Rattle.lq_checks.specs.Tree.{Use, Pure, names_of, is_arm_of, takes_all, passes_on, has_template, Operation, pure, fun, if_else, match_on, call, tuple, build, make, fetch, store, divide, remainder, assert, assert_false, read, print, map_empty, map_add, map_find, Block, last, binding, recursive, Arms, no_arms, arm, Program, no_items, define, define_recursive, run_unit, run_any}
