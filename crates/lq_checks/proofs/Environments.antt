@@ -162,8 +162,8 @@ pub pattern_names : {P : Basis} {Δ Θ : Types} {a : MlType} {q : Pattern} → H
 pattern_names has_any = refl
 pattern_names has_name = refl
 pattern_names has_nothing = refl
-pattern_names (has_components {Δ = Δ} {us = us} {xs = xs}) = names_typed xs us Δ
-pattern_names (has_fields {Δ = Δ} {k = k} {us = us} {xs = xs} e) = names_typed xs (fields_at us k) Δ
+pattern_names (has_components {Δ = Δ} {us = us} {xs = xs} n) = names_typed xs us Δ
+pattern_names (has_fields {Δ = Δ} {k = k} {us = us} {xs = xs} e n m) = names_typed xs (fields_at us k) Δ
 
 -- ---- what the operations on refined types keep
 
@@ -203,12 +203,12 @@ module _ (keeps : KeepSimpleTypes) (P : Basis) (Q : Points) (are : AreTemplates 
       → HasShape (h.instance_of Q o s) (instance_of P Γ o t)
   instance_shape Γ None a = a
   instance_shape Γ (Some i) {s = s} {t = t} a =
-      let e : put (types.type_at (all_erased (P.instances i))) (erased t) ≡ put (types.type_at (Q.instances i)) s = both_put
-      (are.instances i) (erased_is a) in
-      shape_of _ (keeps.instantiating (P.instances i) t ∙ e)
+      let e : put (types.type_at (all_erased (P.type_arguments i))) (erased t) ≡ put (types.type_at (Q.type_arguments i)) s = both_put
+      (are.type_arguments i) (erased_is a) in
+      shape_of _ (keeps.instantiating (P.type_arguments i) t ∙ e)
 
   pub use_shape : {Δ : Types} {Γ : Context} → Fits Δ Γ → (u : Use) → HasShape (h.type_of_use Q Δ u) (type_of_use P Γ u)
-  use_shape {Γ = Γ} f u = instance_shape Γ u.instance (shape_in f u.name)
+  use_shape {Γ = Γ} f u = instance_shape Γ u.type_arguments (shape_in f u.name)
 
   pub use_is : {Δ : Types} {Γ : Context} → Fits Δ Γ → (u : Use) {s : MlType} → h.type_of_use Q Δ u ≡ s → HasShape s (type_of_use P Γ u)
   use_is {Γ = Γ} f u e = subst (λ s. HasShape s (type_of_use P Γ u)) e (use_shape f u)
@@ -269,9 +269,9 @@ module _ (keeps : KeepSimpleTypes) (P : Basis) (Q : Points) (are : AreTemplates 
   pattern_fits x f s has_any = f
   pattern_fits x f s has_name = fits_bind (variable_shape x s) f
   pattern_fits x f s has_nothing = f
-  pattern_fits x {t = t} f s (has_components {us = us} {xs = xs}) =
+  pattern_fits x {t = t} f s (has_components {us = us} {xs = xs} n) =
       components_fit P.setting.scopes xs [] 0 us (components_of t) (component_shapes s) f
-  pattern_fits x f s (has_fields {c = c} {xs = xs} e) = build_fits x c xs f e s
+  pattern_fits x f s (has_fields {c = c} {xs = xs} e n m) = build_fits x c xs f e s
 
   -- what an operation gives has its simple type
   pub operation_shape : {Δ : Types} {Γ : Context} {o : Operation} {s : MlType} → Fits Δ Γ → HasOperation P Q Δ o s → IsPointed Q o s
@@ -283,7 +283,7 @@ module _ (keeps : KeepSimpleTypes) (P : Basis) (Q : Points) (are : AreTemplates 
   operation_shape {Γ = Γ} f (has_call {f = g} {e = a} k b) i =
       put_shape (binder_of (pure_type P Γ g)) (pure_atom P Γ a) (result_shape (pure_shape f k))
   operation_shape f (has_tuple es) i = shape_tuple (pure_shapes f es)
-  operation_shape {Γ = Γ} f (has_build {p = p} {c = c} {es = es} e q hs) i =
+  operation_shape {Γ = Γ} f (has_build {p = p} {c = c} {es = es} e n q hs) i =
       built_shape es (equations_by P c (operands_for P Γ 0 es)) (point_shape p q)
   operation_shape f (has_make {p = p} e n a) i = shape_array (point_shape p e)
   operation_shape f (has_fetch {u = u} e k) i = element_shape (use_is f u e)

@@ -6,3 +6,4 @@ pub mod Environments
 pub mod Readying
 pub mod Sample
 pub mod Solving
+pub mod Judged

@@ -59,7 +59,7 @@ module _ (keeps : KeepSimpleTypes) (P : Basis) (Q : Points) (are : AreTemplates 
         (first_ready u arms n f (use_shape keeps P Q are f u) s)
     operation_ready (has_call g a) n f s = same_type (pure_shape keeps P Q are f a) (argument_shape (pure_shape keeps P Q are f g))
     operation_ready (has_tuple hs) n f s = tt
-    operation_ready {Γ = Γ} (has_build {p = p} {c = c} {es = es} e q hs) n f s =
+    operation_ready {Γ = Γ} (has_build {p = p} {c = c} {es = es} e k q hs) n f s =
         operands_same keeps P Q are f hs (operand_shapes keeps P Q are Γ p c es e q)
     operation_ready (has_make {p = p} e k a) n f s = same_type (pure_shape keeps P Q are f a) (point_shape keeps P Q are p e)
     operation_ready (has_fetch e i) n f s = tt

@@ -12,4 +12,4 @@ pub record Basis : Type 0 where
   pub constructors_of : ℕ → List ℕ
   pub equations : ℕ → List Formula
   pub template : ℕ → Refined
-  pub instances : ℕ → Refineds
+  pub type_arguments : ℕ → Refineds

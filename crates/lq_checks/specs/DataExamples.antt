@@ -1,5 +1,5 @@
 -- The implications of some programs, worked out by hand: tuples, datatypes and maps.
-use Rattle.std.specs.Prelude.{◌≡◌, [], ◌∷◌, ◌++◌, Some}
+use Rattle.std.specs.Prelude.{◌≡◌, ℕ, zero, suc, [], ◌∷◌, ◌++◌, Some}
 use Rattle.lq_name.specs.declared.operation.CompareOp.TheVariants as op
 use Rattle.lq_parts.specs.Part.{Part, known, unknown, Parts}
 use Rattle.lq_pred.specs.Formula.{falsity, compare, objects}
@@ -8,13 +8,17 @@ use Rattle.lq_pred.specs.declared.symbol.Symbol.TheVariants.{Position}
 use Rattle.lq_refined.specs.Operations.{symbol_of}
 use Rattle.lq_refined.specs.Refined.{Refined, unit_type, function, tuple_of, map_with, none, more}
 use Rattle.lq_subtype.specs.Implication.{of_assertion, of_case, of_argument, of_flow}
+use Rattle.lq_tree.specs.MlType as ml
+use Rattle.lq_tree.specs.Types.{list_type}
 use Rattle.lq_checks.specs.Basis.{Basis}
+use Rattle.lq_checks.specs.Binders.{binders, AllDiffer}
 use Rattle.lq_checks.specs.Listing.{implications_of}
 use Rattle.lq_checks.specs.Operation.{value}
 use Rattle.lq_checks.specs.Pure.{literal}
 use Rattle.lq_checks.specs.Sample.{at, the, variable, amount, bound, field, size, equals, is_sum, is_object, part, for_value, for_name, for_field, int_of, list_of, implies, basis, alone, and_with}
 use Rattle.lq_checks.specs.Tree as t
 use Rattle.lq_checks.specs.Tree.{Block, Program, pattern_any, pattern_name, pattern_unit, pattern_tuple, pattern_build, Arms, no_arms, arm, pure, fun, match_on, call, tuple, build, assert, read, map_empty, map_add, map_find, last, binding, no_items, define, define_recursive, run_unit, run_any}
+use Rattle.lq_checks.specs.Typing.{Points, AreTemplates, HasProgram}
 
 -- ---- tuples: let p = (1, 2), with p as 10; the second component's unknown may speak of the first as `#1`
 
@@ -89,6 +93,19 @@ ListExample =
     ∷ implies (in_filled ++ (tail_head ++ of_tail)) (part 1 ∷ []) (part 1) 3 of_argument
     ∷ implies (in_filled ++ unknown 3 (for_name 11 (bound 13) ∷ for_value (bound 14) ∷ []) ∷ [])
     (is_sum (s.add (bound 12) (bound 14)) ∷ []) (part 3) 4 of_flow ∷ []
+
+-- it is simply typed too, its binders differ, and its template has the simple type of its point
+abbrev pub list_point : ℕ → ml.MlType
+list_point zero = ml.arrow (list_type ml.int) ml.int
+list_point (suc p) = ml.unit
+
+abbrev pub list_points : Points
+list_points = record { point = list_point; type_arguments = λ i. ml.no_types }
+
+abbrev pub TypedListExample : Type 0
+TypedListExample =
+    let program = list_function (empty_arm filled_arm) in
+    AreTemplates list_basis list_points × HasProgram list_basis list_points [] program × AllDiffer (binders program)
 
 -- without the arm of `[]`: that it is impossible comes first, as `[]` is defined before `::`
 abbrev pub MissingCaseExample : Type 0

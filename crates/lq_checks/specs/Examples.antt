@@ -64,7 +64,7 @@ sample_type zero = ml.arrow ml.int ml.int
 sample_type (suc p) = ml.unit
 
 abbrev pub sample_points : Points
-sample_points = record { point = sample_type; instances = λ i. ml.no_types }
+sample_points = record { point = sample_type; type_arguments = λ i. ml.no_types }
 
 abbrev pub TypedExample : Type 0
 TypedExample =
@@ -193,7 +193,7 @@ PolymorphicExample =
     implications_of
     (basis_with (alone ∷ alone ∷ []) (function (Some 11) (type_variable 0) (type_variable 0) ∷ int_of 1 ∷ []) (more (int_of 0) none)) []
     (define 10 (at 1) 0 (last (at 2) (fun 0 11 (last (at 3) (pure (variable 11)))))
-    (define 12 (at 4) 1 (last (at 5) (call (t.use_of record { name = 10; instance = Some 0 }) (amount 3))) no_items))
+    (define 12 (at 4) 1 (last (at 5) (call (t.use_of record { name = 10; type_arguments = Some 0 }) (amount 3))) no_items))
     ≡ implies [] (is_sum (literal 3) ∷ []) (part 0) 5 of_argument ∷ implies [] (part 0 ∷ []) (part 1) 4 of_flow ∷ []
 
 -- ---- let f g = g 1 let h x = x let a = f h, with f, g, h, x and a as 10 to 14

@@ -17,3 +17,4 @@ pub mod BlockExamples
 pub mod DataExamples
 pub mod NumberExamples
 pub mod TypeExamples
+pub mod JudgedExamples

@@ -64,10 +64,10 @@ module _ (P : Basis) (Γ : Context) where
   -- the type of the name in the environment, in which the use of a generalised name has types for its variables
   abbrev pub instance_of : Option ℕ → Refined → Refined
   instance_of None t = t
-  instance_of (Some i) t = instantiated (P.instances i) t
+  instance_of (Some i) t = instantiated (P.type_arguments i) t
 
   abbrev pub type_of_use : Use → Refined
-  type_of_use u = instance_of u.instance (type_in Γ (symbol_of u.name))
+  type_of_use u = instance_of u.type_arguments (type_in Γ (symbol_of u.name))
 
   abbrev pub pure_type : Pure → Refined
   pure_type (whole n) = number_type (whole n)

@@ -25,7 +25,7 @@ at column = record { text = text.Program; line = 1; column = column }
 -- ---- expressions
 
 abbrev pub the : ℕ → Use
-the x = record { name = x; instance = None }
+the x = record { name = x; type_arguments = None }
 
 abbrev pub variable : ℕ → Pure
 variable x = use_of (the x)
@@ -115,7 +115,7 @@ basis_with scopes templates by = record {
   constructors_of = ordered;
   equations = sizes;
   template = template_at templates;
-  instances = λ i. by;
+  type_arguments = λ i. by;
 }
 
 abbrev pub basis : List (List Symbol) → List Refined → Basis

@@ -7,7 +7,7 @@ use Rattle.lq_name.specs.declared.place.Place.{Place}
 -- a use of a name; of a generalised name with a number, by which it has types for its type variables
 pub record Use : Type 0 where
   pub name : ℕ
-  pub instance : Option ℕ
+  pub type_arguments : Option ℕ
 
 pub data Pure : Type 0 where
   whole : ℤ → Pure

@@ -141,7 +141,7 @@ PolymorphicArrayExample =
     (define 10 (at 1) 0 (last (at 2) (fun 0 11 (last (at 3) (fetch (the 11) (amount 0)))))
     (define 13 (at 4) 2
     (binding 12 (at 5) (make 1 (amount 1) (amount 7))
-    (last (at 6) (call (t.use_of record { name = 10; instance = Some 0 }) (variable 12))))
+    (last (at 6) (call (t.use_of record { name = 10; type_arguments = Some 0 }) (variable 12))))
     no_items))
     ≡ implies (unknown 0 (for_value (bound 11) ∷ []) ∷ []) [] (known range) 3 of_index
     ∷ implies [] [] (known (compare op.Le (literal 0) (literal 1))) 5 of_length

@@ -1,12 +1,12 @@
 -- When normal trees are simply typed, and when templates are of the points' simple types.
-use Rattle.std.specs.Prelude.{◌≡◌, ℕ, ℤ, Bool, true, ◌==◌, cond, List, [], ◌∷◌, Option, Some, None}
+use Rattle.std.specs.Prelude.{◌≡◌, ℕ, ℤ, Bool, true, ◌==◌, cond, List, [], ◌∷◌, length, Option, Some, None}
 use Rattle.lq_name.specs.declared.operation.CompareOp.{CompareOp}
 use Rattle.lq_name.specs.declared.place.Place.{Place}
 use Rattle.lq_refined.specs.Refined.{erased, all_erased}
 use Rattle.lq_tree.specs.MlType.{MlType, int, bool, unit, var, arrow, array, named, map_of, MlTypes, no_types, more_types}
 use Rattle.lq_tree.specs.MlType as ml
 use Rattle.lq_tree.specs.Types as types
-use Rattle.lq_tree.specs.Types.{Constructor, put, put_all}
+use Rattle.lq_tree.specs.Types.{Constructor, put, put_all, count_types}
 use Rattle.lq_checks.specs.Basis.{Basis}
 use Rattle.lq_checks.specs.Tree as t
 use Rattle.lq_checks.specs.Tree.{has_template, Use, Pure, Pattern, pattern_any, pattern_name, pattern_unit, pattern_tuple, pattern_build, Operation, Block, Arms, no_arms, arm, Program}
@@ -14,11 +14,11 @@ use Rattle.lq_checks.specs.Tree.{has_template, Use, Pure, Pattern, pattern_any, 
 -- the simple types of points, and those for the type variables of uses
 pub record Points : Type 0 where
   pub point : ℕ → MlType
-  pub instances : ℕ → MlTypes
+  pub type_arguments : ℕ → MlTypes
 
 pub record AreTemplates (P : Basis) (Q : Points) : Type 0 where
   pub templates : (p : ℕ) → erased (P.template p) ≡ Q.point p
-  pub instances : (i : ℕ) → all_erased (P.instances i) ≡ Q.instances i
+  pub type_arguments : (i : ℕ) → all_erased (P.type_arguments i) ≡ Q.type_arguments i
 
 -- names with their types, in which the last comes first
 abbrev pub Types : Type 0
@@ -30,10 +30,10 @@ simple_type_in (n ∷ Δ) x = cond (n.0 == x) n.1 (simple_type_in Δ x)
 
 abbrev pub instance_of : Points → Option ℕ → MlType → MlType
 instance_of Q None a = a
-instance_of Q (Some i) a = put (types.type_at (Q.instances i)) a
+instance_of Q (Some i) a = put (types.type_at (Q.type_arguments i)) a
 
 abbrev pub type_of_use : Points → Types → Use → MlType
-type_of_use Q Δ u = instance_of Q u.instance (simple_type_in Δ u.name)
+type_of_use Q Δ u = instance_of Q u.type_arguments (simple_type_in Δ u.name)
 
 abbrev pub first_type : MlTypes → MlType
 first_type no_types = unit
@@ -76,8 +76,10 @@ pub data HasPattern (P : Basis) : Types → MlType → Pattern → Types → Typ
   has_any : {Δ : Types} {a : MlType} → HasPattern P Δ a pattern_any Δ
   has_name : {Δ : Types} {a : MlType} {x : ℕ} → HasPattern P Δ a (pattern_name x) ((x, a) ∷ Δ)
   has_nothing : {Δ : Types} → HasPattern P Δ unit pattern_unit Δ
-  has_components : {Δ : Types} {us : MlTypes} {xs : List ℕ} → HasPattern P Δ (ml.tuple us) (pattern_tuple xs) (with_types xs us Δ)
+  has_components : {Δ : Types} {us : MlTypes} {xs : List ℕ} → length xs ≡ count_types us
+      → HasPattern P Δ (ml.tuple us) (pattern_tuple xs) (with_types xs us Δ)
   has_fields : {Δ : Types} {c : ℕ} {k : Constructor} {us : MlTypes} {xs : List ℕ} → P.setting.constructors c ≡ Some k
+      → count_types us ≡ k.parameters → length xs ≡ count_types k.fields
       → HasPattern P Δ (named k.datatype us) (pattern_build c xs) (with_types xs (fields_at us k) Δ)
 
 -- a function, a conditional or a match that is bound, or of which no type is expected, has a template, and so a point of its type
@@ -99,7 +101,8 @@ mutual
     has_call : {Δ : Types} {f e : Pure} {a b : MlType} → HasPure Q Δ f (arrow a b) → HasPure Q Δ e a → HasOperation P Q Δ (t.call f e) b
     has_tuple : {Δ : Types} {es : List Pure} {us : MlTypes} → HavePures Q Δ es us → HasOperation P Q Δ (t.tuple es) (ml.tuple us)
     has_build : {Δ : Types} {p c : ℕ} {es : List Pure} {k : Constructor} {us : MlTypes} → P.setting.constructors c ≡ Some k
-        → Q.point p ≡ named k.datatype us → HavePures Q Δ es (fields_at us k) → HasOperation P Q Δ (t.build p c es) (named k.datatype us)
+        → count_types us ≡ k.parameters → Q.point p ≡ named k.datatype us → HavePures Q Δ es (fields_at us k)
+        → HasOperation P Q Δ (t.build p c es) (named k.datatype us)
     has_make : {Δ : Types} {p : ℕ} {n e : Pure} {a : MlType} → Q.point p ≡ a → HasPure Q Δ n int → HasPure Q Δ e a
         → HasOperation P Q Δ (t.make p n e) (array a)
     has_fetch : {Δ : Types} {u : Use} {i : Pure} {a : MlType} → type_of_use Q Δ u ≡ array a → HasPure Q Δ i int

@@ -1,9 +1,10 @@
 // Laws of the definitions. Nothing is run.
 ghost use Rattle.lq_checks.specs.BlockExamples.{InnerFunctionExample, InnerRecursionExample, BoundMatchExample, TruthExample, NumberMatchExample, UnitExample};
-ghost use Rattle.lq_checks.specs.DataExamples.{TupleExample, TupleMatchExample, ListExample, MissingCaseExample, DefaultExample, BuildExample, MapExample};
+ghost use Rattle.lq_checks.specs.DataExamples.{TupleExample, TupleMatchExample, ListExample, TypedListExample, MissingCaseExample, DefaultExample, BuildExample, MapExample};
 ghost use Rattle.lq_checks.specs.Examples.{SampleExample, TypedExample, ReadExample, AliasExample, IfExample, DivideExample, RemainderExample, AssertFalseExample, PolymorphicExample, FunctionExample};
 ghost use Rattle.lq_checks.specs.NumberExamples.{SumExample, PartialCallExample, GuardExample, NestedGuardExample, AssertVariableExample, TruthCallExample, TruthGuardExample, QuotientExample, ZeroDivisorExample, AnyExample, KnownPartExample, KnownExample, OwnBlockExample, KeptNameExample};
 ghost use Rattle.lq_checks.specs.TypeExamples.{TripleExample, NestedTupleExample, TupleArgumentExample, ArrayInTupleExample, FunctionInTupleExample, NestedArrayExample, TruthArrayExample, PolymorphicArrayExample, SomeExample, NoneExample, NoFunctionExample, UnitListExample, OrderExample, OtherwiseExample, MatchTwiceExample, MatrixExample, NestedMapExample};
+ghost use Rattle.lq_checks.specs.JudgedExamples.{GuardedChecks, UnguardedFails};
 ghost use Rattle.lq_checks.specs.Laws.{ListIsChecks, TypedIsReady, TypedListIsChecks};
 ghost use Rattle.lq_checks.specs.Solutions.{FlowsSolve};
 
@@ -34,8 +35,8 @@ pub fn typed_list_is_checks()
     typed_is_ready();
 }
 
-/// Of a ready program, the greatest selection of instances that makes the flows of the list valid is the strongest solution where it makes the
-/// whole list valid, and where there is any solution; where some demand is the first that isn't valid under it, there is no solution.
+/// Of a ready program, the greatest selection of instances that makes the flows of the list valid is the strongest solution where it makes
+/// the whole list valid, and where there is any solution; where some demand is the first that isn't valid under it, there is no solution.
 pub fn flows_solve()
     ensures { FlowsSolve }
 {
@@ -62,6 +63,7 @@ pub fn data_examples()
     ensures tuple { TupleExample }
     ensures tuple_match { TupleMatchExample }
     ensures list { ListExample }
+    ensures typed { TypedListExample }
     ensures missing_case { MissingCaseExample }
     ensures default { DefaultExample }
     ensures build { BuildExample }
@@ -115,4 +117,11 @@ pub fn type_examples()
     ensures match_twice { MatchTwiceExample }
     ensures matrix { MatrixExample }
     ensures nested_map { NestedMapExample }
+{}
+
+/// A program whose assertions follow from its guards checks under every assignment, and one with an assertion of which nothing is known
+/// checks under none.
+pub fn judged_examples()
+    ensures checks { GuardedChecks }
+    ensures fails { UnguardedFails }
 {}

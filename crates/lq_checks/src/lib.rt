@@ -4,6 +4,6 @@
 mod laws;
 
 pub use laws::{
-    block_examples, data_examples, examples, flows_solve, list_is_checks, number_examples,
-    type_examples, typed_is_ready, typed_list_is_checks,
+    block_examples, data_examples, examples, flows_solve, judged_examples, list_is_checks,
+    number_examples, type_examples, typed_is_ready, typed_list_is_checks,
 };

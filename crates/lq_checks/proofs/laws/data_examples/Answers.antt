@@ -1,4 +1,5 @@
 use Rattle.std.proofs.Common.{refl}
+use Rattle.lq_checks.proofs.Sample.{list_templates, list_typed, list_differs}
 use Rattle.lq_checks.proofs.laws.data_examples.Goals as goal
 
 pub returns-clause-tuple : goal.returns-clause-tuple
@@ -9,6 +10,9 @@ returns-clause-tuple_match c = refl
 
 pub returns-clause-list : goal.returns-clause-list
 returns-clause-list c = refl
+
+pub returns-clause-typed : goal.returns-clause-typed
+returns-clause-typed c = (list_templates, list_typed, list_differs)
 
 pub returns-clause-missing_case : goal.returns-clause-missing_case
 returns-clause-missing_case c = refl
