@@ -1,9 +1,9 @@
 -- What operations give, and what environments have, has the simple types of a typed tree.
 use Rattle.std.proofs.Common.{◌≡◌, ℕ, suc, Bool, true, false, cond, ◌==◌, List, [], ◌∷◌, Option, Some, None, refl, ap, ◌∙◌, subst}
-use Rattle.lq_parts.specs.Part.{Part, Parts, Scopes, parts_by}
+use Rattle.lq_parts.specs.Part.{Parts, Scopes, parts_by}
 use Rattle.lq_parts.specs.Substitution.{of_sum, swap, Subst}
 use Rattle.lq_pred.specs.declared.symbol.Symbol.TheVariants.{Position}
-use Rattle.lq_refined.specs.Context.{guard, Context, type_in}
+use Rattle.lq_refined.specs.Context.{Context, type_in}
 use Rattle.lq_refined.specs.Laws.{KeepSimpleTypes}
 use Rattle.lq_refined.specs.Operations.{atom_of, symbol_of, applied, renamed}
 use Rattle.lq_refined.specs.Refined.{Refined, data_with, Refineds, Kind, number, truth_value, object, other, kind, top, binder_of, argument_of, result_of, element_of, components_of, arguments_of, matrix_of, with_top, erased, all_erased}
@@ -17,6 +17,7 @@ use Rattle.lq_tree.specs.Types as types
 use Rattle.lq_tree.specs.Types.{Constructor, put, put_all}
 use Rattle.lq_checks.specs.Basis.{Basis}
 use Rattle.lq_checks.specs.Binders.{IsNewName, AreNewNames, IsNotIn}
+use Rattle.lq_checks.specs.Fitting.{Fits, fits_none, fits_bind, fits_guard}
 use Rattle.lq_checks.specs.Match.{name_for, names_for, bind_all, bind_components, value_as, fields_by, arm_context}
 use Rattle.lq_checks.specs.Operation.{empty_by, empty_type, empty_types, built_arguments, datatype_of, equations_by, keyed, all_keyed, element_at, type_of, field_types, bind}
 use Rattle.lq_checks.specs.Pure.{sum_of, variable_by, variable_type, instance_of, type_of_use, pure_type, pure_types, pure_atom, operands_for}
@@ -113,11 +114,8 @@ abbrev pub names_in : Types → List ℕ
 names_in [] = []
 names_in (n ∷ Δ) = n.0 ∷ names_in Δ
 
--- the environment has the types
-pub data Fits : Types → Context → Type 0 where
-  fits_none : Fits [] []
-  fits_bind : {Δ : Types} {Γ : Context} {x : ℕ} {s : MlType} {t : Refined} → HasShape s t → Fits Δ Γ → Fits ((x, s) ∷ Δ) (bind x t Γ)
-  fits_guard : {Δ : Types} {Γ : Context} {p : Part} → Fits Δ Γ → Fits Δ (guard p ∷ Γ)
+pub fit : {Δ : Types} {Γ : Context} {x : ℕ} {s : MlType} {t : Refined} → HasShape s t → Fits Δ Γ → Fits ((x, s) ∷ Δ) (bind x t Γ)
+fit a f = fits_bind (erased_is a) f
 
 either_shape : (b : Bool) {s u : MlType} {l r : Refined} → HasShape s l → HasShape u r → HasShape (cond b s u) (cond b l r)
 either_shape true a b = a
@@ -125,7 +123,7 @@ either_shape false a b = b
 
 shape_in : {Δ : Types} {Γ : Context} → Fits Δ Γ → (x : ℕ) → HasShape (simple_type_in Δ x) (type_in Γ (symbol_of x))
 shape_in fits_none x = shape_unit
-shape_in (fits_bind {x = y} s f) x = either_shape (y == x) s (shape_in f x)
+shape_in (fits_bind {x = y} {t = t} e f) x = either_shape (y == x) (shape_of t e) (shape_in f x)
 shape_in (fits_guard f) x = shape_in f x
 
 pub new_fits : {Δ : Types} {Γ : Context} → Fits Δ Γ → (x : ℕ) → IsNotIn (names_in Δ) x → IsNewName x Γ
@@ -135,7 +133,7 @@ new_fits (fits_guard f) x n = new_fits f x n
 
 pub all_new_fit : {Δ : Types} {Γ : Context} → Fits Δ Γ → (xs : List ℕ) → AreNotIn (names_in Δ) xs → AreNewNames xs Γ
 all_new_fit f [] n = tt
-all_new_fit f (x ∷ xs) n = (new_fits f x n.0, all_new_fit (fits_bind shape_unit f) xs n.1)
+all_new_fit f (x ∷ xs) n = (new_fits f x n.0, all_new_fit (fit shape_unit f) xs n.1)
 
 guards_fit : (qs : Parts) {Δ : Types} {Γ : Context} → Fits Δ Γ → Fits Δ (with_guards qs Γ)
 guards_fit [] f = f
@@ -144,14 +142,14 @@ guards_fit (q ∷ qs) f = guards_fit qs (fits_guard f)
 names_fit : (xs : List ℕ) {ss : MlTypes} {ts : Refineds} {Δ : Types} {Γ : Context} → HaveShapes ss ts → Fits Δ Γ
     → Fits (with_types xs ss Δ) (bind_all xs ts Γ)
 names_fit [] ss f = f
-names_fit (x ∷ xs) ss f = names_fit xs (rest_shapes ss) (fits_bind (first_shape ss) f)
+names_fit (x ∷ xs) ss f = names_fit xs (rest_shapes ss) (fit (first_shape ss) f)
 
 components_fit : (scopes : Scopes) (xs : List ℕ) (θ : Subst) (j : ℕ) (us : MlTypes) (ts : Refineds) {Δ : Types} {Γ : Context}
     → HaveShapes us ts → Fits Δ Γ → Fits (with_types xs us Δ) (bind_components scopes θ j xs ts Γ)
 components_fit scopes [] θ j us ts ss f = f
 components_fit scopes (x ∷ xs) θ j us ts ss f =
     components_fit scopes xs (name_for j x (first_of ts) ∷ θ) (suc j) (rest_types us) (rest_of ts) (rest_shapes ss)
-    (fits_bind (shape_top (parts_by scopes θ (top (first_of ts))) (first_shape ss)) f)
+    (fit (shape_top (parts_by scopes θ (top (first_of ts))) (first_shape ss)) f)
 
 names_typed : (xs : List ℕ) (us : MlTypes) (Δ : Types) → names_in (with_types xs us Δ) ≡ with_names xs (names_in Δ)
 names_typed [] us Δ = refl
@@ -267,7 +265,7 @@ module _ (keeps : KeepSimpleTypes) (P : Basis) (Q : Points) (are : AreTemplates 
   pub pattern_fits : {Δ Θ : Types} {Γ : Context} (x : ℕ) {s : MlType} {t : Refined} {q : Pattern} → Fits Δ Γ → HasShape s t
       → HasPattern P Δ s q Θ → Fits Θ (arm_context P Γ x t q)
   pattern_fits x f s has_any = f
-  pattern_fits x f s has_name = fits_bind (variable_shape x s) f
+  pattern_fits x f s has_name = fit (variable_shape x s) f
   pattern_fits x f s has_nothing = f
   pattern_fits x {t = t} f s (has_components {us = us} {xs = xs} n) =
       components_fit P.setting.scopes xs [] 0 us (components_of t) (component_shapes s) f

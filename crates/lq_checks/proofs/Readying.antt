@@ -8,6 +8,7 @@ use Rattle.lq_tree.specs.MlType as ml
 use Rattle.lq_tree.specs.MlType.{MlType}
 use Rattle.lq_checks.specs.Basis.{Basis}
 use Rattle.lq_checks.specs.Binders.{IsNotIn, binders, AllDiffer}
+use Rattle.lq_checks.specs.Fitting.{Fits, fits_none, fits_guard}
 use Rattle.lq_checks.specs.Match.{is_data_match}
 use Rattle.lq_checks.specs.Operation.{type_of, body_type, last_context, last_type}
 use Rattle.lq_checks.specs.Pure.{type_of_use}
@@ -15,7 +16,7 @@ use Rattle.lq_checks.specs.Ready.{Where, SameType, IsReadyOperation, IsReadyBloc
 use Rattle.lq_checks.specs.Tree.{Use, names_of, is_arm_of, takes_all, passes_on, has_template, Operation, fun, if_else, match_on, Block, Arms, Program}
 use Rattle.lq_checks.specs.Typing.{Points, AreTemplates, Types, IsPointed, HasPattern, HasOperation, has_pure, has_fun, has_if, has_match, has_call, has_tuple, has_build, has_make, has_fetch, has_store, has_divide, has_remainder, has_assert, has_assert_false, has_read, has_print, has_map_empty, has_map_add, has_map_find, HasBlock, has_last, has_binding, has_recursive, HasRecursive, has_body, HaveArms, have_no_arms, have_arm, HasEnd, end_last, end_binding, end_recursive, HasProgram, has_no_items, has_define, has_define_recursive, has_run_unit, has_run_any}
 use Rattle.lq_checks.proofs.Binding.{with_names, NewInOperation, NewInBlock, NewInArms, last_names, NewInProgram, all_new}
-use Rattle.lq_checks.proofs.Environments.{argument_shape, result_shape, element_shape, at_key_shape, names_in, Fits, fits_none, fits_bind, fits_guard, new_fits, all_new_fit, pattern_names, renamed_shape, use_shape, use_is, pure_shape, operands_same, point_shape, operand_shapes, pattern_fits, operation_shape}
+use Rattle.lq_checks.proofs.Environments.{argument_shape, result_shape, element_shape, at_key_shape, names_in, fit, new_fits, all_new_fit, pattern_names, renamed_shape, use_shape, use_is, pure_shape, operands_same, point_shape, operand_shapes, pattern_fits, operation_shape}
 use Rattle.lq_checks.proofs.Shaping.{same_type}
 
 either : (b : Bool) {X Y : Type 0} → X → Y → Where b X Y
@@ -51,7 +52,7 @@ module _ (keeps : KeepSimpleTypes) (P : Basis) (Q : Points) (are : AreTemplates 
     operation_ready : {Δ : Types} {Γ : Context} {o : Operation} {s : MlType} {t : Refined} → HasOperation P Q Δ o s
         → NewInOperation (names_in Δ) o → Fits Δ Γ → HasShape s t → IsReadyOperation P Γ o t
     operation_ready (has_pure a) n f s = tt
-    operation_ready (has_fun {y = y} b) n f s = (new_fits f y n.0, block_ready b n.1 (fits_bind (argument_shape s) f) (body_shape y s))
+    operation_ready (has_fun {y = y} b) n f s = (new_fits f y n.0, block_ready b n.1 (fit (argument_shape s) f) (body_shape y s))
     operation_ready (has_if a b c) n f s = (block_ready b n.0 (fits_guard f) s, block_ready c n.1 (fits_guard f) s)
     operation_ready {Γ = Γ} (has_match {u = u} arms) n f s =
         either (is_data_match P Γ u)
@@ -81,16 +82,16 @@ module _ (keeps : KeepSimpleTypes) (P : Basis) (Q : Points) (are : AreTemplates 
     block_ready (has_last {o = o} h) n f s = (operation_ready h n f s, flow_ready (passes_on o) refl h f s)
     block_ready (has_binding {x = x} h i b) n f s =
         let a = operation_shape keeps P Q are f h i in
-        (operation_ready h n.0 f a, new_fits f x n.1, block_ready b n.2 (fits_bind a f) s)
+        (operation_ready h n.0 f a, new_fits f x n.1, block_ready b n.2 (fit a f) s)
     block_ready (has_recursive {g = g} {p = p} h c) n f s =
-        (recursive_ready h (n.0, n.1, n.2) f, block_ready c n.3 (fits_bind (point_shape keeps P Q are p refl) f) s)
+        (recursive_ready h (n.0, n.1, n.2) f, block_ready c n.3 (fit (point_shape keeps P Q are p refl) f) s)
 
     recursive_ready : {Δ : Types} {Γ : Context} {g p y : ℕ} {b : Block} → HasRecursive P Q Δ g p y b
         → IsNotIn (names_in Δ) g × IsNotIn (g ∷ names_in Δ) y × NewInBlock (y ∷ g ∷ names_in Δ) b → Fits Δ Γ → IsReadyRecursive P Γ g p y b
     recursive_ready (has_body {g = g} {p = p} {y = y} e b) n f =
         let a = point_shape keeps P Q are p e in
-        let d = fits_bind {x = g} (point_shape keeps P Q are p refl) f in
-        (new_fits f g n.0, new_fits d y n.1, block_ready b n.2 (fits_bind (argument_shape a) d) (body_shape y a))
+        let d = fit {x = g} (point_shape keeps P Q are p refl) f in
+        (new_fits f g n.0, new_fits d y n.1, block_ready b n.2 (fit (argument_shape a) d) (body_shape y a))
 
     case_ready : {Δ : Types} {Γ : Context} (u : Use) (c : ℕ) {r s : MlType} {t : Refined} {arms : Arms} → HaveArms P Q Δ r arms s
         → NewInArms (names_in Δ) arms → Fits Δ Γ → HasShape r (type_of_use P Γ u) → HasShape s t → IsReadyCase P Γ u c t arms
@@ -125,10 +126,10 @@ module _ (keeps : KeepSimpleTypes) (P : Basis) (Q : Points) (are : AreTemplates 
       let a = operation_shape keeps P Q are f h i in (operation_ready h n f a, f, a)
   given_ready (end_binding {x = x} h i b) n f =
       let a = operation_shape keeps P Q are f h i in
-      let r = given_ready b n.2 (fits_bind a f) in
+      let r = given_ready b n.2 (fit a f) in
       ((operation_ready h n.0 f a, new_fits f x n.1, r.0), r.1, r.2)
   given_ready (end_recursive {g = g} {p = p} h c) n f =
-      let r = given_ready c n.3 (fits_bind (point_shape keeps P Q are p refl) f) in
+      let r = given_ready c n.3 (fit (point_shape keeps P Q are p refl) f) in
       ((recursive_ready h (n.0, n.1, n.2) f, r.0), r.1, r.2)
 
   program_ready : {Δ : Types} {Γ : Context} {p : Program} → HasProgram P Q Δ p → NewInProgram (names_in Δ) p → Fits Δ Γ → IsReady P Γ p
@@ -136,10 +137,10 @@ module _ (keeps : KeepSimpleTypes) (P : Basis) (Q : Points) (are : AreTemplates 
   program_ready (has_define {x = x} {k = k} {b = b} {rest = rest} e h q) n f =
       let r = given_ready h n.0 f in
       let w = sym (names_end h) in
-      let others = program_ready q (subst (λ l. NewInProgram (x ∷ l) rest) w n.2) (fits_bind r.2 r.1) in
+      let others = program_ready q (subst (λ l. NewInProgram (x ∷ l) rest) w n.2) (fit r.2 r.1) in
       (r.0, template_ready (has_template b) refl k e r.2, new_fits r.1 x (subst (λ l. IsNotIn l x) w n.1), others)
   program_ready (has_define_recursive {g = g} {p = p} h rest) n f =
-      (recursive_ready h (n.0, n.1, n.2) f, program_ready rest n.3 (fits_bind (point_shape keeps P Q are p refl) f))
+      (recursive_ready h (n.0, n.1, n.2) f, program_ready rest n.3 (fit (point_shape keeps P Q are p refl) f))
   program_ready (has_run_unit b rest) n f = (block_ready b n.0 f shape_unit, program_ready rest n.1 f)
   program_ready (has_run_any h rest) n f = let r = given_ready h n.0 f in (r.0, program_ready rest n.1 f)
 

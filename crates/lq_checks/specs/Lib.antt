@@ -9,6 +9,7 @@ pub mod Checks
 pub mod Listing
 pub mod Ready
 pub mod Typing
+pub mod Fitting
 pub mod Laws
 pub mod Solutions
 pub mod Sample

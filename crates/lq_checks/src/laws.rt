@@ -4,6 +4,7 @@ ghost use Rattle.lq_checks.specs.DataExamples.{TupleExample, TupleMatchExample, 
 ghost use Rattle.lq_checks.specs.Examples.{SampleExample, TypedExample, ReadExample, AliasExample, IfExample, DivideExample, RemainderExample, AssertFalseExample, PolymorphicExample, FunctionExample};
 ghost use Rattle.lq_checks.specs.NumberExamples.{SumExample, PartialCallExample, GuardExample, NestedGuardExample, AssertVariableExample, TruthCallExample, TruthGuardExample, QuotientExample, ZeroDivisorExample, AnyExample, KnownPartExample, KnownExample, OwnBlockExample, KeptNameExample};
 ghost use Rattle.lq_checks.specs.TypeExamples.{TripleExample, NestedTupleExample, TupleArgumentExample, ArrayInTupleExample, FunctionInTupleExample, NestedArrayExample, TruthArrayExample, PolymorphicArrayExample, SomeExample, NoneExample, NoFunctionExample, UnitListExample, OrderExample, OtherwiseExample, MatchTwiceExample, MatrixExample, NestedMapExample};
+ghost use Rattle.lq_checks.specs.Fitting.{SimpleTypesAreGiven};
 ghost use Rattle.lq_checks.specs.JudgedExamples.{GuardedChecks, UnguardedFails};
 ghost use Rattle.lq_checks.specs.Laws.{ListIsChecks, TypedIsReady, TypedListIsChecks};
 ghost use Rattle.lq_checks.specs.Solutions.{FlowsSolve};
@@ -22,6 +23,14 @@ pub fn list_is_checks()
 /// A simply typed program whose binders differ, with templates of its points' simple types, is ready for the rules.
 pub fn typed_is_ready()
     ensures { TypedIsReady }
+{
+    simple_types_are_kept();
+}
+
+/// With templates of the points' simple types, and in an environment that has the simple types of names, an operation gives a type of its
+/// simple type, and the environment of an arm has the simple types of its pattern's names too.
+pub fn simple_types_are_given()
+    ensures { SimpleTypesAreGiven }
 {
     simple_types_are_kept();
 }

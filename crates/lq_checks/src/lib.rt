@@ -5,5 +5,5 @@ mod laws;
 
 pub use laws::{
     block_examples, data_examples, examples, flows_solve, judged_examples, list_is_checks,
-    number_examples, type_examples, typed_is_ready, typed_list_is_checks,
+    number_examples, simple_types_are_given, type_examples, typed_is_ready, typed_list_is_checks,
 };
