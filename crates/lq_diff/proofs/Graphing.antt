@@ -77,6 +77,30 @@ new_graph n = record {
   };
 }
 
+-- what leads back is forgotten
+pub forgotten : (arcs : List Arc) (links : List ℕ) (vertices : List Vertex) (order fallen : List ℕ) (trail : List Note) (starts : List Start)
+    → Stands arcs links vertices order fallen trail starts → Stands arcs links vertices order fallen [] []
+forgotten arcs links vertices order fallen trail starts h = record {
+  rests = record {
+    back = record {
+      ordered = h.rests.back.ordered;
+      below = tt;
+      links_in = λ i l. absurd (omega arith);
+      led = record {
+        arcs_in = λ i l. absurd (omega arith);
+        trail_in = λ i l. absurd (omega arith);
+        arcs_rise = λ i j l m. absurd (omega arith);
+        trail_rises = λ i j l m. absurd (omega arith);
+        reached = λ i l. absurd (omega arith);
+      };
+    };
+    rest = h.rests.rest;
+    empty = h.rests.empty;
+  };
+  same = h.same;
+  reached = h.reached;
+}
+
 -- one more start
 pub pushed_graph : (arcs : List Arc) (links : List ℕ) (vertices : List Vertex) (order fallen : List ℕ) (trail : List Note) (starts : List Start) (start : Start)
     → Stands arcs links vertices order fallen trail starts → start.arcs ≡ length arcs → start.trail ≡ length trail → Stands arcs links vertices order fallen trail (starts ++ start ∷ [])

@@ -4,6 +4,7 @@ pub mod Walking
 pub mod Solving
 pub mod Linking
 pub mod Placing
+pub mod Rooms
 pub mod Rows
 pub mod Trails
 pub mod Graphing

@@ -13,9 +13,6 @@ use Rattle.lq_diff.specs.Climb.{parts}
 use Rattle.lq_diff.specs.declared.arc.Arc.{Arc}
 use Rattle.lq_diff.specs.declared.vertex.Vertex.{Vertex}
 use Rattle.lq_diff.specs.Arcs.{Potentials, ArcHolds, Meets}
-use Rattle.lq_linear.specs.declared.engine.LinearStop.{LinearStop}
-use Rattle.lq_linear.specs.declared.engine.LinearStop.TheVariants.{Number, Pivots, Memory}
-use Rattle.lq_diff.specs.Stops.{StopsBy}
 use Rattle.lq_diff.specs.Links.{IsLatest}
 use Rattle.lq_diff.specs.Passes.{blank, vertex_at, AtRest, IsListed, AreListed, values, nexts, IsCaused, IsPass, IsLeast, NoneFalls, Falls, IsSized, IsNext, order_at, IsNarrow, IsStuck, IsClosing}
 use Rattle.std.proofs.Common.{FitsSigned, ◌^◌}
@@ -401,6 +398,11 @@ settled_now order v count h = record {
   others = λ t n. get_or-set_other order v t (count + 1) 0 n;
 }
 
+pub order_most : (order later : ℕ → ℕ) (v count : ℕ) → Settles order later v count → ((t : ℕ) → order t ≤ count) → (t : ℕ) → later t ≤ count + 1
+order_most order later v count s h t = same_or t v
+    (λ e. let f = s.here in let g = ap later e in omega arith)
+    (λ n. let f = s.others t n in let g = h t in omega arith)
+
 pub next_from : (arcs : List Arc) (top gap : ℕ) (r s : ℕ → Vertex) (order : ℕ → ℕ) (count i : ℕ)
     → IsPass arcs top gap s order count top i → ((t : ℕ) → values s t ≡ values r t) → NoneFalls s order → IsNext arcs (values r) (nexts s)
 next_from arcs top gap r s order count i pass kept none = record {
@@ -684,11 +686,6 @@ rests_more fallen s t order later k x h is before here others orders v =
 
 pub rests_at_last : (fallen : List ℕ) (s : ℕ → Vertex) (order : ℕ → ℕ) (k : ℕ) → length fallen ≤ k → RestsOrWaits fallen s order k → (v : ℕ) → AtRest s order v
 rests_at_last fallen s order k h r v = elim (r v) [ inl a ↦ a | inr w ↦ absurd (let l = slice_get_within fallen w.0 v w.2 in let m = w.1 in omega arith) ]
-
-pub stops_more : (n : ℕ) (stop : LinearStop) → StopsBy 0 stop → StopsBy n stop
-stops_more n (Number e) h = absurd (let l = h.1 in omega arith)
-stops_more n (Pivots k) h = h
-stops_more n Memory h = h
 
 -- the offers to those that are listed were accepted
 pub accepted : (fallen : List ℕ) (s t : ℕ → Vertex) (order : ℕ → ℕ) → AreListed fallen s order → ((v : ℕ) → IsListed fallen v → values t v ≡ nexts s v)

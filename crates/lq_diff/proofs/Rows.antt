@@ -1,5 +1,5 @@
 -- The arcs of rows: what they say of the rows.
-use Rattle.std.proofs.Common.{◌≡◌, ◌≢◌, ℕ, suc, zero, ◌+◌, ◌≤◌, ◌<◌, ◌^◌, refl, sym, ap, ap₂, subst, ◌∙◌, arith, List, [], ◌∷◌, ◌++◌, Bool, true, false, Option, Some, None, IfSome, IsNone, MatchBool, if◌then◌else◌, ◌==◌, nat_lt, slice_get, ◌⊎◌, inl, inr, length, take, drop, get_or, append_assoc, unsigned_abs, All, FitsSigned}
+use Rattle.std.proofs.Common.{◌≡◌, ◌≢◌, ℕ, suc, zero, ◌+◌, ◌*◌, ◌≤◌, ◌<◌, ◌^◌, refl, sym, ap, ap₂, subst, ◌∙◌, arith, List, [], ◌∷◌, ◌++◌, Bool, true, false, Option, Some, None, Result, Ok, Err, OnOk, IfErr, IfSome, IsNone, MatchBool, if◌then◌else◌, ◌==◌, nat_lt, slice_get, ◌⊎◌, inl, inr, length, take, drop, get_or, append_assoc, unsigned_abs, All, FitsSigned}
 use Rattle.std.specs.Int.{w128}
 use Rattle.std.proofs.lemmas.Bool.{cases_lt}
 use Rattle.std.proofs.Math.IntN.{ℤ, pos, negsuc, ◌+ℤ◌, ◌-ℤ◌}
@@ -33,8 +33,12 @@ use Rattle.lq_linear.specs.declared.engine.Answer.TheVariants.{Unasked, Solved, 
 use Rattle.lq_diff.specs.declared.graph.Graph.{Graph}
 use Rattle.lq_diff.specs.declared.graph.Start.{Start}
 use Rattle.lq_diff.specs.Trail.{start_at}
-use Rattle.lq_diff.specs.Graphs.{IsGraph}
-use Rattle.lq_diff.specs.Table.{Table, table_point, table_rows, multiplier_of, multipliers_of, table_last, value_at, over_zero, constants, AllFit, IsStanding, IsTable, TermsBelow}
+use Rattle.lq_diff.specs.Graphs.{HasNotes, HasPlace, HasRoom, IsGraph, SameItems, SameRoom, admitted}
+use Rattle.lq_diff.specs.Stops.{PastBy}
+use Rattle.lq_linear.specs.declared.engine.LinearStop.{LinearStop}
+use Rattle.lq_linear.specs.declared.engine.LinearStop.TheVariants.{Number, Pivots, Memory}
+use Rattle.lq_linear.specs.declared.limits.TheConstants.{SUM_LIMIT}
+use Rattle.lq_diff.specs.Table.{Table, table_point, table_rows, multiplier_of, multipliers_of, table_last, value_at, over_zero, constants, AllFit, IsDecided, IsStanding, IsTable, TermsBelow}
 use Rattle.lq_diff.proofs.Passing.{each, there}
 
 -- ---- the arcs of a list of rows
@@ -517,11 +521,11 @@ terms_wider m n [] h k = tt
 terms_wider m n (x ∷ parts) h k = (omega arith, terms_wider m n parts h k.1)
 
 -- ---- what stands
-pub solved_all : (edges : List Edge) (g : Graph) (conflict : Bool) (found : List (ℕ × Bool)) → IsStanding edges g conflict found → conflict ≡ false
+pub solved_all : (edges : List Edge) (g : Graph) (conflict : Bool) (found : List (ℕ × Bool)) → IsStanding edges g conflict found → admitted g ≡ length edges
     → IsSolved (arcs_of edges) (values (vertex_at g.vertices.items))
 solved_all edges g conflict found h e =
     subst (λ l. IsSolved l (values (vertex_at g.vertices.items)))
-    (take_all (length g.arcs.items) g.arcs.items (omega arith) ∙ h.arcs ∙ ap arcs_of (take_all (length g.starts.items) edges (let a = h.all e in omega arith))) h.graph.reached.solved
+    (take_all (length g.arcs.items) g.arcs.items (omega arith) ∙ h.arcs ∙ ap arcs_of (take_all (admitted g) edges (omega arith))) h.graph.reached.solved
 
 -- a cycle of the arcs of the first rows is one of all
 walk_more : (arcs others : List Arc) (a b : ℕ) (steps : List Arc) → ((x : Arc) → IsAmong arcs x → IsAmong others x) → IsWalk arcs a b steps → IsWalk others a b steps
@@ -546,7 +550,7 @@ known_contradicts edges g conflict found h e =
     (λ x m. subst (λ l. IsAmong l x) (sym (arcs_of-append (take n edges) (drop n edges)) ∙ ap arcs_of (take-append-drop n edges)) (among_first (arcs_of (take n edges)) (arcs_of (drop n edges)) x m)) (h.known e))
   where
     n : ℕ
-    n = suc (length g.starts.items)
+    n = suc (admitted g)
 
 length_one : {A : Type 0} (xs : List A) (x : A) → length (xs ++ x ∷ []) ≡ length xs + 1
 length_one [] x = omega arith
@@ -555,85 +559,135 @@ length_one (y ∷ xs) x = let e = length_one xs x in omega arith
 take_before : (k : ℕ) (edges : List Edge) (e : Edge) → k ≤ length edges → take k (edges ++ e ∷ []) ≡ take k edges
 take_before k edges e l = take-append-le k edges (e ∷ []) l
 
-pub arcs_added : (edges : List Edge) (e : Edge) → arcs_of (edges ++ e ∷ []) ≡ arcs_of edges ++ arcs_by e e.equal
-arcs_added edges e = arcs_of-append edges (e ∷ []) ∙ ap (λ l. arcs_of edges ++ l) (append_nil (arcs_by e e.equal))
+pub sizes_more : (edges : List Edge) (e : Edge) → sizes edges ≤ sizes (edges ++ e ∷ [])
+sizes_more [] e = omega arith
+sizes_more (x ∷ edges) e = let h = sizes_more edges e in omega arith
 
-pub arcs_all : (edges : List Edge) (g : Graph) (conflict : Bool) (found : List (ℕ × Bool)) → IsStanding edges g conflict found → conflict ≡ false → g.arcs.items ≡ arcs_of edges
-arcs_all edges g conflict found h c = h.arcs ∙ ap arcs_of (take_all (length g.starts.items) edges (let a = h.all c in omega arith))
+pub size_one : (edges : List Edge) (k : ℕ) (d : Edge) → k < length edges → unsigned_abs (get_or edges k d).weight ≤ sizes edges
+size_one [] k d l = absurd (omega arith)
+size_one (x ∷ edges) zero d l = omega arith
+size_one (x ∷ edges) (suc k) d l = let h = size_one edges k d (omega arith) in omega arith
 
-pub size_added : (edges : List Edge) (e : Edge) → unsigned_abs e.weight ≤ sizes (edges ++ e ∷ [])
-size_added [] e = omega arith
-size_added (x ∷ edges) e = let h = size_added edges e in omega arith
+sizes_taken : (k : ℕ) (edges : List Edge) → sizes (take k edges) ≤ sizes edges
+sizes_taken zero edges = omega arith
+sizes_taken (suc k) [] = omega arith
+sizes_taken (suc k) (x ∷ edges) = let h = sizes_taken k edges in omega arith
 
--- a row behind a conflict
-pub standing_behind : (edges new : List Edge) (g : Graph) (conflict : Bool) (found : List (ℕ × Bool)) (e : Edge) → IsStanding edges g conflict found → conflict ≡ true → new ≡ edges ++ e ∷ []
+bounded_more : (m n : ℕ) (arcs : List Arc) → m ≤ n → IsBounded m arcs → IsBounded n arcs
+bounded_more m n arcs l b = record { fall = let f = b.fall in omega arith; costs = λ k. wider (slice_get arcs k) (b.costs k) }
+  where
+    wider : (o : Option Arc) → IfSome o (λ a. a.cost ≤ℤ pos m) → IfSome o (λ a. a.cost ≤ℤ pos n)
+    wider None h = tt
+    wider (Some a) h = omega (arith, ints)
+
+pub bounded_first : (edges : List Edge) (k : ℕ) → IsBounded (sizes edges) (arcs_of (take k edges))
+bounded_first edges k = bounded_more (sizes (take k edges)) (sizes edges) (arcs_of (take k edges)) (sizes_taken k edges) (bounded (take k edges))
+
+pub arcs_few : (edges : List Edge) → length (arcs_of edges) ≤ 2 * length edges
+arcs_few [] = omega arith
+arcs_few (e ∷ edges) = two_more e e.equal (arcs_of edges) (length edges) (arcs_few edges)
+  where
+    two_more : (e : Edge) (b : Bool) (arcs : List Arc) (n : ℕ) → length arcs ≤ 2 * n → length (arcs_by e b ++ arcs) ≤ 2 * suc n
+    two_more e true arcs n h = omega arith
+    two_more e false arcs n h = omega arith
+
+-- a row more, which isn't admitted
+pub standing_behind : (edges new : List Edge) (g : Graph) (conflict : Bool) (found : List (ℕ × Bool)) (e : Edge) → IsStanding edges g conflict found → new ≡ edges ++ e ∷ []
     → e.from < length g.vertices.items → e.to < length g.vertices.items → HasNoTag e.tag edges → IsStanding new g conflict found
-standing_behind edges new g conflict found e h c is f t fresh = subst (λ l. IsStanding l g conflict found) (sym is) (record {
+standing_behind edges new g conflict found e h is f t fresh = subst (λ l. IsStanding l g conflict found) (sym is) (record {
   graph = h.graph;
   in_range = range_more edges e (length g.vertices.items) h.in_range f t;
   apart = apart_more edges e h.apart fresh;
   rows = let r = h.rows in let n = length_one edges e in omega arith;
-  all = λ q. absurd (let z : true ≡ false = sym c ∙ q in cc);
-  arcs = h.arcs ∙ ap arcs_of (sym (take_before (length g.starts.items) edges e h.rows));
-  starts = λ i l. h.starts i l ∙ ap (λ x. length (arcs_of x)) (sym (take_before i edges e (let r = h.rows in omega arith)));
-  more = λ q. let m = h.more c in let n = length_one edges e in omega arith;
-  known = λ q. subst (λ x. IsNegativeCycle (arcs_of x) found) (sym (take_before (suc (length g.starts.items)) edges e (let m = h.more c in omega arith))) (h.known c);
+  arcs = h.arcs ∙ ap arcs_of (sym (take_before (admitted g) edges e h.rows));
+  starts = λ i l. h.starts i l ∙ ap (λ x. length (arcs_of x)) (sym (take_before (g.base + i) edges e (let r = h.rows in omega arith)));
+  more = λ q. let m = h.more q in let n = length_one edges e in omega arith;
+  known = λ q. subst (λ x. IsNegativeCycle (arcs_of x) found) (sym (take_before (suc (admitted g)) edges e (let m = h.more q in omega arith))) (h.known q);
 })
 
--- a row whose arcs were admitted
-pub standing_admitted : (edges new : List Edge) (g later : Graph) (conflict : Bool) (found : List (ℕ × Bool)) (e : Edge) (start : Start) → IsStanding edges g conflict found → conflict ≡ false
-    → new ≡ edges ++ e ∷ [] → e.from < length g.vertices.items → e.to < length g.vertices.items → HasNoTag e.tag edges → IsGraph later
-    → length later.vertices.items ≡ length g.vertices.items → later.arcs.items ≡ g.arcs.items ++ arcs_by e e.equal → later.starts.items ≡ g.starts.items ++ start ∷ []
-    → start.arcs ≡ length g.arcs.items → IsStanding new later conflict found
-standing_admitted edges new g later conflict found e start h c is f t fresh graph same arcs starts at = subst (λ l. IsStanding l later conflict found) (sym is) (record {
+-- the arcs of the next row
+pub next_arcs : (edges : List Edge) (arcs : List Arc) (g : Graph) (found : List (ℕ × Bool)) (k : ℕ) (d : Edge) → IsStanding edges g false found → k ≡ admitted g → k < length edges → arcs ≡ g.arcs.items
+    → arcs_of (take (k + 1) edges) ≡ arcs ++ arcs_by (get_or edges k d) (get_or edges k d).equal
+next_arcs edges arcs g found k d h e l same =
+    arcs_more edges k d l ∙ ap (λ x. x ++ arcs_by (get_or edges k d) (get_or edges k d).equal) (ap (λ n. arcs_of (take n edges)) e ∙ sym (same ∙ h.arcs))
+
+pub next_in_range : (edges : List Edge) (arcs : List Arc) (g : Graph) (found : List (ℕ × Bool)) (k n : ℕ) (d : Edge) → IsStanding edges g false found → k ≡ admitted g → k < length edges → arcs ≡ g.arcs.items
+    → n ≡ length g.vertices.items → AllInRange (arcs ++ arcs_by (get_or edges k d) (get_or edges k d).equal) n
+next_in_range edges arcs g found k n d h e l same count =
+    subst (λ x. AllInRange x n) (next_arcs edges arcs g found k d h e l same)
+    (arcs_in_range (take (k + 1) edges) n (range_taken (k + 1) edges n (subst (λ m. EdgesInRange edges m) (sym count) h.in_range)))
+
+pub next_paired : (edges : List Edge) (arcs : List Arc) (g : Graph) (found : List (ℕ × Bool)) (k : ℕ) (d : Edge) → IsStanding edges g false found → k ≡ admitted g → k < length edges → arcs ≡ g.arcs.items
+    → ArePaired (arcs ++ arcs_by (get_or edges k d) (get_or edges k d).equal)
+next_paired edges arcs g found k d h e l same = subst ArePaired (next_arcs edges arcs g found k d h e l same) (paired (take (k + 1) edges) (apart_taken (k + 1) edges h.apart))
+
+pub next_bounded : (edges : List Edge) (arcs : List Arc) (g : Graph) (found : List (ℕ × Bool)) (k : ℕ) (d : Edge) → IsStanding edges g false found → k ≡ admitted g → k < length edges → arcs ≡ g.arcs.items
+    → IsBounded (sizes edges) (arcs ++ arcs_by (get_or edges k d) (get_or edges k d).equal)
+next_bounded edges arcs g found k d h e l same = subst (λ x. IsBounded (sizes edges) x) (next_arcs edges arcs g found k d h e l same) (bounded_first edges (k + 1))
+
+pub admitted_more : (g later : Graph) (start : Start) → later.starts.items ≡ g.starts.items ++ start ∷ [] → later.base ≡ g.base → admitted later ≡ admitted g + 1
+admitted_more g later start starts base = let n = ap length starts in let o = length_one g.starts.items start in omega (arith, base)
+
+pub admitted_same : (g later : Graph) → later.starts.items ≡ g.starts.items → later.base ≡ g.base → admitted later ≡ admitted g
+admitted_same g later starts base = let n = ap length starts in omega (arith, base)
+
+-- the next row's arcs were admitted
+pub standing_admitted : (edges : List Edge) (g later : Graph) (found steps : List (ℕ × Bool)) (d : Edge) (start : Start) → IsStanding edges g false found → admitted g < length edges
+    → IsGraph later → length later.vertices.items ≡ length g.vertices.items
+    → later.arcs.items ≡ g.arcs.items ++ arcs_by (get_or edges (admitted g) d) (get_or edges (admitted g) d).equal → later.starts.items ≡ g.starts.items ++ start ∷ []
+    → later.base ≡ g.base → start.arcs ≡ length g.arcs.items → IsStanding edges later false steps
+standing_admitted edges g later found steps d start h l graph same arcs starts base at = record {
   graph = graph;
-  in_range = subst (λ n. EdgesInRange (edges ++ e ∷ []) n) (sym same) (range_more edges e (length g.vertices.items) h.in_range f t);
-  apart = apart_more edges e h.apart fresh;
-  rows = omega (arith, all_of);
-  all = λ q. all_of;
-  arcs = arcs ∙ ap (λ l. l ++ arcs_by e e.equal) was ∙ sym (arcs_added edges e) ∙ ap arcs_of (sym (take_all (length later.starts.items) (edges ++ e ∷ []) (omega (arith, all_of))));
-  starts = λ i l. elim (cases_lt i (length g.starts.items)) [
-    | inl m ↦ ap (λ (x : List Start). (start_at x i).arcs) starts ∙ ap (λ (x : Start). x.arcs) (get_or_append_left g.starts.items (start ∷ []) _ i m) ∙ h.starts i m
-        ∙ ap (λ x. length (arcs_of x)) (sym (take_before i edges e (let r = h.rows in omega arith)))
-    | inr m ↦
-        let k : length edges ≡ i = (let n = ap length starts in let o = length_one g.starts.items start in let a = h.all c in omega arith) in
-        ap (λ (x : List Start). (start_at x i).arcs) starts ∙ ap (λ (x : Start). x.arcs) (get_or_at g.starts.items start [] _ i (h.all c ∙ k)) ∙ at ∙ ap length was
-        ∙ ap (λ x. length (arcs_of x)) (sym (take_before i edges e (omega arith) ∙ take_all i edges (omega arith)))
+  in_range = subst (λ n. EdgesInRange edges n) (sym same) h.in_range;
+  apart = h.apart;
+  rows = omega (arith, count);
+  arcs = arcs ∙ ap (λ x. x ++ arcs_by (get_or edges (admitted g) d) (get_or edges (admitted g) d).equal) h.arcs ∙ sym (arcs_more edges (admitted g) d l) ∙ ap (λ n. arcs_of (take n edges)) (sym count);
+  starts = λ i m. elim (cases_lt i (length g.starts.items)) [
+    | inl k ↦ ap (λ (x : List Start). (start_at x i).arcs) starts ∙ ap (λ (x : Start). x.arcs) (get_or_append_left g.starts.items (start ∷ []) _ i k) ∙ h.starts i k
+        ∙ ap (λ n. length (arcs_of (take (n + i) edges))) (sym base)
+    | inr k ↦
+        let e : length g.starts.items ≡ i = (let n = ap length starts in let o = length_one g.starts.items start in omega arith) in
+        ap (λ (x : List Start). (start_at x i).arcs) starts ∙ ap (λ (x : Start). x.arcs) (get_or_at g.starts.items start [] _ i e) ∙ at ∙ ap length h.arcs
+        ∙ ap (λ n. length (arcs_of (take n edges))) (let f : admitted g ≡ later.base + i = omega (arith, base, e) in f)
   ];
-  more = λ q. absurd (let z : true ≡ false = sym q ∙ c in cc);
-  known = λ q. absurd (let z : true ≡ false = sym q ∙ c in cc);
-})
+  more = λ q. absurd (cc);
+  known = λ q. absurd (cc);
+}
   where
-    all_of : length later.starts.items ≡ length (edges ++ e ∷ [])
-    all_of = let n = ap length starts in let o = length_one g.starts.items start in let m = length_one edges e in let a = h.all c in omega arith
+    count : admitted later ≡ admitted g + 1
+    count = let n = ap length starts in let o = length_one g.starts.items start in omega (arith, base)
 
-    was : g.arcs.items ≡ arcs_of edges
-    was = h.arcs ∙ ap arcs_of (take_all (length g.starts.items) edges (let a = h.all c in omega arith))
-
--- a row that closes a cycle
-pub standing_closed : (edges new : List Edge) (g later : Graph) (conflict : Bool) (found steps : List (ℕ × Bool)) (e : Edge) → IsStanding edges g conflict found → conflict ≡ false
-    → new ≡ edges ++ e ∷ [] → e.from < length g.vertices.items → e.to < length g.vertices.items → HasNoTag e.tag edges → IsGraph later
-    → length later.vertices.items ≡ length g.vertices.items → later.arcs.items ≡ g.arcs.items → later.starts.items ≡ g.starts.items
-    → IsNegativeCycle (g.arcs.items ++ arcs_by e e.equal) steps → IsStanding new later true steps
-standing_closed edges new g later conflict found steps e h c is f t fresh graph same arcs starts cycle = subst (λ l. IsStanding l later true steps) (sym is) (record {
+-- what stands where the arcs are the same
+pub standing_still : (edges : List Edge) (g later : Graph) (conflict : Bool) (found steps : List (ℕ × Bool)) → IsStanding edges g false found
+    → IsGraph later → length later.vertices.items ≡ length g.vertices.items → later.arcs.items ≡ g.arcs.items → admitted later ≡ admitted g
+    → (later.starts.items ≢ [] → (later.starts.items ≡ g.starts.items) × (later.base ≡ g.base))
+    → (conflict ≡ true → (admitted g < length edges) × IsNegativeCycle (arcs_of (take (suc (admitted g)) edges)) steps) → IsStanding edges later conflict steps
+standing_still edges g later conflict found steps h graph same arcs count starts closed = record {
   graph = graph;
-  in_range = subst (λ n. EdgesInRange (edges ++ e ∷ []) n) (sym same) (range_more edges e (length g.vertices.items) h.in_range f t);
-  apart = apart_more edges e h.apart fresh;
-  rows = let m = length_one edges e in omega (arith, all_of);
-  all = λ q. absurd (cc);
-  arcs = arcs ∙ was ∙ ap arcs_of (sym (take_before (length later.starts.items) edges e (omega (arith, all_of)) ∙ take_all (length later.starts.items) edges (omega (arith, all_of))));
-  starts = λ i l. ap (λ (x : List Start). (start_at x i).arcs) starts ∙ h.starts i (let k = ap length starts in omega arith)
-      ∙ ap (λ x. length (arcs_of x)) (sym (take_before i edges e (omega (arith, all_of))));
-  more = λ q. let m = length_one edges e in omega (arith, all_of);
-  known = λ q. subst (λ l. IsNegativeCycle l steps)
-      (ap (λ l. l ++ arcs_by e e.equal) was ∙ sym (arcs_added edges e) ∙ ap arcs_of (sym (take_all (suc (length later.starts.items)) (edges ++ e ∷ []) (let m = length_one edges e in omega (arith, all_of))))) cycle;
-})
-  where
-    all_of : length later.starts.items ≡ length edges
-    all_of = ap length starts ∙ h.all c
+  in_range = subst (λ n. EdgesInRange edges n) (sym same) h.in_range;
+  apart = h.apart;
+  rows = let r = h.rows in omega (arith, count);
+  arcs = arcs ∙ h.arcs ∙ ap (λ n. arcs_of (take n edges)) (sym count);
+  starts = λ i m.
+      let some = starts (λ e. let z = ap length e in omega arith) in
+      ap (λ (x : List Start). (start_at x i).arcs) some.0 ∙ h.starts i (let k = ap length some.0 in omega arith) ∙ ap (λ n. length (arcs_of (take (n + i) edges))) (sym some.1);
+  more = λ q. let m = (closed q).0 in omega (arith, count);
+  known = λ q. subst (λ n. IsNegativeCycle (arcs_of (take (suc n) edges)) steps) (sym count) (closed q).1;
+}
 
-    was : g.arcs.items ≡ arcs_of edges
-    was = h.arcs ∙ ap arcs_of (take_all (length g.starts.items) edges (let a = h.all c in omega arith))
+-- the next row closes a cycle
+pub standing_closed : (edges : List Edge) (g later : Graph) (found steps : List (ℕ × Bool)) (d : Edge) → IsStanding edges g false found → admitted g < length edges
+    → IsGraph later → length later.vertices.items ≡ length g.vertices.items → later.arcs.items ≡ g.arcs.items → later.starts.items ≡ g.starts.items → later.base ≡ g.base
+    → IsNegativeCycle (g.arcs.items ++ arcs_by (get_or edges (admitted g) d) (get_or edges (admitted g) d).equal) steps → IsStanding edges later true steps
+standing_closed edges g later found steps d h l graph same arcs starts base cycle =
+    standing_still edges g later true found steps h graph same arcs (let n = ap length starts in omega (arith, base)) (λ n. (starts, base)) (λ q. (
+      l,
+      subst (λ x. IsNegativeCycle x steps)
+          (ap (λ x. x ++ arcs_by (get_or edges (admitted g) d) (get_or edges (admitted g) d).equal) h.arcs ∙ sym (arcs_more edges (admitted g) d l) ∙ ap (λ n. arcs_of (take n edges)) (one_more (admitted g))) cycle,
+    ))
+  where
+    one_more : (n : ℕ) → n + 1 ≡ suc n
+    one_more n = omega arith
 
 -- fewer rows are kept, of which all were admitted
 arcs_front : (r n : ℕ) (edges : List Edge) → r ≤ n → take (length (arcs_of (take r edges))) (arcs_of (take n edges)) ≡ arcs_of (take r edges)
@@ -641,40 +695,58 @@ arcs_front r n edges l =
     ap (λ x. take (length (arcs_of (take r edges))) x) (ap arcs_of (sym (take-append-drop r (take n edges)) ∙ ap (λ z. z ++ drop r (take n edges)) (take-take r n edges l)) ∙ arcs_of-append (take r edges) (drop r (take n edges)))
     ∙ take_at (arcs_of (take r edges)) (arcs_of (drop r (take n edges))) (length (arcs_of (take r edges))) refl
 
-pub standing_back : (edges new : List Edge) (g later : Graph) (conflict : Bool) (found : List (ℕ × Bool)) (r : ℕ) → IsStanding edges g conflict found → r < length g.starts.items
-    → new ≡ take r edges → IsGraph later → length later.vertices.items ≡ length g.vertices.items → later.arcs.items ≡ take (start_at g.starts.items r).arcs g.arcs.items
-    → later.starts.items ≡ take r g.starts.items → IsStanding new later false found
-standing_back edges new g later conflict found r h l is graph same arcs starts = subst (λ x. IsStanding x later false found) (sym is) (record {
+pub standing_back : (edges new : List Edge) (g later : Graph) (conflict : Bool) (found : List (ℕ × Bool)) (r k : ℕ) → IsStanding edges g conflict found → r ≡ g.base + k → k < length g.starts.items
+    → new ≡ take r edges → IsGraph later → length later.vertices.items ≡ length g.vertices.items → later.arcs.items ≡ take (start_at g.starts.items k).arcs g.arcs.items
+    → later.starts.items ≡ take k g.starts.items → later.base ≡ g.base → IsStanding new later false found
+standing_back edges new g later conflict found r k h rk l is graph same arcs starts base = subst (λ x. IsStanding x later false found) (sym is) (record {
   graph = graph;
   in_range = subst (λ n. EdgesInRange (take r edges) n) (sym same) (range_taken r edges (length g.vertices.items) h.in_range);
   apart = apart_taken r edges h.apart;
   rows = omega (arith, count, edged);
-  all = λ q. count ∙ sym edged;
-  arcs = arcs ∙ ap (λ n. take n g.arcs.items) (h.starts r l) ∙ ap (take (length (arcs_of (take r edges)))) h.arcs ∙ arcs_front r (length g.starts.items) edges (omega arith)
+  arcs = arcs ∙ ap (λ n. take n g.arcs.items) (h.starts k l ∙ ap (λ n. length (arcs_of (take n edges))) (sym rk)) ∙ ap (take (length (arcs_of (take r edges)))) h.arcs ∙ arcs_front r (admitted g) edges (omega arith)
       ∙ ap arcs_of (sym (ap (λ n. take n (take r edges)) count ∙ take-take r r edges (omega arith)));
-  starts = λ i m. ap (λ (x : List Start). (start_at x i).arcs) starts ∙ ap (λ (x : Start). x.arcs) (get_or-take r g.starts.items i _ (omega (arith, count))) ∙ h.starts i (omega (arith, count))
-      ∙ ap (λ x. length (arcs_of x)) (sym (take-take i r edges (omega (arith, count))));
+  starts = λ i m. ap (λ (x : List Start). (start_at x i).arcs) starts ∙ ap (λ (x : Start). x.arcs) (get_or-take k g.starts.items i _ (omega (arith, taken))) ∙ h.starts i (omega (arith, taken))
+      ∙ ap (λ x. length (arcs_of x)) (sym (take-take (g.base + i) r edges (omega (arith, taken, rk)))) ∙ ap (λ n. length (arcs_of (take (n + i) (take r edges)))) (sym base);
   more = λ q. absurd (cc);
   known = λ q. absurd (cc);
 })
   where
-    count : length later.starts.items ≡ r
-    count = ap length starts ∙ length-take-le r g.starts.items (omega arith)
+    taken : length later.starts.items ≡ k
+    taken = ap length starts ∙ length-take-le k g.starts.items (omega arith)
+
+    count : admitted later ≡ r
+    count = omega (arith, taken, base, rk)
 
     edged : length (take r edges) ≡ r
     edged = length-take-le r edges (let k = h.rows in omega arith)
 
+-- no row is admitted any more
+pub standing_cleared : (edges new : List Edge) (g later : Graph) (conflict : Bool) (found : List (ℕ × Bool)) (r : ℕ) → IsStanding edges g conflict found
+    → new ≡ take r edges → IsGraph later → length later.vertices.items ≡ length g.vertices.items → later.arcs.items ≡ [] → later.starts.items ≡ [] → later.base ≡ 0 → IsStanding new later false found
+standing_cleared edges new g later conflict found r h is graph same arcs starts base = subst (λ x. IsStanding x later false found) (sym is) (record {
+  graph = graph;
+  in_range = subst (λ n. EdgesInRange (take r edges) n) (sym same) (range_taken r edges (length g.vertices.items) h.in_range);
+  apart = apart_taken r edges h.apart;
+  rows = omega (arith, count);
+  arcs = arcs ∙ ap (λ n. arcs_of (take n (take r edges))) (sym count);
+  starts = λ i m. absurd (let n = ap length starts in omega arith);
+  more = λ q. absurd (cc);
+  known = λ q. absurd (cc);
+})
+  where
+    count : admitted later ≡ 0
+    count = let n = ap length starts in omega (arith, base)
+
 -- the rows that were admitted are kept
-pub standing_first : (edges new : List Edge) (g : Graph) (conflict : Bool) (found : List (ℕ × Bool)) (r : ℕ) → IsStanding edges g conflict found → r ≡ length g.starts.items
+pub standing_first : (edges new : List Edge) (g : Graph) (conflict : Bool) (found : List (ℕ × Bool)) (r : ℕ) → IsStanding edges g conflict found → r ≡ admitted g
     → new ≡ take r edges → IsStanding new g false found
 standing_first edges new g conflict found r h e is = subst (λ x. IsStanding x g false found) (sym is) (record {
   graph = h.graph;
   in_range = range_taken r edges (length g.vertices.items) h.in_range;
   apart = apart_taken r edges h.apart;
   rows = omega (arith, edged);
-  all = λ q. sym e ∙ sym edged;
-  arcs = h.arcs ∙ ap arcs_of (sym (take-take (length g.starts.items) r edges (omega arith)));
-  starts = λ i m. h.starts i m ∙ ap (λ x. length (arcs_of x)) (sym (take-take i r edges (omega arith)));
+  arcs = h.arcs ∙ ap arcs_of (sym (take-take (admitted g) r edges (omega arith)));
+  starts = λ i m. h.starts i m ∙ ap (λ x. length (arcs_of x)) (sym (take-take (g.base + i) r edges (omega arith)));
   more = λ q. absurd (cc);
   known = λ q. absurd (cc);
 })
@@ -682,23 +754,117 @@ standing_first edges new g conflict found r h e is = subst (λ x. IsStanding x g
     edged : length (take r edges) ≡ r
     edged = length-take-le r edges (let k = h.rows in omega arith)
 
--- the row that closes a cycle is kept
-pub standing_kept : (edges new : List Edge) (g : Graph) (conflict : Bool) (found : List (ℕ × Bool)) (r : ℕ) → IsStanding edges g conflict found → length g.starts.items < r → r ≤ length edges
+-- a row behind those that were admitted is kept
+pub standing_kept : (edges new : List Edge) (g : Graph) (conflict : Bool) (found : List (ℕ × Bool)) (r : ℕ) → IsStanding edges g conflict found → admitted g < r → r ≤ length edges
     → new ≡ take r edges → IsStanding new g conflict found
 standing_kept edges new g conflict found r h l w is = subst (λ x. IsStanding x g conflict found) (sym is) (record {
   graph = h.graph;
   in_range = range_taken r edges (length g.vertices.items) h.in_range;
   apart = apart_taken r edges h.apart;
   rows = omega (arith, edged);
-  all = λ q. absurd (let a = h.all q in omega arith);
-  arcs = h.arcs ∙ ap arcs_of (sym (take-take (length g.starts.items) r edges (omega arith)));
-  starts = λ i m. h.starts i m ∙ ap (λ x. length (arcs_of x)) (sym (take-take i r edges (omega arith)));
+  arcs = h.arcs ∙ ap arcs_of (sym (take-take (admitted g) r edges (omega arith)));
+  starts = λ i m. h.starts i m ∙ ap (λ x. length (arcs_of x)) (sym (take-take (g.base + i) r edges (omega arith)));
   more = λ q. omega (arith, edged);
-  known = λ q. subst (λ x. IsNegativeCycle (arcs_of x) found) (sym (take-take (suc (length g.starts.items)) r edges (omega arith))) (h.known q);
+  known = λ q. subst (λ x. IsNegativeCycle (arcs_of x) found) (sym (take-take (suc (admitted g)) r edges (omega arith))) (h.known q);
 })
   where
     edged : length (take r edges) ≡ r
     edged = length-take-le r edges w
+
+-- ---- what isn't admitted
+past_limit : (n : ℕ) (stop : LinearStop) → PastBy n stop → SUM_LIMIT ≤ n
+past_limit n (Number e) h = h.1
+past_limit n (Pivots k) h = absurd h
+past_limit n Memory h = absurd h
+
+pub decided_then : {X : Type 0} (r : Result X LinearStop) (edges : List Edge) (g : Graph) (conflict : Bool) → OnOk r (conflict ≡ false → admitted g ≡ length edges)
+    → IfErr r (PastBy (sizes edges)) → IsDecided edges g conflict
+decided_then (Ok x) edges g conflict h k = λ q l. h q
+decided_then (Err stop) edges g conflict h k = λ q l. absurd (let p = past_limit (sizes edges) stop k in omega arith)
+
+pub decided_behind : (edges new : List Edge) (g : Graph) (conflict : Bool) (e : Edge) → IsDecided edges g conflict → admitted g < length edges → new ≡ edges ++ e ∷ [] → IsDecided new g conflict
+decided_behind edges new g conflict e h l is = subst (λ x. IsDecided x g conflict) (sym is) (λ q m. absurd (let k = h q (let s = sizes_more edges e in omega arith) in omega arith))
+
+-- there is room for one row more
+pub has_place : (edges : List Edge) (g : Graph) (conflict : Bool) (found : List (ℕ × Bool)) → IsStanding edges g conflict found → HasRoom g (length edges) → HasNotes g → admitted g < length edges → HasPlace g
+has_place edges g conflict found h room notes l =
+    let few : length g.arcs.items ≤ 2 * admitted g =
+    (let e = ap length h.arcs in let f = arcs_few (take (admitted g) edges) in let t = length-take-le (admitted g) edges h.rows in omega arith) in
+    record { arcs = let r = room.arcs in omega arith; links = let r = room.links in omega arith; fallen = room.fallen; notes = notes }
+
+pub room_on : (g later : Graph) (n : ℕ) → SameRoom g later → length later.vertices.items ≡ length g.vertices.items → HasRoom g n → HasRoom later n
+room_on g later n s v h = record {
+  arcs = let r = h.arcs in let e = s.arcs in omega arith;
+  links = let r = h.links in let e = s.links in omega arith;
+  starts = let r = h.starts in let e = s.starts in omega arith;
+  fallen = let r = h.fallen in let e = s.fallen in omega arith;
+  notes = let r = h.notes in let e = s.fallen in let f = s.trail in omega arith;
+}
+
+pub room_less : (g : Graph) (m n : ℕ) → m ≤ n → HasRoom g n → HasRoom g m
+room_less g m n l h = record {
+  arcs = let r = h.arcs in omega arith;
+  links = let r = h.links in omega arith;
+  starts = let r = h.starts in omega arith;
+  fallen = h.fallen;
+  notes = h.notes;
+}
+
+pub room_then : (g h k : Graph) → SameRoom g h → SameRoom h k → SameRoom g k
+room_then g h k a b = record { arcs = b.arcs ∙ a.arcs; links = b.links ∙ a.links; starts = b.starts ∙ a.starts; fallen = b.fallen ∙ a.fallen; trail = b.trail ∙ a.trail }
+
+pub room_same : (g : Graph) → SameRoom g g
+room_same g = record { arcs = refl; links = refl; starts = refl; fallen = refl; trail = refl }
+
+standing_open : (edges : List Edge) (g : Graph) (conflict : Bool) (found : List (ℕ × Bool)) → IsStanding edges g conflict found → IsStanding edges g false found
+standing_open edges g conflict found h = record {
+  graph = h.graph;
+  in_range = h.in_range;
+  apart = h.apart;
+  rows = h.rows;
+  arcs = h.arcs;
+  starts = h.starts;
+  more = λ q. absurd (cc);
+  known = λ q. absurd (cc);
+}
+
+same_graph : (g later : Graph) → SameItems g later → IsGraph g → IsGraph later
+same_graph g later s h = rw (s.arcs, s.links, s.vertices, s.order, s.fallen, s.trail, s.starts) h
+
+-- a table whose lists may have more room
+pub still_table : (t : Table) (new : List Edge) (g later : Graph) (place more steps : ℕ) → IsTable t g place steps → new ≡ t.edges → SameItems g later → ((n : ℕ) → HasRoom g n → HasRoom later n) → place ≤ more
+    → IsTable (record { edges = new; vertices = later.vertices.items; conflict = t.conflict; found = t.found; answer = t.answer; terms = t.terms; rows = t.rows }) later more steps
+still_table t new g later place more steps h is s room l =
+    subst (λ (e : List Edge). IsTable (record { edges = e; vertices = later.vertices.items; conflict = t.conflict; found = t.found; answer = t.answer; terms = t.terms; rows = t.rows }) later more steps) (sym is) (record {
+      fits = h.fits;
+      same = refl;
+      sized = ap length (s.vertices ∙ h.same) ∙ h.sized;
+      standing = standing_still t.edges g later t.conflict t.found t.found (standing_open t.edges g t.conflict t.found h.standing) (same_graph g later s h.standing.graph) (ap length s.vertices) s.arcs count
+          (λ n. (s.starts, s.base)) (λ q. (h.standing.more q, h.standing.known q));
+      decided = λ q small. count ∙ h.decided q small;
+      few = h.few;
+      place = let p = h.place in omega arith;
+      room = room t.rows h.room;
+      steps = h.steps;
+      all = λ e. count ∙ h.all e;
+      fit = λ e. subst AllFit (sym (s.vertices ∙ h.same)) (h.fit e);
+      solved = h.solved;
+      contradicted = h.contradicted;
+    })
+  where
+    count : admitted later ≡ admitted g
+    count = admitted_same g later s.starts s.base
+
+-- where all rows were admitted no conflict is known
+pub no_conflict : (edges : List Edge) (g : Graph) (conflict : Bool) (found : List (ℕ × Bool)) → IsStanding edges g conflict found → length edges ≤ admitted g → conflict ≡ false
+no_conflict edges g true found h l = absurd (let m = h.more refl in omega arith)
+no_conflict edges g false found h l = refl
+
+pub pushed_length : (edges new : List Edge) (e : Edge) → new ≡ edges ++ e ∷ [] → length new ≡ length edges + 1
+pushed_length edges new e is = ap length is ∙ length_one edges e
+
+pub room_for : (g : Graph) (edges new : List Edge) (e : Edge) → new ≡ edges ++ e ∷ [] → HasRoom g (length edges + 1) → HasRoom g (length new)
+room_for g edges new e is h = subst (HasRoom g) (sym (ap length is ∙ length_one edges e)) h
 
 -- after `Held`
 answered_solved : (a : Answer) → last_of a ≡ Held → a ≡ Solved
@@ -707,10 +873,10 @@ answered_solved Solved e = refl
 answered_solved Contradicted e = absurd (cc)
 answered_solved GaveUp e = absurd (cc)
 
-pub held : (t : Table) (g : Graph) → IsTable t g → table_last t ≡ Held → IsSolved (arcs_of t.edges) (values (vertex_at t.vertices))
-held t g h e =
+pub held : (t : Table) (g : Graph) (place steps : ℕ) → IsTable t g place steps → table_last t ≡ Held → IsSolved (arcs_of t.edges) (values (vertex_at t.vertices))
+held t g place steps h e =
     subst (λ (l : List Vertex). IsSolved (arcs_of t.edges) (values (vertex_at l))) h.same
-    (solved_all t.edges g t.conflict t.found h.standing (h.solved (answered_solved t.answer e)))
+    (solved_all t.edges g t.conflict t.found h.standing (h.all (answered_solved t.answer e)))
 
-pub fits_held : (t : Table) (g : Graph) → IsTable t g → table_last t ≡ Held → AllFit t.vertices
-fits_held t g h e = h.fit (answered_solved t.answer e)
+pub fits_held : (t : Table) (g : Graph) (place steps : ℕ) → IsTable t g place steps → table_last t ≡ Held → AllFit t.vertices
+fits_held t g place steps h e = h.fit (answered_solved t.answer e)

@@ -1,6 +1,7 @@
 pub mod Arcs
 pub mod Climb
 pub mod Range
+pub mod Room
 pub mod Passes
 pub mod Stops
 pub mod Cycles

@@ -12,7 +12,13 @@ pub record IsWholePast (e : NumberPast) : Type 0 where
   pub left : denom_of e.left ≡ 1
   pub right : denom_of e.right ≡ 1
 
--- want of memory, or such an operation where the sizes sum to n, at least the limit
+-- such an operation where the sizes sum to n, at least the limit
+abbrev pub PastBy : ℕ → LinearStop → Type 0
+PastBy n (Number e) = IsWholePast e × (SUM_LIMIT ≤ n)
+PastBy n (Pivots k) = ⊥
+PastBy n Memory = ⊥
+
+-- want of memory, or such an operation: the stops of a caller that takes memory besides
 abbrev pub StopsBy : ℕ → LinearStop → Type 0
 StopsBy n (Number e) = IsWholePast e × (SUM_LIMIT ≤ n)
 StopsBy n (Pivots k) = ⊥

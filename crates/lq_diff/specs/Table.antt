@@ -13,11 +13,12 @@ use Rattle.lq_diff.specs.declared.arc.Edge.{Edge}
 use Rattle.lq_diff.specs.declared.vertex.Vertex.{Vertex}
 use Rattle.lq_diff.specs.declared.graph.Graph.{Graph}
 use Rattle.lq_diff.specs.Trail.{start_at}
-use Rattle.lq_diff.specs.Graphs.{IsGraph}
+use Rattle.lq_diff.specs.Graphs.{HasRoom, IsGraph, admitted}
 use Rattle.lq_diff.specs.Passes.{vertex_at, values}
-use Rattle.lq_diff.specs.Edges.{standing_of, arcs_of, EdgesInRange, TagsApart}
+use Rattle.lq_diff.specs.Edges.{standing_of, arcs_of, sizes, EdgesInRange, TagsApart}
 use Rattle.lq_diff.specs.Cycles.{IsNegativeCycle}
-use Rattle.lq_diff.specs.Stops.{StopsBy}
+use Rattle.lq_diff.specs.Stops.{PastBy}
+use Rattle.lq_linear.specs.declared.limits.TheConstants.{SUM_LIMIT}
 
 -- the rows that stand, the potentials, whether a conflict is known and the steps of the last one, the last answer, and the limits
 pub record Table : Type 0 where
@@ -70,29 +71,39 @@ constants [] = 0
 constants (r ∷ rows) = unsigned_abs r.1.constant + constants rows
 
 abbrev pub MayStop : List ℕ → Tagged → List Row → LinearStop → Type 0
-MayStop limits rows ever stop = StopsBy (constants rows) stop
+MayStop limits rows ever stop = PastBy (constants rows) stop
 
--- the arcs of the first rows were admitted, those of all where no conflict is known; where one is, it is one of the first row that wasn't
+-- the arcs of the first rows were admitted; where a conflict is known, it is one of the first row that wasn't
 pub record IsStanding (edges : List Edge) (g : Graph) (conflict : Bool) (found : List (ℕ × Bool)) : Type 0 where
   pub graph : IsGraph g
   pub in_range : EdgesInRange edges (length g.vertices.items)
   pub apart : TagsApart edges
-  pub rows : length g.starts.items ≤ length edges
-  pub all : conflict ≡ false → length g.starts.items ≡ length edges
-  pub arcs : g.arcs.items ≡ arcs_of (take (length g.starts.items) edges)
-  pub starts : (i : ℕ) → i < length g.starts.items → (start_at g.starts.items i).arcs ≡ length (arcs_of (take i edges))
-  pub more : conflict ≡ true → length g.starts.items < length edges
-  pub known : conflict ≡ true → IsNegativeCycle (arcs_of (take (suc (length g.starts.items)) edges)) found
+  pub rows : admitted g ≤ length edges
+  pub arcs : g.arcs.items ≡ arcs_of (take (admitted g) edges)
+  pub starts : (i : ℕ) → i < length g.starts.items → (start_at g.starts.items i).arcs ≡ length (arcs_of (take (g.base + i) edges))
+  pub more : conflict ≡ true → admitted g < length edges
+  pub known : conflict ≡ true → IsNegativeCycle (arcs_of (take (suc (admitted g)) edges)) found
+
+-- where no conflict is known and the sizes of the constants sum to less than the limit, all were admitted
+abbrev pub IsDecided : List Edge → Graph → Bool → Type 0
+IsDecided edges g conflict = conflict ≡ false → sizes edges < SUM_LIMIT → admitted g ≡ length edges
 
 -- each potential's difference from that of the number 0 can be written
 abbrev pub AllFit : List Vertex → Type 0
 AllFit vertices = (v : ℕ) → v < length vertices → FitsSigned w128 (values (vertex_at vertices) v -ℤ values (vertex_at vertices) 0)
 
-pub record IsTable (t : Table) (g : Graph) : Type 0 where
+-- with room for so many edges, and so many steps of a cycle
+pub record IsTable (t : Table) (g : Graph) (edge_room step_room : ℕ) : Type 0 where
   pub fits : t.terms < 18446744073709551615
   pub same : g.vertices.items ≡ t.vertices
   pub sized : length t.vertices ≡ t.terms + 1
   pub standing : IsStanding t.edges g t.conflict t.found
+  pub decided : IsDecided t.edges g t.conflict
+  pub few : length t.edges ≤ t.rows
+  pub place : t.rows ≤ edge_room
+  pub room : HasRoom g t.rows
+  pub steps : t.terms + 1 < step_room
+  pub all : t.answer ≡ Solved → admitted g ≡ length t.edges
   pub fit : t.answer ≡ Solved → AllFit t.vertices
   pub solved : t.answer ≡ Solved → t.conflict ≡ false
   pub contradicted : t.answer ≡ Contradicted → t.conflict ≡ true

@@ -1,7 +1,7 @@
 // Sums and differences of whole numbers, refused past 128 bits.
 ghost use Rattle.std.specs.Prelude.{◌≡◌, ◌≤◌, ◌+ℤ◌, ◌-ℤ◌, ℕ, FitsSigned, IfOk, IfErr};
 ghost use Rattle.std.specs.Int.{w128};
-ghost use Rattle.lq_diff.specs.Stops.{StopsBy};
+ghost use Rattle.lq_diff.specs.Stops.{PastBy};
 ghost use Rattle.lq_linear.specs.declared.limits.TheConstants.{SUM_LIMIT};
 
 use lq_linear::LinearStop;
@@ -11,7 +11,7 @@ use lq_num::{Frac, NumOp, NumberPast};
 pub(crate) fn sum(left: i128, right: i128) -> Result<i128, LinearStop>
     ensures value { IfOk result (λ n. n ≡ left +ℤ right) }
     ensures stop { IfErr result (λ stop. (n : ℕ) → (¬ (FitsSigned w128 (left +ℤ right)) → SUM_LIMIT ≤ n)
-        → StopsBy n stop) }
+        → PastBy n stop) }
 {
     let Some(total) = left.checked_add(right) else {
         return Err(LinearStop::Number(NumberPast {
@@ -27,7 +27,7 @@ pub(crate) fn sum(left: i128, right: i128) -> Result<i128, LinearStop>
 pub(crate) fn difference(left: i128, right: i128) -> Result<i128, LinearStop>
     ensures value { IfOk result (λ n. n ≡ left -ℤ right) }
     ensures stop { IfErr result (λ stop. (n : ℕ) → (¬ (FitsSigned w128 (left -ℤ right)) → SUM_LIMIT ≤ n)
-        → StopsBy n stop) }
+        → PastBy n stop) }
 {
     let Some(total) = left.checked_sub(right) else {
         return Err(LinearStop::Number(NumberPast {

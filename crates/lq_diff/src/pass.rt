@@ -1,8 +1,10 @@
 // A pass: vertices fall to the offers that reach them.
-ghost use Rattle.std.specs.Prelude.{◌≡◌, ◌⊎◌, ℕ, List, [], ◌∷◌, ◌++◌, ◌<◌, ◌≤◌, ◌^◌, length, IfOk, IfErr, IfSome, IfNone, OnOk};
+ghost use Rattle.std.specs.Prelude.{◌≡◌, ◌⊎◌, ℕ, List, [], ◌∷◌, ◌++◌, ◌<◌, ◌≤◌, ◌+◌, ◌^◌, length, vec_capacity, IfOk, IfErr, IfSome, IfNone, OnOk};
 ghost use Rattle.lq_diff.specs.Passes.{vertex_at, order_at, values, nexts, touched, AllInRange, AllBelow, IsListed, AreListed, AtRest, IsPass, IsSized, IsLeast, NoneFalls, IsNext, IsStuck, IsNarrow, Falls};
+ghost use Rattle.std.specs.Int.Signed.{◌<ℤ◌};
 ghost use Rattle.lq_diff.specs.Arcs.{Meets};
-ghost use Rattle.lq_diff.specs.Stops.{StopsBy};
+ghost use Rattle.lq_diff.specs.Room.{unfallen};
+ghost use Rattle.lq_diff.specs.Stops.{PastBy};
 ghost use Rattle.lq_diff.specs.Links.{kept, AreLinked, IsLatest};
 ghost use Rattle.lq_diff.specs.Trail.{IsTrailed};
 ghost use Rattle.lq_diff.specs.declared.arc.Arc.{Arc};
@@ -25,7 +27,7 @@ fn least(vertices: &[Vertex], order: &[u64], fallen: &[usize]) -> Result<Option<
         (NoneFalls (vertex_at vertices.now) (order_at order.now))) }
     ensures stop { IfErr result (λ stop. (arcs : List Arc) (top gap count n : ℕ)
         → IsPass arcs top gap (vertex_at vertices.now) (order_at order.now) count top 0 → gap ≤ n
-        → StopsBy n stop) }
+        → PastBy n stop) }
 {
     let mut lowest = 0;
     let mut found = 0;
@@ -48,31 +50,25 @@ fn least(vertices: &[Vertex], order: &[u64], fallen: &[usize]) -> Result<Option<
 }
 
 /// Lets a vertex fall to an offer of an arc, and lists it where it hadn't fallen yet.
-fn fall(
-    vertices: &mut [Vertex],
-    fallen: &mut Vec<usize>,
-    at: usize,
-    offer: i128,
-    parent: usize,
-) -> Result<(), LinearStop>
+fn fall(vertices: &mut [Vertex], fallen: &mut Vec<usize>, at: usize, offer: i128, parent: usize)
     requires at_in { at < length vertices.old }
     requires inside { AllBelow fallen.old.items (length vertices.old) }
+    requires below { offer <ℤ nexts (vertex_at vertices.old) at }
+    requires room { length fallen.old.items + unfallen vertices.old ≤ vec_capacity fallen.old }
     ensures inside { AllBelow fallen.new.items (length vertices.new) }
-    ensures falls { OnOk result (Falls (vertex_at vertices.old) (vertex_at vertices.new) at parent offer) }
-    ensures listed { OnOk result ((order : ℕ → ℕ) → AreListed fallen.old.items (vertex_at vertices.old) order
-        → AreListed fallen.new.items (vertex_at vertices.new) order) }
+    ensures falls { Falls (vertex_at vertices.old) (vertex_at vertices.new) at parent offer }
+    ensures listed { (order : ℕ → ℕ) → AreListed fallen.old.items (vertex_at vertices.old) order
+        → AreListed fallen.new.items (vertex_at vertices.new) order }
     ensures kept { (v : ℕ) → kept (vertex_at vertices.new) v ≡ kept (vertex_at vertices.old) v }
-    ensures stop { IfErr result (StopsBy 0) }
+    ensures room { length fallen.new.items + unfallen vertices.new ≤ vec_capacity fallen.new }
+    ensures capacity { vec_capacity fallen.new ≡ vec_capacity fallen.old }
 {
     if vertices[at].next == vertices[at].kept.value {
-        let Ok(()) = fallen.push(at) else {
-            return Err(LinearStop::Memory);
-        };
+        fallen.push_reserved(at);
     }
     let vertex = &mut vertices[at];
     vertex.next = offer;
     vertex.parent = parent;
-    Ok(())
 }
 
 /// Offers along the arcs from a vertex that was settled just now, the last of them first. The answer is the number of an arc by which the
@@ -94,6 +90,9 @@ fn relax(
     requires top_in { top < length vertices.old }
     requires settled { 0 < order_at order.now at }
     requires inside { AllBelow fallen.old.items (length vertices.old) }
+    requires room { length fallen.old.items + unfallen vertices.old ≤ vec_capacity fallen.old }
+    ensures room { length fallen.new.items + unfallen vertices.new ≤ vec_capacity fallen.new }
+    ensures capacity { vec_capacity fallen.new ≡ vec_capacity fallen.old }
     ensures inside { AllBelow fallen.new.items (length vertices.new) }
     ensures listed { OnOk result (AreListed fallen.old.items (vertex_at vertices.old) (order_at order.now)
         → AreListed fallen.new.items (vertex_at vertices.new) (order_at order.now)) }
@@ -106,7 +105,7 @@ fn relax(
         → IsStuck arcs.now top k (vertex_at vertices.new) (order_at order.now))) }
     ensures stop { IfErr result (λ stop. (gap count n : ℕ)
         → IsPass arcs.now top gap (vertex_at vertices.old) (order_at order.now) count at (length arcs.now)
-        → IsSized n gap arcs.now (values (vertex_at vertices.old)) → StopsBy n stop) }
+        → IsSized n gap arcs.now (values (vertex_at vertices.old)) → PastBy n stop) }
 {
     let mut k = vertices[at].kept.last;
     while k > 0 {
@@ -118,7 +117,7 @@ fn relax(
                 return Ok(Some(number));
             }
             if order[arc.to] == 0 {
-                fall(vertices, fallen, arc.to, offer, number)?;
+                fall(vertices, fallen, arc.to, offer, number);
             }
         }
         k = links[number];
@@ -143,6 +142,10 @@ fn settle(
     requires unsettled { (v : ℕ) → order_at order.old v ≡ 0 }
     requires inside { AllBelow fallen.old.items (length vertices.old) }
     requires listed { AreListed fallen.old.items (vertex_at vertices.old) (order_at order.old) }
+    requires room { length fallen.old.items + unfallen vertices.old ≤ vec_capacity fallen.old }
+    ensures room { length fallen.new.items + unfallen vertices.new ≤ vec_capacity fallen.new }
+    ensures capacity { vec_capacity fallen.new ≡ vec_capacity fallen.old }
+    ensures counted { OnOk result ((v : ℕ) → order_at order.new v ≤ length order.new) }
     ensures inside { AllBelow fallen.new.items (length vertices.new) }
     ensures listed { OnOk result (AreListed fallen.new.items (vertex_at vertices.new) (order_at order.new)) }
     ensures kept { (v : ℕ) → kept (vertex_at vertices.new) v ≡ kept (vertex_at vertices.old) v }
@@ -154,7 +157,7 @@ fn settle(
         → IsStuck arcs.now top k (vertex_at vertices.new) (order_at order.new))) }
     ensures stop { IfErr result (λ stop. (gap n : ℕ)
         → IsPass arcs.now top gap (vertex_at vertices.old) (order_at order.old) 0 top 0
-        → IsSized n gap arcs.now (values (vertex_at vertices.old)) → StopsBy n stop) }
+        → IsSized n gap arcs.now (values (vertex_at vertices.old)) → PastBy n stop) }
 {
     let mut count = 0;
     loop {
@@ -218,6 +221,12 @@ pub(crate) fn admit(
     requires same { length order.old ≡ length vertices.old }
     requires rest { (v : ℕ) → AtRest (vertex_at vertices.old) (order_at order.old) v }
     requires empty { fallen.old.items ≡ [] }
+    requires room { length vertices.old ≤ vec_capacity fallen.old }
+    requires notable { length trail.old.items + vec_capacity fallen.old ≤ vec_capacity trail.old }
+    ensures noted { length trail.new.items ≤ length trail.old.items + vec_capacity fallen.old }
+    ensures capacity { vec_capacity fallen.new ≡ vec_capacity fallen.old }
+    ensures trail_capacity { vec_capacity trail.new ≡ vec_capacity trail.old }
+    ensures counted { OnOk result ((v : ℕ) → order_at order.new v ≤ length order.new) }
     ensures empty { IfOk result (λ closing. IfNone closing (fallen.new.items ≡ [])) }
     ensures rest { IfOk result (λ closing. IfNone closing ((v : ℕ)
         → AtRest (vertex_at vertices.new) (order_at order.new) v)) }
@@ -239,7 +248,7 @@ pub(crate) fn admit(
         → IsStuck arcs.now last.from k (vertex_at vertices.new) (order_at order.new))) }
     ensures stop { IfErr result (λ stop. (front : List Arc) (last : Arc) (m n : ℕ)
         → arcs.now ≡ front ++ last ∷ [] → IsNarrow m n front last (values (vertex_at vertices.old))
-        → StopsBy n stop) }
+        → PastBy n stop) }
 {
     let number = arcs.len() - 1;
     let last = arcs[number];
@@ -250,11 +259,11 @@ pub(crate) fn admit(
     if last.from == last.to {
         return Ok(Some(number));
     }
-    fall(vertices, fallen, last.to, offer, number)?;
+    fall(vertices, fallen, last.to, offer, number);
     match settle(arcs, links, last.from, vertices, order, fallen)? {
         None => {
             let listed = fallen.as_slice();
-            note_all(trail, vertices, listed)?;
+            note_all(trail, vertices, listed);
             accept(vertices, listed);
             rest(vertices, order, listed);
             fallen.clear();

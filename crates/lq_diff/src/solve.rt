@@ -1,10 +1,10 @@
 // Arcs admitted one by one.
-ghost use Rattle.std.specs.Prelude.{◌≡◌, ◌≢◌, ℕ, [], ◌∷◌, true, false, Some, ◌+◌, ◌<◌, ◌≤◌, ◌+ℤ◌, FitsSigned, length, slice_get, slice_index_or, IfOk, IfErr, IfSome, IfNone, OnOk, OnErr};
+ghost use Rattle.std.specs.Prelude.{◌≡◌, ◌≢◌, ℕ, [], ◌∷◌, true, false, Some, ◌+◌, ◌-◌, ◌*◌, ◌<◌, ◌≤◌, ◌+ℤ◌, FitsSigned, length, vec_capacity, slice_get, slice_index_or, IfOk, IfErr, IfSome, IfNone, OnOk, OnErr};
 ghost use Rattle.std.specs.Int.{w128};
 ghost use Rattle.lq_diff.specs.declared.arc.Arc.{Arc};
 ghost use Rattle.lq_diff.specs.Passes.{vertex_at, order_at, values, nexts, touched, AllBelow, AllInRange, AreListed, AtRest};
 ghost use Rattle.lq_diff.specs.Solving.{IsBounded, IsEnded, IsOpposite, IsPlacing};
-ghost use Rattle.lq_diff.specs.Stops.{StopsBy};
+ghost use Rattle.lq_diff.specs.Stops.{PastBy};
 ghost use Rattle.lq_diff.specs.Links.{kept, HasLinks};
 ghost use Rattle.lq_diff.specs.Trail.{IsTrailed, IsReached};
 ghost use Rattle.lq_linear.specs.declared.limits.TheConstants.{SUM_LIMIT};
@@ -66,7 +66,7 @@ fn place(vertices: &mut [Vertex], arc: Arc) -> Result<(), LinearStop>
     ensures rest { (order : ℕ → ℕ) → ((v : ℕ) → AtRest (vertex_at vertices.old) order v)
         → (v : ℕ) → AtRest (vertex_at vertices.new) order v }
     ensures stop { IfErr result (λ stop. (n : ℕ) → (¬ (FitsSigned w128
-        (values (vertex_at vertices.old) arc.from +ℤ arc.cost)) → SUM_LIMIT ≤ n) → StopsBy n stop) }
+        (values (vertex_at vertices.old) arc.from +ℤ arc.cost)) → SUM_LIMIT ≤ n) → PastBy n stop) }
 {
     let value = sum(vertices[arc.from].kept.value, arc.cost)?;
     let vertex = &mut vertices[arc.to];
@@ -124,15 +124,18 @@ fn admit_two(
     requires in_range { AllInRange arcs.now (length vertices.old) }
     requires same { length links.old ≡ length arcs.now }
     requires reached { IsReached arcs.now links.old at (kept (vertex_at vertices.old)) }
+    requires notable { length trail.old.items + 2 ≤ vec_capacity trail.old }
+    ensures noted { length trail.new.items ≤ length trail.old.items + 2 }
+    ensures trail_capacity { vec_capacity trail.new ≡ vec_capacity trail.old }
     ensures reached { OnOk result (IsReached arcs.now links.new (at + 2) (kept (vertex_at vertices.new))) }
     ensures rest { (order : ℕ → ℕ) → ((v : ℕ) → AtRest (vertex_at vertices.old) order v)
         → (v : ℕ) → AtRest (vertex_at vertices.new) order v }
     ensures before { (j : ℕ) → j < at → slice_index_or links.new j 0 ≡ slice_index_or links.old j 0 }
     ensures trailed { IsTrailed (length vertices.old) trail.old.items trail.new.items
         (kept (vertex_at vertices.old)) (kept (vertex_at vertices.new)) }
-    ensures stop { IfErr result (λ stop. (n : ℕ) → IsBounded n arcs.now → StopsBy n stop) }
+    ensures stop { IfErr result (λ stop. (n : ℕ) → IsBounded n arcs.now → PastBy n stop) }
 {
-    note_all(trail, vertices, &[arc.from, arc.to])?;
+    note_all(trail, vertices, &[arc.from, arc.to]);
     place(vertices, arc)?;
     touch(vertices, arc);
     link(arcs, at, links, vertices);
@@ -157,6 +160,12 @@ fn admit_one(
     requires reached { IsReached arcs.now links.old at (kept (vertex_at vertices.old)) }
     requires rest { (v : ℕ) → AtRest (vertex_at vertices.old) (order_at order.old) v }
     requires empty { fallen.old.items ≡ [] }
+    requires room { length vertices.old ≤ vec_capacity fallen.old }
+    requires notable { length trail.old.items + (vec_capacity fallen.old + 2) ≤ vec_capacity trail.old }
+    ensures noted { length trail.new.items ≤ length trail.old.items + (vec_capacity fallen.old + 2) }
+    ensures capacity { vec_capacity fallen.new ≡ vec_capacity fallen.old }
+    ensures trail_capacity { vec_capacity trail.new ≡ vec_capacity trail.old }
+    ensures counted { OnOk result ((v : ℕ) → order_at order.new v ≤ length order.new) }
     ensures reached { IfOk result (λ closing. IfNone closing (IsReached arcs.now links.new (at + 1)
         (kept (vertex_at vertices.new)))) }
     ensures rest { IfOk result (λ closing. IfNone closing ((v : ℕ)
@@ -171,10 +180,10 @@ fn admit_one(
     ensures before { (j : ℕ) → j < at → slice_index_or links.new j 0 ≡ slice_index_or links.old j 0 }
     ensures trailed { IsTrailed (length vertices.old) trail.old.items trail.new.items
         (kept (vertex_at vertices.old)) (kept (vertex_at vertices.new)) }
-    ensures stop { IfErr result (λ stop. (n : ℕ) → IsBounded n arcs.now → StopsBy n stop) }
+    ensures stop { IfErr result (λ stop. (n : ℕ) → IsBounded n arcs.now → PastBy n stop) }
 {
     let arc = arcs[at];
-    note_all(trail, vertices, &[arc.from, arc.to])?;
+    note_all(trail, vertices, &[arc.from, arc.to]);
     touch(vertices, arc);
     link(arcs, at, links, vertices);
     admit(
@@ -205,6 +214,13 @@ pub(crate) fn solve(
     requires reached { IsReached arcs.now links.old from (kept (vertex_at vertices.old)) }
     requires rest { (v : ℕ) → AtRest (vertex_at vertices.old) (order_at order.old) v }
     requires empty { fallen.old.items ≡ [] }
+    requires room { length vertices.old ≤ vec_capacity fallen.old }
+    requires notable { length trail.old.items + (length arcs.now - from) * (vec_capacity fallen.old + 2)
+        ≤ vec_capacity trail.old }
+    ensures capacity { vec_capacity fallen.new ≡ vec_capacity fallen.old }
+    ensures trail_capacity { vec_capacity trail.new ≡ vec_capacity trail.old }
+    ensures counted { IfOk result (λ closing. IfSome closing (λ _. (v : ℕ)
+        → order_at order.new v ≤ length order.new)) }
     ensures reached { IfOk result (λ closing. IfNone closing (IsReached arcs.now links.new (length arcs.now)
         (kept (vertex_at vertices.new)))) }
     ensures rest { IfOk result (λ closing. IfNone closing ((v : ℕ)
@@ -219,7 +235,7 @@ pub(crate) fn solve(
     ensures before { (j : ℕ) → j < from → slice_index_or links.new j 0 ≡ slice_index_or links.old j 0 }
     ensures trailed { IsTrailed (length vertices.old) trail.old.items trail.new.items
         (kept (vertex_at vertices.old)) (kept (vertex_at vertices.new)) }
-    ensures stop { IfErr result (λ stop. (n : ℕ) → IsBounded n arcs.now → StopsBy n stop) }
+    ensures stop { IfErr result (λ stop. (n : ℕ) → IsBounded n arcs.now → PastBy n stop) }
 {
     let mut k = from;
     while k < arcs.len() {

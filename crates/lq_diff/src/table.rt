@@ -1,14 +1,15 @@
 // The table of distances: an engine of difference rows.
 ghost use Rattle.std.specs.Int.{w128};
-ghost use Rattle.std.specs.Prelude.{◌≡◌, Bool, true, false, IsTrue, take, FitsSigned, OnOk, OnErr, ℕ, ℤ, pos, List, [], ◌∷◌, ◌++◌, ◌<◌, ◌≤◌, ◌^◌, ◌+◌, ◌-◌, ◌-ℤ◌, length, slice_index, unsigned_abs, negsuc, if◌then◌else◌, IfOk, IfErr, IfSome, IfNone};
+ghost use Rattle.std.specs.Prelude.{◌≡◌, Bool, true, false, IsTrue, take, FitsSigned, OnOk, OnErr, ℕ, ℤ, pos, List, [], ◌∷◌, ◌++◌, ◌<◌, ◌≤◌, ◌^◌, ◌+◌, ◌-◌, ◌-ℤ◌, length, vec_capacity, max, slice_index, IsOk, unsigned_abs, negsuc, if◌then◌else◌, IfOk, IfErr, IfSome, IfNone};
 ghost use Rattle.lq_math.specs.Rational.{whole};
 ghost use Rattle.lq_num.specs.Value.{value_of};
 ghost use Rattle.lq_linear.specs.Row.{Row, IsRow, AscendsFrom};
 ghost use Rattle.lq_linear.specs.Answers.{Last, Held};
 ghost use Rattle.lq_diff.specs.Edges.{parts_of, sizes, HasNoTag};
 ghost use Rattle.lq_diff.specs.Passes.{vertex_at, values};
-ghost use Rattle.lq_diff.specs.Stops.{StopsBy};
-ghost use Rattle.lq_diff.specs.Table.{IsDifference, TermsBelow, IsStanding};
+ghost use Rattle.lq_diff.specs.Stops.{PastBy};
+ghost use Rattle.lq_diff.specs.Table.{AllFit, IsDecided, IsDifference, TermsBelow, IsStanding};
+ghost use Rattle.lq_diff.specs.Graphs.{HasRoom, SameRoom, admitted};
 ghost use Rattle.lq_diff.specs.Range.{InRange};
 
 use crate::arc::Edge;
@@ -23,12 +24,11 @@ use std::marker::Model;
 /// Difference rows over the terms below a number, decided by potentials.
 #[derive(Drop)]
 pub struct DistanceTable {
-    alloc: Global,
     terms: u64,
     rows: u64,
     edges: Vec<Edge>,
     graph: Graph,
-    /// Whether the first row whose arcs weren't admitted closes a walk whose costs sum to less than 0.
+    /// Whether the arcs of the first row that wasn't admitted close a walk whose costs sum to less than 0.
     conflict: bool,
     /// The steps of that walk.
     found: Vec<(u64, bool)>,
@@ -36,13 +36,14 @@ pub struct DistanceTable {
 }
 
 impl Model for DistanceTable {
+    ghost use Rattle.std.specs.Prelude.{vec_capacity};
     ghost use Rattle.lq_diff.specs.Table.{Table, IsTable};
 
     ghost Value = { Table };
 
     ghost view = { λ t. record { edges = t.edges.items; vertices = t.graph.vertices.items; conflict = t.conflict; found = t.found.items; answer = t.answer; terms = t.terms; rows = t.rows } };
 
-    ghost invariant = { λ t. IsTable (record { edges = t.edges.items; vertices = t.graph.vertices.items; conflict = t.conflict; found = t.found.items; answer = t.answer; terms = t.terms; rows = t.rows }) t.graph };
+    ghost invariant = { λ t. IsTable (record { edges = t.edges.items; vertices = t.graph.vertices.items; conflict = t.conflict; found = t.found.items; answer = t.answer; terms = t.terms; rows = t.rows }) t.graph (vec_capacity t.edges) (vec_capacity t.found) };
 }
 
 /// The vertices of a difference row's terms: it is read "the second minus the first".
@@ -81,7 +82,7 @@ fn measure(vertices: &[Vertex]) -> Result<(), LinearStop>
     ensures fit { OnOk result ((v : ℕ) → v < length vertices.now → FitsSigned w128
         (values (vertex_at vertices.now) v -ℤ values (vertex_at vertices.now) 0)) }
     ensures stop { IfErr result (λ stop. (n : ℕ) → InRange (values (vertex_at vertices.now)) n
-        → StopsBy n stop) }
+        → PastBy n stop) }
 {
     let base = vertices[0].kept.value;
     for vertex in vertices {
@@ -100,9 +101,42 @@ fn from_zero(vertices: &[Vertex], at: usize) -> i128
     vertices[at].kept.value - vertices[0].kept.value
 }
 
-/// Admits a row and lets it stand. Behind one that closes a walk whose costs sum to less than 0, rows stand without being admitted.
+/// Admits the rows that weren't yet, until the arcs of one close a walk whose costs sum to less than 0.
+fn catch_up(
+    edges: &[Edge],
+    graph: &mut Graph,
+    conflict: &mut bool,
+    found: &mut Vec<(u64, bool)>,
+) -> Result<(), LinearStop>
+    requires standing { IsStanding edges.now graph.old conflict.old found.old.items }
+    requires no_conflict { conflict.old ≡ false }
+    requires room { HasRoom graph.old (length edges.now) }
+    requires steps { length graph.old.vertices.items < vec_capacity found.old }
+    ensures standing { IsStanding edges.now graph.new conflict.new found.new.items }
+    ensures all { OnOk result (conflict.new ≡ false → admitted graph.new ≡ length edges.now) }
+    ensures no_conflict { OnErr result (conflict.new ≡ false) }
+    ensures left { OnErr result (admitted graph.new < length edges.now) }
+    ensures more { admitted graph.old ≤ admitted graph.new }
+    ensures vertices { length graph.new.vertices.items ≡ length graph.old.vertices.items }
+    ensures room { SameRoom graph.old graph.new }
+    ensures capacity { vec_capacity found.new ≡ vec_capacity found.old }
+    ensures stop { IfErr result (PastBy (sizes edges.now)) }
+{
+    loop {
+        let at = graph.admitted();
+        if at == edges.len() {
+            return Ok(());
+        }
+        graph.make_room();
+        if graph.admit(&edges[at], found)? {
+            *conflict = true;
+            return Ok(());
+        }
+    }
+}
+
+/// Lets a row stand, and admits it where those before it were admitted.
 fn stand(
-    alloc: Global,
     edges: &mut Vec<Edge>,
     graph: &mut Graph,
     conflict: &mut bool,
@@ -110,32 +144,39 @@ fn stand(
     edge: Edge,
 ) -> Result<(), LinearStop>
     requires standing { IsStanding edges.old.items graph.old conflict.old found.old.items }
+    requires decided { IsDecided edges.old.items graph.old conflict.old }
     requires from_in { edge.from < length graph.old.vertices.items }
     requires to_in { edge.to < length graph.old.vertices.items }
     requires fresh { HasNoTag edge.tag edges.old.items }
+    requires place { length edges.old.items < vec_capacity edges.old }
+    requires room { HasRoom graph.old (length edges.old.items + 1) }
+    requires steps { length graph.old.vertices.items < vec_capacity found.old }
     ensures standing { IsStanding edges.new.items graph.new conflict.new found.new.items }
+    ensures decided { IsDecided edges.new.items graph.new conflict.new }
     ensures added { OnOk result (edges.new.items ≡ edges.old.items ++ edge ∷ []) }
     ensures refused { OnErr result (edges.new.items ≡ edges.old.items) }
     ensures vertices { length graph.new.vertices.items ≡ length graph.old.vertices.items }
-    ensures stop { IfErr result (λ stop. StopsBy (sizes (edges.old.items ++ edge ∷ [])) stop) }
+    ensures place { vec_capacity edges.new ≡ vec_capacity edges.old }
+    ensures room { SameRoom graph.old graph.new }
+    ensures capacity { vec_capacity found.new ≡ vec_capacity found.old }
+    ensures stop { IfErr result (λ stop. PastBy (sizes (edges.old.items ++ edge ∷ [])) stop) }
 {
-    let Ok(()) = edges.reserve(1) else {
-        return Err(LinearStop::Memory);
-    };
-    if *conflict {
-        edges.push_reserved(edge);
+    let before = edges.len();
+    let behind = graph.admitted() < before;
+    edges.push_reserved(edge);
+    if behind {
         return Ok(());
     }
-    let closed = graph.admit(alloc, &edge)?;
-    edges.push_reserved(edge);
-    if let Some(steps) = closed {
-        *conflict = true;
-        *found = steps;
+    match catch_up(edges, graph, conflict, found) {
+        Ok(()) => Ok(()),
+        Err(stop) => {
+            edges.truncate(before);
+            Err(stop)
+        }
     }
-    Ok(())
 }
 
-/// Keeps so many of the first rows.
+/// Keeps so many of the first rows, of which those that were admitted are admitted still, or none.
 fn keep(edges: &mut Vec<Edge>, graph: &mut Graph, conflict: &mut bool, rows: usize)
     requires standing { (found : List (ℕ × Bool)) × IsStanding edges.old.items graph.old conflict.old found }
     requires within { rows ≤ length edges.old.items }
@@ -143,14 +184,77 @@ fn keep(edges: &mut Vec<Edge>, graph: &mut Graph, conflict: &mut bool, rows: usi
         → IsStanding edges.new.items graph.new conflict.new found }
     ensures edges { edges.new.items ≡ take rows edges.old.items }
     ensures vertices { length graph.new.vertices.items ≡ length graph.old.vertices.items }
+    ensures place { vec_capacity edges.new ≡ vec_capacity edges.old }
+    ensures room { SameRoom graph.old graph.new }
 {
     edges.truncate(rows);
-    if rows <= graph.starts.len() {
+    if rows <= graph.admitted() {
         *conflict = false;
-        if rows < graph.starts.len() {
-            graph.back_to(rows);
+        if rows < graph.base {
+            graph.clear();
+        } else if rows < graph.admitted() {
+            graph.back_to(rows - graph.base);
         }
     }
+}
+
+/// Keeps so many of the first rows, and admits those of them that aren't admitted any more. That may meet a number past 128 bits: then
+/// they stay as they are until the next check.
+fn go_back(
+    edges: &mut Vec<Edge>,
+    graph: &mut Graph,
+    conflict: &mut bool,
+    found: &mut Vec<(u64, bool)>,
+    rows: usize,
+)
+    requires standing { IsStanding edges.old.items graph.old conflict.old found.old.items }
+    requires within { rows ≤ length edges.old.items }
+    requires room { HasRoom graph.old (length edges.old.items) }
+    requires steps { length graph.old.vertices.items < vec_capacity found.old }
+    ensures standing { IsStanding edges.new.items graph.new conflict.new found.new.items }
+    ensures decided { IsDecided edges.new.items graph.new conflict.new }
+    ensures edges { edges.new.items ≡ take rows edges.old.items }
+    ensures vertices { length graph.new.vertices.items ≡ length graph.old.vertices.items }
+    ensures place { vec_capacity edges.new ≡ vec_capacity edges.old }
+    ensures room { SameRoom graph.old graph.new }
+    ensures capacity { vec_capacity found.new ≡ vec_capacity found.old }
+{
+    keep(edges, graph, conflict, rows);
+    if !*conflict {
+        let _ = catch_up(edges, graph, conflict, found);
+    }
+}
+
+/// Admits the rows that weren't yet. Where that gives no conflict, each potential's difference from that of the number 0 can be written.
+fn decide(
+    edges: &[Edge],
+    graph: &mut Graph,
+    conflict: &mut bool,
+    found: &mut Vec<(u64, bool)>,
+) -> Result<(), LinearStop>
+    requires standing { IsStanding edges.now graph.old conflict.old found.old.items }
+    requires decided { IsDecided edges.now graph.old conflict.old }
+    requires some { 0 < length graph.old.vertices.items }
+    requires room { HasRoom graph.old (length edges.now) }
+    requires steps { length graph.old.vertices.items < vec_capacity found.old }
+    ensures known { conflict.old ≡ true → OnOk result (conflict.new ≡ true) × IsOk result }
+    ensures standing { IsStanding edges.now graph.new conflict.new found.new.items }
+    ensures decided { IsDecided edges.now graph.new conflict.new }
+    ensures all { OnOk result (conflict.new ≡ false → admitted graph.new ≡ length edges.now) }
+    ensures fit { OnOk result (conflict.new ≡ false → AllFit graph.new.vertices.items) }
+    ensures vertices { length graph.new.vertices.items ≡ length graph.old.vertices.items }
+    ensures room { SameRoom graph.old graph.new }
+    ensures capacity { vec_capacity found.new ≡ vec_capacity found.old }
+    ensures stop { IfErr result (PastBy (sizes edges.now)) }
+{
+    if *conflict {
+        return Ok(());
+    }
+    catch_up(edges, graph, conflict, found)?;
+    if *conflict {
+        return Ok(());
+    }
+    measure(&graph.vertices)
 }
 
 /// The multiplier of a row that is read forwards, or backwards.
@@ -168,7 +272,7 @@ impl DistanceTable {
     ghost use Rattle.lq_linear.specs.Answers.{Nothing};
     ghost use Rattle.lq_diff.specs.Table.{table_rows, table_last, table_limits, value_at, constants};
 
-    /// An empty table for rows over the terms below `terms`, of which at most `rows` stand at once.
+    /// An empty table for rows over the terms below `terms`, of which at most `rows` stand at once. It takes the table's whole memory.
     pub fn new(alloc: Global, terms: u64, rows: u64) -> Result<DistanceTable, AllocError>
         ensures rows { IfOk result (λ table. table_rows table ≡ []) }
         ensures last { IfOk result (λ table. table_last table ≡ Nothing) }
@@ -177,16 +281,39 @@ impl DistanceTable {
         let Some(count) = (terms as usize).checked_add(1) else {
             return Err(AllocError);
         };
-        Ok(DistanceTable {
-            alloc,
+        let Some(steps) = count.checked_add(1) else {
+            return Err(AllocError);
+        };
+        let mut table = DistanceTable {
             terms,
-            rows,
+            rows: 0,
             edges: Vec::new(alloc),
             graph: Graph::new(alloc, count)?,
             conflict: false,
-            found: Vec::new(alloc),
+            found: Vec::with_capacity(alloc, steps)?,
             answer: Answer::Unasked,
-        })
+        };
+        table.allow(rows)?;
+        Ok(table)
+    }
+
+    /// Lets at most `rows` rows stand at once, where fewer might until now, and takes the memory for that. Where it lacks, the limit is as
+    /// before.
+    pub fn allow(&mut self, rows: u64) -> Result<(), AllocError>
+        ensures rows { table_rows self.new ≡ table_rows self.old }
+        ensures last { table_last self.new ≡ table_last self.old }
+        ensures limits { OnOk result (table_limits self.new
+            ≡ slice_index (table_limits self.old) 0 ∷ max (slice_index (table_limits self.old) 1) rows ∷ []) }
+        ensures refused { OnErr result (table_limits self.new ≡ table_limits self.old) }
+    {
+        if rows <= self.rows {
+            return Ok(());
+        }
+        let more = (rows as usize).saturating_sub(self.edges.len());
+        self.edges.reserve(more)?;
+        self.graph.reserve(rows as usize)?;
+        self.rows = rows;
+        Ok(())
     }
 
     /// After `Holds`: each value is a whole number, and no value and no difference of two is larger in size than the sizes of the
@@ -207,7 +334,8 @@ impl LinearEngine for DistanceTable {
     ghost use Rattle.lq_math.specs.Rational.{ℚ};
     ghost use Rattle.lq_linear.specs.Answers.{Conflicted};
     ghost use Rattle.lq_linear.specs.Contradiction.{Solves, IsContradiction};
-    ghost use Rattle.lq_diff.specs.Table.{table_rows, table_last, table_limits, table_point, table_multipliers, TakesRow, MayStop};
+    ghost use Rattle.lq_diff.specs.Table.{table_rows, table_last, table_limits, table_point, table_multipliers, constants, TakesRow, MayStop};
+    ghost use Rattle.lq_linear.specs.declared.limits.TheConstants.{SUM_LIMIT};
 
     ghost standing = { table_rows };
 
@@ -238,7 +366,6 @@ impl LinearEngine for DistanceTable {
             equal: row.equal(),
         };
         match stand(
-            self.alloc,
             &mut self.edges,
             &mut self.graph,
             &mut self.conflict,
@@ -261,10 +388,11 @@ impl LinearEngine for DistanceTable {
     }
 
     fn back_to(&mut self, mark: Mark) {
-        keep(
+        go_back(
             &mut self.edges,
             &mut self.graph,
             &mut self.conflict,
+            &mut self.found,
             mark.0 as usize,
         );
         self.answer = Answer::Unasked;
@@ -274,18 +402,24 @@ impl LinearEngine for DistanceTable {
         ensures known { IsTrue result → self.now.conflict ≡ true }
         ensures contradicts { IsTrue result → (ms : List (ℕ × ℚ)) × IsContradiction (table_rows self.now) ms }
         ensures answered { table_last self.now ≡ Conflicted → IsTrue result }
-        ensures decided { result ≡ false → Solves (table_point self.now) (table_rows self.now) }
+        ensures decided { result ≡ false → constants (table_rows self.now) < SUM_LIMIT
+            → Solves (table_point self.now) (table_rows self.now) }
     {
         self.conflict
     }
 
     fn check(&mut self) -> Result<Verdict, LinearStop> {
-        if self.conflict {
-            self.answer = Answer::Contradicted;
-            return Ok(Verdict::Conflict);
-        }
-        match measure(&self.graph.vertices) {
+        match decide(
+            &self.edges,
+            &mut self.graph,
+            &mut self.conflict,
+            &mut self.found,
+        ) {
             Ok(()) => {
+                if self.conflict {
+                    self.answer = Answer::Contradicted;
+                    return Ok(Verdict::Conflict);
+                }
                 self.answer = Answer::Solved;
                 Ok(Verdict::Holds)
             }

@@ -1,12 +1,10 @@
 // What vertices were, to go back to.
-ghost use Rattle.std.specs.Prelude.{◌≡◌, ℕ, [], ◌∷◌, ◌++◌, ◌<◌, ◌≤◌, take, drop, length, IfErr, OnOk};
+ghost use Rattle.std.specs.Prelude.{◌≡◌, ℕ, [], ◌∷◌, ◌++◌, ◌+◌, ◌<◌, ◌≤◌, take, drop, length, vec_capacity};
 ghost use Rattle.lq_diff.specs.Passes.{vertex_at, AllBelow, AtRest};
 ghost use Rattle.lq_diff.specs.Links.{kept};
-ghost use Rattle.lq_diff.specs.Stops.{StopsBy};
 ghost use Rattle.lq_diff.specs.Trail.{notes_of, first_of, NotesBelow};
 
 use crate::vertex::{Kept, Vertex};
-use lq_linear::LinearStop;
 
 /// What was kept of a vertex when it was noted.
 #[derive(Clone, Copy)]
@@ -16,28 +14,20 @@ pub(crate) struct Note {
 }
 
 /// Notes what is kept of these vertices, before they change.
-pub(crate) fn note_all(
-    trail: &mut Vec<Note>,
-    vertices: &[Vertex],
-    places: &[usize],
-) -> Result<(), LinearStop>
+pub(crate) fn note_all(trail: &mut Vec<Note>, vertices: &[Vertex], places: &[usize])
     requires inside { AllBelow places.now (length vertices.now) }
-    ensures some { (i : ℕ) × (trail.new.items ≡ trail.old.items ++ notes_of (kept (vertex_at vertices.now))
-        (take i places.now)) }
-    ensures all { OnOk result (trail.new.items ≡ trail.old.items ++ notes_of (kept (vertex_at vertices.now))
-        places.now) }
-    ensures stop { IfErr result (StopsBy 0) }
+    requires room { length trail.old.items + length places.now ≤ vec_capacity trail.old }
+    ensures all { trail.new.items ≡ trail.old.items ++ notes_of (kept (vertex_at vertices.now)) places.now }
+    ensures count { length trail.new.items ≡ length trail.old.items + length places.now }
+    ensures capacity { vec_capacity trail.new ≡ vec_capacity trail.old }
 {
     for place in places {
         let vertex = *place;
-        let Ok(()) = trail.push(Note {
+        trail.push_reserved(Note {
             vertex,
             kept: vertices[vertex].kept,
-        }) else {
-            return Err(LinearStop::Memory);
-        };
+        });
     }
-    Ok(())
 }
 
 /// Gives back to its vertex what was noted.
@@ -58,6 +48,7 @@ pub(crate) fn undo(vertices: &mut [Vertex], trail: &mut Vec<Note>, to: usize)
     requires within { to ≤ length trail.old.items }
     requires inside { NotesBelow trail.old.items (length vertices.old) }
     ensures trail { trail.new.items ≡ take to trail.old.items }
+    ensures capacity { vec_capacity trail.new ≡ vec_capacity trail.old }
     ensures back { (v : ℕ) → kept (vertex_at vertices.new) v
         ≡ first_of (drop to trail.old.items) v (kept (vertex_at vertices.old) v) }
     ensures rest { (order : ℕ → ℕ) → ((v : ℕ) → AtRest (vertex_at vertices.old) order v)

@@ -11,7 +11,7 @@ use Rattle.lq_diff.specs.declared.vertex.Vertex.{Vertex}
 use Rattle.lq_diff.specs.Links.{IsLatest}
 use Rattle.lq_diff.specs.Passes.{blank, vertex_at, order_at, nexts, Falls, IsClosing, IsPass}
 use Rattle.lq_diff.proofs.pass.relax.Goals as goal
-use Rattle.lq_diff.proofs.pass.relax.Goals.{then-offer-vertices+else-arc-top+then-order-arc-eq0+in_ok-fall, then-offer-vertices+else-arc-top+else-order-arc-eq0, else-offer-vertices}
+use Rattle.lq_diff.proofs.pass.relax.Goals.{then-offer-vertices+else-arc-top+then-order-arc-eq0, then-offer-vertices+else-arc-top+else-order-arc-eq0, else-offer-vertices}
 
 abbrev none : Arc
 none = record { tag = 0; from = 0; to = 0; cost = pos 0; forward = false }
@@ -20,6 +20,8 @@ pub loop-k-init : goal.loop-k-init
 loop-k-init c = record {
   within = c.requires.last.within;
   from = c.requires.last.here;
+  room = c.requires.room;
+  capacity = refl;
   inside = c.requires.inside;
   listed = λ h. h;
   kept = λ v. refl;
@@ -36,6 +38,16 @@ pub bounds-order-arc : goal.bounds-order-arc
 bounds-order-arc c =
     let l : c.loop-k.k - 1 < length c.args.arcs.now = (let w = c.loop-k.invariant.within in let t = c.loop-k-test.true in omega arith) in
     let b = element c.args.arcs.now (c.loop-k.k - 1) none _ l (c.requires.in_range (c.loop-k.k - 1)) in let s = c.requires.same in omega arith
+
+pub fall-requires-clause-below : goal.fall-requires-clause-below
+fall-requires-clause-below c =
+    let k : ℕ = c.loop-k.k - 1 in
+    let a : Arc = get_or c.args.arcs.now k none in
+    let y : Vertex = get_or c.loop-k.vertices a.to blank in
+    let fy : FitsSigned w128 y.next = search rules in
+    let fo : FitsSigned w128 c.in_ok-offer.offer = search rules in
+    let less : c.in_ok-offer.offer <ℤ y.next = less_read c.in_ok-offer.offer y.next fo fy c.if-offer-vertices.true in
+    subst (λ z. z <ℤ y.next) (sym (to_z-of_z w128 c.in_ok-offer.offer fo)) less
 
 pub fall-requires-clause-at_in : goal.fall-requires-clause-at_in
 fall-requires-clause-at_in c =
@@ -130,7 +142,7 @@ loop-k-preserved c =
     let x : Vertex = get_or c.loop-k.vertices c.args.at blank in
     let y : Vertex = get_or c.loop-k.vertices a.to blank in
     elim c.if-offer-vertices.branch [
-      | then-offer-vertices+else-arc-top+then-order-arc-eq0+in_ok-fall w ↦
+      | then-offer-vertices+else-arc-top+then-order-arc-eq0 w ↦
           let fn : FitsSigned w128 x.next = search rules in
           let fy : FitsSigned w128 y.next = search rules in
           let fc : FitsSigned w128 a.cost = search rules in
@@ -139,12 +151,14 @@ loop-k-preserved c =
           let less : c.in_ok-offer.offer <ℤ y.next = less_read c.in_ok-offer.offer y.next fo fy w.if-offer-vertices.true in
           let o : ℤ = to_z w128 (of_z w128 c.in_ok-offer.offer) in
           let oe : o ≡ c.in_ok-offer.offer = to_z-of_z w128 c.in_ok-offer.offer fo in
-          let fall : Falls s (vertex_at w.fall.new.vertices) a.to k o = w.in_ok-fall.ensures.falls in
+          let fall : Falls s (vertex_at w.fall.new.vertices) a.to k o = w.fall.ensures.falls in
           rw (w.vertices-is, w.fallen-is) record {
             within = within;
             from = latest.here;
+            room = w.fall.ensures.room;
+            capacity = w.fall.ensures.capacity ∙ c.loop-k.invariant.capacity;
             inside = w.fall.ensures.inside;
-            listed = λ h. w.in_ok-fall.ensures.listed order (c.loop-k.invariant.listed h);
+            listed = λ h. w.fall.ensures.listed order (c.loop-k.invariant.listed h);
             kept = λ v. w.fall.ensures.kept v ∙ c.loop-k.invariant.kept v;
             passes = λ gap count pass. offers_skip arcs c.args.top gap (vertex_at w.fall.new.vertices) order count c.args.at k link
                 (offer_falls arcs c.args.top gap s _ order count c.args.at k a o (subst (λ n. IsPass arcs c.args.top gap s order count c.args.at n) e (c.loop-k.invariant.passes gap count pass))
@@ -153,6 +167,8 @@ loop-k-preserved c =
       | then-offer-vertices+else-arc-top+else-order-arc-eq0 w ↦ rw (w.vertices-is, w.fallen-is) record {
         within = within;
         from = latest.here;
+        room = c.loop-k.invariant.room;
+        capacity = c.loop-k.invariant.capacity;
         inside = c.loop-k.invariant.inside;
         listed = c.loop-k.invariant.listed;
         kept = c.loop-k.invariant.kept;
@@ -171,6 +187,8 @@ loop-k-preserved c =
           rw (w.vertices-is, w.fallen-is) record {
             within = within;
             from = latest.here;
+            room = c.loop-k.invariant.room;
+            capacity = c.loop-k.invariant.capacity;
             inside = c.loop-k.invariant.inside;
             listed = c.loop-k.invariant.listed;
             kept = c.loop-k.invariant.kept;

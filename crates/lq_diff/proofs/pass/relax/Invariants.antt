@@ -1,12 +1,15 @@
-use Rattle.std.proofs.Common.{◌≡◌, ℕ, suc, ◌≤◌, length, slice_get, IfSome}
+use Rattle.std.proofs.Common.{◌≡◌, ℕ, suc, ◌≤◌, ◌+◌, length, slice_get, IfSome, vec_capacity}
 use Rattle.lq_diff.specs.Passes.{vertex_at, order_at, AllBelow, AreListed, IsPass}
 use Rattle.lq_diff.specs.Links.{kept}
+use Rattle.lq_diff.specs.Room.{unfallen}
 use Rattle.lq_diff.proofs.pass.relax.Given as goal
 
 abbrev pub invariant-loop-k : goal.invariant-loop-k
 invariant-loop-k l = record {
   within : l.k ≤ length l.arcs;
   from : (j : ℕ) → l.k ≡ suc j → IfSome (slice_get l.arcs j) (λ a. a.from ≡ l.at);
+  room : length l.fallen.items + unfallen l.vertices ≤ vec_capacity l.fallen;
+  capacity : vec_capacity l.fallen ≡ vec_capacity l.fn.fallen;
   inside : AllBelow l.fallen.items (length l.vertices);
   listed : AreListed l.fn.fallen.items (vertex_at l.fn.vertices) (order_at l.order) → AreListed l.fallen.items (vertex_at l.vertices) (order_at l.order);
   kept : (v : ℕ) → kept (vertex_at l.vertices) v ≡ kept (vertex_at l.fn.vertices) v;

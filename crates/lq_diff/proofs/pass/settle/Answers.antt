@@ -4,11 +4,14 @@ use Rattle.std.proofs.lemmas.List.{get_or-set_same}
 use Rattle.lq_diff.specs.declared.vertex.Kept.{Kept}
 use Rattle.lq_diff.specs.Links.{IsLatest}
 use Rattle.lq_diff.specs.Passes.{vertex_at, order_at}
-use Rattle.lq_diff.proofs.Passing.{listed_settled, settle_step, sized_kept, one_fewer, few, settled_now, next_from}
+use Rattle.lq_diff.proofs.Passing.{order_most, listed_settled, settle_step, sized_kept, one_fewer, few, settled_now, next_from}
 use Rattle.lq_diff.proofs.pass.settle.Goals as goal
 
 pub loop-at-init : goal.loop-at-init
 loop-at-init c = record {
+  places = c.requires.room;
+  capacity = refl;
+  counted = λ v. let u = c.requires.unsettled v in omega arith;
   inside = c.requires.inside;
   listed = c.requires.listed;
   kept = λ v. refl;
@@ -65,6 +68,10 @@ loop-at-preserved c =
     let inside2 : c.in-Some.at < length c.loop-at.order = omega (arith, c.requires.same) in
     let offered = rw c.in_default-2.is at c.in_ok-closing.ensures.offered in
     record {
+      places = c.relax.ensures.room;
+      capacity = c.relax.ensures.capacity ∙ c.loop-at.invariant.capacity;
+      counted = λ v. order_most (order_at c.loop-at.order) (order_at (set c.loop-at.order c.in-Some.at (c.loop-at.count + 1))) c.in-Some.at c.loop-at.count
+          (settled_now c.loop-at.order c.in-Some.at c.loop-at.count inside2) c.loop-at.invariant.counted v;
       inside = c.relax.ensures.inside;
       listed = c.in_ok-closing.ensures.listed (listed_settled c.loop-at.fallen.items (vertex_at c.loop-at.vertices) (order_at c.loop-at.order) (order_at (set c.loop-at.order c.in-Some.at (c.loop-at.count + 1))) c.in-Some.at c.loop-at.count
           c.loop-at.invariant.listed least (settled_now c.loop-at.order c.in-Some.at c.loop-at.count inside2));
@@ -95,3 +102,17 @@ returns-in-Some-2-clause-listed c =
     let inside2 : c.in-Some.at < length c.loop-at.order = omega (arith, c.requires.same) in
     c.in_ok-closing.ensures.listed (listed_settled c.loop-at.fallen.items (vertex_at c.loop-at.vertices) (order_at c.loop-at.order) (order_at (set c.loop-at.order c.in-Some.at (c.loop-at.count + 1))) c.in-Some.at c.loop-at.count
     c.loop-at.invariant.listed least (settled_now c.loop-at.order c.in-Some.at c.loop-at.count inside2))
+
+pub returns-in_default-clause-counted : goal.returns-in_default-clause-counted
+returns-in_default-clause-counted c = λ v. let k = c.loop-at.invariant.counted v in let r = c.loop-at.invariant.room in omega arith
+
+pub returns-in-Some-2-clause-counted : goal.returns-in-Some-2-clause-counted
+returns-in-Some-2-clause-counted c =
+    let least = rw c.in-Some.is at c.in_ok-at.ensures.some in
+    let inside = rw c.in-Some.is at c.in_ok-at.ensures.inside in
+    let n = c.loop-at.auto.vertices in let o = c.loop-at.auto.order in
+    let inside2 : c.in-Some.at < length c.loop-at.order = omega (arith, c.requires.same) in
+    λ v. (let k = order_most (order_at c.loop-at.order) (order_at (set c.loop-at.order c.in-Some.at (c.loop-at.count + 1))) c.in-Some.at c.loop-at.count
+    (settled_now c.loop-at.order c.in-Some.at c.loop-at.count inside2) c.loop-at.invariant.counted v in
+    let r = c.loop-at.invariant.room in
+    omega (arith, one_fewer c.loop-at.order c.in-Some.at c.loop-at.count inside2 least.unsettled, length-set {A = ℕ} c.loop-at.order c.in-Some.at (c.loop-at.count + 1)))

@@ -1,10 +1,14 @@
-use Rattle.std.proofs.Common.{◌≡◌, ℕ, ◌+◌, ◌-◌, ◌≤◌, length, sum_by}
+use Rattle.std.proofs.Common.{◌≡◌, ℕ, ◌+◌, ◌-◌, ◌≤◌, length, sum_by, vec_capacity}
 use Rattle.lq_diff.specs.Passes.{vertex_at, order_at, AllBelow, AreListed, IsPass}
 use Rattle.lq_diff.specs.Links.{kept}
+use Rattle.lq_diff.specs.Room.{unfallen}
 use Rattle.lq_diff.proofs.pass.settle.Given as goal
 
 abbrev pub invariant-loop-at : goal.invariant-loop-at
 invariant-loop-at l = record {
+  places : length l.fallen.items + unfallen l.vertices ≤ vec_capacity l.fallen;
+  capacity : vec_capacity l.fallen ≡ vec_capacity l.fn.fallen;
+  counted : (v : ℕ) → order_at l.order v ≤ l.count;
   inside : AllBelow l.fallen.items (length l.vertices);
   listed : AreListed l.fallen.items (vertex_at l.vertices) (order_at l.order);
   kept : (v : ℕ) → kept (vertex_at l.vertices) v ≡ kept (vertex_at l.fn.vertices) v;

@@ -11,7 +11,7 @@ use Rattle.lq_diff.proofs.Numbers.{element}
 use Rattle.lq_diff.proofs.Placing.{unnamed_one, one_potential}
 use Rattle.lq_diff.proofs.Linking.{links_kept, linked_taken, latest_whole}
 use Rattle.lq_diff.proofs.Solving.{taken_all, narrow, stuck_more, solved_more}
-use Rattle.lq_diff.proofs.Trails.{trailed_ends, trailed_some_ends, trailed_then, none_of, some_of, err_of}
+use Rattle.lq_diff.proofs.Trails.{trailed_ends, trailed_then, none_of, some_of, err_of}
 use Rattle.lq_diff.proofs.solve.admit_one.Goals as goal
 
 abbrev none : Arc
@@ -19,13 +19,6 @@ none = record { tag = 0; from = 0; to = 0; cost = pos 0; forward = false }
 
 solved_on : (arcs : List Arc) (p q : Potentials) → ((v : ℕ) → q v ≡ p v) → IsSolved arcs p → IsSolved arcs q
 solved_on arcs p q h s = subst (λ r. IsSolved arcs r) (sym (one_potential q p h)) s
-
-pub returns-in_err-note_all-clause-trailed : goal.returns-in_err-note_all-clause-trailed
-returns-in_err-note_all-clause-trailed c =
-    let a : Arc = get_or c.args.arcs.now c.args.at none in
-    let b = element c.args.arcs.now c.args.at none _ c.requires.at_in (c.requires.in_range c.args.at) in
-    let x = c.note_all.ensures.some in
-    trailed_some_ends _ x.0 c.args.trail.now.items c.note_all.new.trail.items (kept (vertex_at c.args.vertices.now)) a.from a.to x.1 b.0 b.1
 
 pub touch-requires-clause-from_in : goal.touch-requires-clause-from_in
 touch-requires-clause-from_in c = (element c.args.arcs.now c.args.at none _ c.requires.at_in (c.requires.in_range c.args.at)).0
@@ -91,7 +84,7 @@ returns-clause-trailed c =
     let at : slice_get c.args.arcs.now c.args.at ≡ Some a = slice_get-get_or c.args.arcs.now c.args.at none c.requires.at_in in
     trailed_then (length c.args.vertices.now) c.args.trail.now.items c.note_all.new.trail.items c.admit.new.trail.items (kept (vertex_at c.args.vertices.now)) (kept (vertex_at c.link.new.vertices)) (kept (vertex_at c.admit.new.vertices))
     (trailed_ends _ c.args.trail.now.items c.note_all.new.trail.items (kept (vertex_at c.args.vertices.now)) (kept (vertex_at c.link.new.vertices)) a.from a.to
-    c.in_ok-note_all.ensures.all b.0 b.1 (λ v f t. c.link.ensures.others a at v f ∙ c.touch.ensures.others v f t))
+    c.note_all.ensures.all b.0 b.1 (λ v f t. c.link.ensures.others a at v f ∙ c.touch.ensures.others v f t))
     (subst (λ n. IsTrailed n c.note_all.new.trail.items c.admit.new.trail.items (kept (vertex_at c.link.new.vertices)) (kept (vertex_at c.admit.new.vertices))) (c.link.auto.vertices ∙ c.touch.auto.vertices)
     c.admit.ensures.trailed)
 

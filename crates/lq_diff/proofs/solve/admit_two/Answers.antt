@@ -4,21 +4,15 @@ use Rattle.lq_diff.specs.Passes.{vertex_at, values, touched}
 use Rattle.lq_diff.specs.Links.{kept, HasLinks}
 use Rattle.lq_diff.proofs.Placing.{placed_step, placed_large, unnamed_pair, pair_within}
 use Rattle.lq_diff.proofs.Passing.{rest_same}
-use Rattle.lq_diff.proofs.Trails.{trailed_ends, trailed_some_ends, placing_inside, first_elsewhere, second_elsewhere}
+use Rattle.lq_diff.proofs.Trails.{trailed_ends, placing_inside, first_elsewhere, second_elsewhere}
 use Rattle.lq_diff.proofs.solve.admit_two.Goals as goal
 
 two_more : (k : ℕ) → (k + 1) + 1 ≡ k + 2
 two_more k = omega arith
 
-pub returns-in_err-note_all-clause-trailed : goal.returns-in_err-note_all-clause-trailed
-returns-in_err-note_all-clause-trailed c =
-    let i = placing_inside c.args.arcs.now c.args.at _ (touched (vertex_at c.args.vertices.now)) c.args.arc c.requires.placing c.requires.in_range in
-    let x = c.note_all.ensures.some in
-    trailed_some_ends _ x.0 c.args.trail.now.items c.note_all.new.trail.items (kept (vertex_at c.args.vertices.now)) c.args.arc.from c.args.arc.to x.1 i.0 i.1
-
 pub returns-in_err-place-clause-stop : goal.returns-in_err-place-clause-stop
 returns-in_err-place-clause-stop c =
-    let was : c.from_residual-in_err-place.result ≡ Err c.in_err-place.field-0.0 = search rules in
+    let was : c.from_residual.result ≡ Err c.in_err-place.field-0.0 = search rules in
     rw was (λ n b. c.in_err-place.ensures.stop n (λ past. placed_large c.args.arcs.now c.args.at n (touched (vertex_at c.args.vertices.now)) c.args.arc (values (vertex_at c.args.vertices.now))
     c.requires.placing c.requires.reached.solved b past))
 
@@ -57,7 +51,7 @@ returns-clause-trailed c =
     let placing = c.requires.placing in
     let i = placing_inside c.args.arcs.now c.args.at _ mark c.args.arc placing c.requires.in_range in
     trailed_ends _ c.args.trail.now.items c.note_all.new.trail.items (kept (vertex_at c.args.vertices.now)) (kept (vertex_at c.link-2.new.vertices)) c.args.arc.from c.args.arc.to
-    c.in_ok-note_all.ensures.all i.0 i.1 (λ v f t.
+    c.note_all.ensures.all i.0 i.1 (λ v f t.
     let a = first_elsewhere c.args.arcs.now c.args.at v mark c.args.arc placing f t in
     let b = second_elsewhere c.args.arcs.now c.args.at v mark c.args.arc placing f t in
     c.link-2.ensures.others b.0 b.1 v b.2 ∙ c.link.ensures.others a.0 a.1 v a.2 ∙ c.touch.ensures.others v f t ∙ c.place.ensures.others v t)

@@ -20,6 +20,7 @@ loop-trail-preserved-in-Some c =
     let k : vec_len c.loop-trail.trail ≡ length old = c.loop-trail.trail.ok.0 in
     let l : c.args.to < length old = (let t = c.loop-trail-test.true in let m = c.len.ensures in omega arith) in
     record {
+      capacity = c.pop.ensures.capacity ∙ c.loop-trail.invariant.capacity;
       within = shorter c.args.to old new note e l;
       front = front_before c.args.to old new note e l ∙ c.loop-trail.invariant.front;
       below = below_before old new note (length c.args.vertices.now) e c.loop-trail.invariant.below;

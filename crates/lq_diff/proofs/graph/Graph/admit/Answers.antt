@@ -7,7 +7,7 @@ use Rattle.lq_diff.proofs.graph.Graph.admit.Goals as goal
 pub extend-requires-clause-graph : goal.extend-requires-clause-graph
 extend-requires-clause-graph c =
     let g = c.args.self.now in
-    rw c.in-Ok.ensures.items
+    rw c.push_reserved.ensures.items
     (pushed_graph g.arcs.items g.links.items g.vertices.items g.order.items g.fallen.items g.trail.items g.starts.items _ c.requires.graph (c.len.ensures ∙ g.arcs.ok.0) (c.len-2.ensures ∙ g.trail.ok.0))
 
 pub back_to-requires-clause-rest : goal.back_to-requires-clause-rest

@@ -6,7 +6,7 @@ use Rattle.lq_diff.specs.Links.{kept}
 use Rattle.lq_diff.specs.Graphs.{LeadsBack}
 use Rattle.lq_diff.specs.Trail.{IsReached}
 use Rattle.lq_diff.proofs.Trails.{trailed_same, front_length, none_of, some_of}
-use Rattle.lq_diff.proofs.Graphing.{leads_on, leads_then, reached_on, front_get}
+use Rattle.lq_diff.proofs.Graphing.{leads_on, leads_then, reached_on}
 use Rattle.lq_diff.proofs.graph.Graph.extend.Goals as goal
 
 pub returns-in_err-add_arcs-clause-trail : goal.returns-in_err-add_arcs-clause-trail
@@ -14,15 +14,6 @@ returns-in_err-add_arcs-clause-trail c =
     let g = c.args.self.now in
     leads_on g.arcs.items c.add_arcs.new.arcs.items g.links.items g.links.items g.vertices.items g.vertices.items g.order.items g.order.items g.fallen.items g.trail.items g.trail.items g.starts.items
     c.requires.graph c.add_arcs.ensures.front (λ j l. refl) (let s = c.requires.graph.same in omega arith) c.requires.graph.rests.back.ordered refl
-    (trailed_same (length g.vertices.items) g.trail.items (kept (vertex_at g.vertices.items)) (kept (vertex_at g.vertices.items)) (λ v. refl))
-
-pub returns-in_default-clause-trail : goal.returns-in_default-clause-trail
-returns-in_default-clause-trail c =
-    let g = c.args.self.now in
-    let more = c.add_links.new.links.items in
-    leads_on g.arcs.items c.add_arcs.new.arcs.items g.links.items more g.vertices.items g.vertices.items g.order.items g.order.items g.fallen.items g.trail.items g.trail.items g.starts.items
-    c.requires.graph c.add_arcs.ensures.front (λ j l. front_get g.links.items more j c.add_links.ensures.front (let s = c.requires.graph.same in omega arith))
-    (let s = c.requires.graph.same in let l = front_length g.links.items more c.add_links.ensures.front in omega arith) c.requires.graph.rests.back.ordered refl
     (trailed_same (length g.vertices.items) g.trail.items (kept (vertex_at g.vertices.items)) (kept (vertex_at g.vertices.items)) (λ v. refl))
 
 pub solve-requires-clause-reached : goal.solve-requires-clause-reached
@@ -72,7 +63,7 @@ returns-clause-graph c =
     c.deref_mut.ensures.value c.deref_mut-2.ensures.value c.deref_mut-3.ensures.value la c.solve.ensures.before ml nl ol c.solve.ensures.trailed in
     none_of c.solve.result _ _ _ _ c.solve.ensures.reached c.solve.ensures.rest c.solve.ensures.empty (λ reached rest empty.
     let r = subst (λ l. IsReached l c.solve.new.links (length l) (kept (vertex_at c.solve.new.vertices))) c.deref.ensures.value reached in
-    let same : length c.solve.new.links ≡ length c.add_arcs.new.arcs.items = ml ∙ ap length c.deref_mut.ensures.value ∙ c.in-Ok.ensures.same ∙ c.len.ensures ∙ c.add_arcs.new.arcs.ok.0 in
+    let same : length c.solve.new.links ≡ length c.add_arcs.new.arcs.items = ml ∙ ap length c.deref_mut.ensures.value ∙ c.add_links.ensures.same ∙ c.len.ensures ∙ c.add_arcs.new.arcs.ok.0 in
     rw (wl, wv, wo) (record { rests = record { back = leads; rest = rest; empty = empty }; same = same; reached = r }))
 
 pub returns-clause-listed : goal.returns-clause-listed

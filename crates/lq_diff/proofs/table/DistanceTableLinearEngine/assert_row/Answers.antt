@@ -1,13 +1,13 @@
-use Rattle.std.proofs.Common.{◌≡◌, ◌∙◌, ap, sym, subst, rules, ℕ, List, ◌++◌, ◌∷◌, [], FitsSigned, to_z, of_z, IsNone}
+use Rattle.std.proofs.Common.{◌≡◌, ◌∙◌, ◌+◌, arith, refl, length, ap, sym, subst, rules, ℕ, List, ◌++◌, ◌∷◌, [], FitsSigned, to_z, of_z, IsNone}
 use Rattle.std.specs.Int.{w128}
 use Rattle.std.proofs.lemmas.Int.{to_z-of_z}
 use Rattle.lq_linear.specs.Row.{Row}
 use Rattle.lq_linear.specs.Contradiction.{tagged}
 use Rattle.lq_diff.specs.declared.arc.Edge.{Edge}
 use Rattle.lq_diff.specs.Edges.{standing_of, row_of}
-use Rattle.lq_diff.specs.Stops.{StopsBy}
-use Rattle.lq_diff.specs.Table.{constants}
-use Rattle.lq_diff.proofs.Rows.{standing_more, fresh_tag, sizes_are}
+use Rattle.lq_diff.specs.Stops.{PastBy}
+use Rattle.lq_diff.specs.Table.{TakesRow, constants}
+use Rattle.lq_diff.proofs.Rows.{standing_more, standing_length, fresh_tag, sizes_are, room_less, room_on, pushed_length}
 use Rattle.lq_diff.proofs.table.DistanceTableLinearEngine.assert_row.Goals as goal
 
 pub stand-requires-clause-fresh : goal.stand-requires-clause-fresh
@@ -37,4 +37,33 @@ returns-in-Err-clause-stop c =
     let edges : List Edge = c.self.inside.edges.items ++ edge ∷ [] in
     let e : standing_of edges ≡ standing_of c.self.inside.edges.items ++ (c.args.tag, c.args.row.now) ∷ [] =
     standing_more c.self.inside.edges.items edge ∙ ap (λ (r : Row). standing_of c.self.inside.edges.items ++ (c.args.tag, r) ∷ []) row in
-    rw (← c.self.view_is) (λ rows h. subst (λ (n : ℕ). StopsBy n c.in-Err.stop) (sym (sizes_are edges) ∙ ap constants e) c.in-Err.ensures.stop)
+    rw (← c.self.view_is) (λ rows h. subst (λ (n : ℕ). PastBy n c.in-Err.stop) (sym (sizes_are edges) ∙ ap constants e) c.in-Err.ensures.stop)
+
+pub stand-requires-clause-place : goal.stand-requires-clause-place
+stand-requires-clause-place c =
+    let takes : TakesRow (c.self.inside.terms ∷ c.self.inside.rows ∷ []) (standing_of c.self.inside.edges.items) c.args.row.now = rw (← c.self.view_is) at c.requires.takes in
+    let few = takes.2 in let p = c.self.invariant.place in let n = standing_length c.self.inside.edges.items in omega arith
+
+pub stand-requires-clause-room : goal.stand-requires-clause-room
+stand-requires-clause-room c =
+    let takes : TakesRow (c.self.inside.terms ∷ c.self.inside.rows ∷ []) (standing_of c.self.inside.edges.items) c.args.row.now = rw (← c.self.view_is) at c.requires.takes in
+    room_less c.self.inside.graph (length c.self.inside.edges.items + 1) c.self.inside.rows (let few = takes.2 in let n = standing_length c.self.inside.edges.items in omega arith) c.self.invariant.room
+
+pub invariant_of-self : goal.invariant_of-self
+invariant_of-self c = record {
+  fits = c.self.invariant.fits;
+  same = refl;
+  sized = c.stand.ensures.vertices ∙ c.self.invariant.sized;
+  standing = c.stand.ensures.standing;
+  decided = c.stand.ensures.decided;
+  few =
+      let takes : TakesRow (c.self.inside.terms ∷ c.self.inside.rows ∷ []) (standing_of c.self.inside.edges.items) c.args.row.now = rw (← c.self.view_is) at c.requires.takes in
+      let few = takes.2 in let n = standing_length c.self.inside.edges.items in let m = pushed_length c.self.inside.edges.items c.stand.new.edges.items _ c.in-Ok.ensures.added in omega arith;
+  place = let p = c.self.invariant.place in let e = c.stand.ensures.place in omega arith;
+  room = room_on c.self.inside.graph c.stand.new.graph c.self.inside.rows c.stand.ensures.room c.stand.ensures.vertices c.self.invariant.room;
+  steps = let s = c.self.invariant.steps in let e = c.stand.ensures.capacity in omega arith;
+  all = λ e. absurd (cc);
+  fit = λ e. absurd (cc);
+  solved = λ e. absurd (cc);
+  contradicted = λ e. absurd (cc);
+}
