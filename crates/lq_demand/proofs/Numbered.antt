@@ -8,7 +8,7 @@ use Rattle.lq_linear.specs.Contradiction.{Tagged, Solves, tagged}
 use Rattle.lq_linear.specs.declared.engine.LinearStop.{LinearStop}
 use Rattle.lq_linear.specs.declared.engine.LinearStop.TheVariants.{Number, Pivots, Memory}
 use Rattle.lq_diff.specs.Table.{constants}
-use Rattle.lq_diff.specs.Stops.{StopsBy}
+use Rattle.lq_diff.specs.Stops.{PastBy, StopsBy}
 use Rattle.lq_demand.specs.Problem.{AllHold, IsSolvable, row_sizes, problem_sizes, numbered_from, rows_in}
 
 pub numbered_push : (n : ℕ) (rows : List Row) (row : Row) → numbered_from n rows ++ (n + length rows, row) ∷ [] ≡ numbered_from n (rows ++ row ∷ [])
@@ -47,13 +47,13 @@ pub numbered_solves : (v : Valuation) (n : ℕ) (rows : List Row) → AllHold v 
 numbered_solves v n [] h = tt
 numbered_solves v n (r ∷ rows) h = (h.0, numbered_solves v (suc n) rows h.1)
 
-pub stops_by_more : (n m : ℕ) (stop : LinearStop) → n ≤ m → StopsBy n stop → StopsBy m stop
+pub stops_by_more : (n m : ℕ) (stop : LinearStop) → n ≤ m → PastBy n stop → StopsBy m stop
 stops_by_more n m (Number e) l h = (h.0, more)
   where
     more : 2 ^ 126 ≤ m
     more = let k = h.1 in omega arith
 stops_by_more n m (Pivots k) l h = absurd h
-stops_by_more n m Memory l h = tt
+stops_by_more n m Memory l h = absurd h
 
 -- one more of some rows
 pub take_step : (known rows : List Row) (i : ℕ) (row : Row) → i < length rows → row ≡ get_or rows i row → (known ++ take i rows) ++ row ∷ [] ≡ known ++ take (i + 1) rows
@@ -74,7 +74,7 @@ standing_more t new tag known rows i row h e at tag_is new_is =
 
 -- some of the rows stand, and one more
 pub stops_by_front : (t : Tagged) (tag : ℕ) (known rows : List Row) (i : ℕ) (row : Row) (stop : LinearStop) → i < length rows → row ≡ get_or rows i row
-    → t ≡ numbered_from 0 (known ++ take i rows) → tag ≡ length t → StopsBy (constants (t ++ (tag, row) ∷ [])) stop → StopsBy (row_sizes (known ++ rows)) stop
+    → t ≡ numbered_from 0 (known ++ take i rows) → tag ≡ length t → PastBy (constants (t ++ (tag, row) ∷ [])) stop → StopsBy (row_sizes (known ++ rows)) stop
 stops_by_front t tag known rows i row stop h e at tag_is stops =
     stops_by_more _ _ stop
     (let all = ap constants (standing_more t (t ++ (tag, row) ∷ []) tag known rows i row h e at tag_is refl) in
@@ -85,7 +85,7 @@ stops_by_front t tag known rows i row stop h e at tag_is stops =
 
 -- the rows of a problem stand
 pub stops_by_problem : (t : Tagged) (known : List Row) (row : Row) (stop : LinearStop) → t ≡ numbered_from 0 (known ++ row ∷ [])
-    → StopsBy (constants t) stop → StopsBy (problem_sizes (record { known = known; goal = row })) stop
+    → PastBy (constants t) stop → StopsBy (problem_sizes (record { known = known; goal = row })) stop
 stops_by_problem t known row stop at stops =
     stops_by_more _ _ stop
     (let all = ap constants at in let n = constants_numbered 0 (known ++ row ∷ []) in let more = row_sizes-append known (row ∷ []) in omega arith) stops
