@@ -7,7 +7,7 @@ use Rattle.lq_linear.specs.Contradiction.{Tagged, tagged, IsFair, AllFair, level
 use Rattle.lq_linear.specs.Row.{Row, Valuation}
 use Rattle.lq_linear.specs.declared.engine.LinearStop.{LinearStop}
 use Rattle.lq_linear.specs.declared.engine.LinearStop.TheVariants.{Number, Pivots, Memory}
-use Rattle.lq_diff.specs.Stops.{StopsBy}
+use Rattle.lq_diff.specs.Stops.{PastBy, StopsBy}
 use Rattle.lq_case.specs.Stored.{AreApart}
 
 -- where some rows are found, they are found among others
@@ -101,8 +101,13 @@ stops_more n m (Number e) l h = (h.0, (let k = h.1 in omega arith))
 stops_more n m (Pivots k) l h = absurd h
 stops_more n m Memory l h = tt
 
-pub stops_either : (n : ℕ) (stop : LinearStop) → (stop ≡ Memory) ⊎ ((rows : List Row) → Unit {0} → StopsBy n stop) → StopsBy n stop
+pub past_stops : (n : ℕ) (stop : LinearStop) → PastBy n stop → StopsBy n stop
+past_stops n (Number e) h = h
+past_stops n (Pivots k) h = absurd h
+past_stops n Memory h = tt
+
+pub stops_either : (n : ℕ) (stop : LinearStop) → (stop ≡ Memory) ⊎ ((rows : List Row) → Unit {0} → PastBy n stop) → StopsBy n stop
 stops_either n (Number e) (inl h) = absurd (cc)
 stops_either n (Pivots k) (inl h) = absurd (cc)
 stops_either n Memory (inl h) = tt
-stops_either n stop (inr f) = f [] tt
+stops_either n stop (inr f) = past_stops n stop (f [] tt)

@@ -14,7 +14,7 @@ use Rattle.lq_linear.specs.Contradiction.{Solves, IsContradiction}
 use Rattle.lq_linear.specs.Row.{Row, Valuation}
 use Rattle.lq_linear.specs.declared.engine.LinearStop.{LinearStop}
 use Rattle.lq_linear.specs.declared.engine.LinearStop.TheVariants.{Memory}
-use Rattle.lq_diff.specs.Stops.{StopsBy}
+use Rattle.lq_diff.specs.Stops.{PastBy}
 use Rattle.lq_simplex.specs.Table as table
 use Rattle.lq_case.specs.RowState.{MayStop}
 use Rattle.lq_case.proofs.Evidence.{push_apart, take_apart, contradiction_more, stops_more, stops_either}
@@ -52,23 +52,21 @@ kept_odd stored new odd more d s k h o is more_is = subst (λ l. IsKept l more d
   apart = subst AreApart (sym (tagged-push stored s)) (push_apart (tagged_rows stored) s.tag s.row k.apart h.fresh);
   marked = push_marked stored s k.marked h.marked (h.before ∙ ap length k.places);
   places = more_is ∙ ap (λ l. l ++ length stored ∷ []) k.places ∙ sym (odd-odd stored s o);
-  most = k.most;
   standing = k.standing ∙ sym (differences-odd stored s o);
   going = k.going;
 })
 
 pub kept_even : (stored new : List StoredRow) (odd : List ℕ) (d e : diff.Table) (s : StoredRow) → IsKept stored odd d → IsNew stored odd d.terms s → s.odd ≡ false
-    → new ≡ stored ++ s ∷ [] → diff.table_limits e ≡ diff.table_limits d → diff.table_rows e ≡ diff.table_rows d ++ (s.tag, s.row) ∷ [] → diff.table_last e ≢ Stopped
+    → new ≡ stored ++ s ∷ [] → e.terms ≡ d.terms → diff.table_rows e ≡ diff.table_rows d ++ (s.tag, s.row) ∷ [] → diff.table_last e ≢ Stopped
     → IsKept new odd e
-kept_even stored new odd d e s k h o is limits rows going =
-    let terms : d.terms ≡ e.terms = cc in
+kept_even stored new odd d e s k h o is same rows going =
+    let terms : d.terms ≡ e.terms = sym same in
     subst (λ l. IsKept l odd e) (sym is) (record {
       below = subst (λ n. AllBelow n (tagged_rows (stored ++ s ∷ []))) terms
           (subst (AllBelow d.terms) (sym (tagged-push stored s)) (push_below d.terms (tagged_rows stored) s.tag s.row k.below h.below));
       apart = subst AreApart (sym (tagged-push stored s)) (push_apart (tagged_rows stored) s.tag s.row k.apart h.fresh);
       marked = push_marked stored s k.marked h.marked (h.before ∙ ap length k.places);
       places = k.places ∙ sym (odd-even stored s o);
-      most = let m : e.rows ≡ d.rows = cc in m ∙ k.most;
       standing = rows ∙ ap (λ l. l ++ (s.tag, s.row) ∷ []) k.standing ∙ sym (differences-even stored s o);
       going = going;
     })
@@ -98,7 +96,6 @@ kept_first stored new odd less d e count s k at within is less_is limits rows go
       apart = subst AreApart (sym (tagged-take count stored)) (take_apart (tagged_rows stored) count k.apart);
       marked = take_marked 0 stored count k.marked;
       places = less_is ∙ ap (λ j. take j odd) n.1 ∙ ap (take (length (odd_from 0 (take count stored)))) k.places ∙ sym (odd-take 0 count stored);
-      most = let r : e.rows ≡ d.rows = cc in r ∙ k.most;
       standing = rows ∙ ap (λ j. take j (diff.table_rows d)) m ∙ ap (take (length (differences_in (take count stored)))) k.standing ∙ sym (differences-take count stored);
       going = going;
     })
@@ -123,7 +120,6 @@ kept_again stored odd d e k limits rows going =
       apart = k.apart;
       marked = k.marked;
       places = k.places;
-      most = let r : e.rows ≡ d.rows = cc in r ∙ k.most;
       standing = rows ∙ k.standing;
       going = going;
     }
@@ -138,7 +134,7 @@ pub kept_solves : (v : Valuation) (stored : List StoredRow) (odd : List ℕ) (d 
 kept_solves v stored odd d rows k e s h = solves_both v stored (subst (AllHoldAt v stored) k.places h) (subst (Solves v) (e ∙ k.standing) s)
 
 pub stops_distances : (pivots : ℕ) (stored : List StoredRow) (odd : List ℕ) (d : diff.Table) (stop : LinearStop) → IsKept stored odd d
-    → (stop ≡ Memory) ⊎ ((rows : List Row) → Unit {0} → StopsBy (diff.constants (diff.table_rows d)) stop) → MayStop pivots (tagged_rows stored) stop
+    → (stop ≡ Memory) ⊎ ((rows : List Row) → Unit {0} → PastBy (diff.constants (diff.table_rows d)) stop) → MayStop pivots (tagged_rows stored) stop
 stops_distances pivots stored odd d stop k h =
     let s = stops_more _ (diff.constants (tagged_rows stored)) stop (let m = constants_among stored in let e = ap diff.constants k.standing in omega arith) (stops_either _ stop h) in
     record { differences = λ all. s; any = inl s }

@@ -53,7 +53,6 @@ pub record IsKept (stored : List StoredRow) (odd : List ℕ) (distances : diff.T
   pub apart : AreApart (tagged_rows stored)
   pub marked : AreMarked 0 stored
   pub places : odd ≡ odd_from 0 stored
-  pub most : distances.rows ≡ 18446744073709551615
   pub standing : diff.table_rows distances ≡ differences_in stored
   pub going : diff.table_last distances ≢ Stopped
 

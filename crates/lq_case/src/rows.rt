@@ -68,7 +68,7 @@ impl LinearRows {
             pivots,
             rows: Vec::new(alloc),
             odd: Vec::new(alloc),
-            distances: DistanceTable::new(alloc, terms, u64::MAX)?,
+            distances: DistanceTable::new(alloc, terms, 0)?,
             tableau: None,
             found: Found::Nothing,
         })

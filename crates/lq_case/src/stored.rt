@@ -1,8 +1,8 @@
 // The rows that stand, in their order.
-ghost use Rattle.std.specs.Prelude.{◌≡◌, ◌≢◌, ◌∷◌, [], ◌++◌, ◌≤◌, MatchBool, IsNone, IfOk, IfErr, IfSome, take, length, OnErr, OnOk};
+ghost use Rattle.std.specs.Prelude.{◌≡◌, ◌≢◌, ◌∷◌, [], ◌++◌, ◌<◌, ◌≤◌, MatchBool, IsNone, IfOk, IfErr, IfSome, take, length, OnErr, OnOk};
 ghost use Rattle.lq_combine.specs.TreeView.{multiplier_items, multiplier_views};
 ghost use Rattle.lq_diff.specs.Stops.{StopsBy};
-ghost use Rattle.lq_diff.specs.Table.{IsDifference, TakesRow, TermsBelow, constants, table_last, table_limits, table_rows};
+ghost use Rattle.lq_diff.specs.Table.{IsDifference, TermsBelow, constants, table_last, table_rows};
 ghost use Rattle.lq_linear.specs.Answers.{Stopped};
 ghost use Rattle.lq_linear.specs.Contradiction.{tagged, IsContradiction};
 ghost use Rattle.lq_case.specs.Stored.{IsKept, tagged_rows};
@@ -51,19 +51,24 @@ fn admit(
     row: &LinearRow,
     tag: u64,
 ) -> Result<Option<Multipliers>, LinearStop>
-    requires takes { TakesRow (table_limits distances.old) (table_rows distances.old) row.now }
+    requires difference { IsDifference row.now.parts }
+    requires below { TermsBelow distances.old.terms row.now.parts }
+    requires few { length (table_rows distances.old) < u64.MAX }
     requires fresh { IsNone (tagged (table_rows distances.old) tag) }
     requires going { table_last distances.old ≢ Stopped }
     ensures stands { OnOk result (table_rows distances.new ≡ table_rows distances.old ++ (tag, row.now)
         ∷ []) }
     ensures refused { OnErr result (table_rows distances.new ≡ table_rows distances.old) }
     ensures going { table_last distances.new ≢ Stopped }
-    ensures limits { table_limits distances.new ≡ table_limits distances.old }
+    ensures terms { distances.new.terms ≡ distances.old.terms }
     ensures clash { IfOk result (λ clash. IfSome clash (λ ms. IsContradiction (table_rows distances.new)
         (multiplier_views (multiplier_items ms)))) }
     ensures stop { IfErr result (StopsBy (constants (table_rows distances.old ++ (tag, row.now) ∷ []))) }
 {
     let mark = distances.mark();
+    let Ok(()) = distances.allow(mark.0 + 1) else {
+        return Err(LinearStop::Memory);
+    };
     match distances.assert_row(row, tag) {
         Ok(()) => {}
         Err(stop) => {

@@ -24,12 +24,12 @@ returns-then-stored-clause-stands c =
     stands_now c.args.rows.now.items c.push_reserved.new.self.items c.in-Ok.stored c.args.row.now c.args.tag c.in-Ok.ensures.row.0 c.in-Ok.ensures.row.1
     (c.push_reserved.ensures.items ∙ ap (λ l. l ++ c.in-Ok.stored ∷ []) c.reserve.ensures.items)
 
-pub admit-requires-clause-takes : goal.admit-requires-clause-takes
-admit-requires-clause-takes c = (
-  subst (λ b. MatchBool b (IsDifference c.args.row.now.parts → ⊥) (IsDifference c.args.row.now.parts)) c.if-stored.false c.in-Ok.ensures.kind,
-  c.requires.below,
-  (let e = ap length c.requires.kept.standing in let b = both_lengths 0 c.args.rows.now.items in let most = c.requires.kept.most in let v = c.args.rows.now.ok in omega arith),
-)
+pub admit-requires-clause-difference : goal.admit-requires-clause-difference
+admit-requires-clause-difference c =
+    subst (λ b. MatchBool b (IsDifference c.args.row.now.parts → ⊥) (IsDifference c.args.row.now.parts)) c.if-stored.false c.in-Ok.ensures.kind
+
+pub admit-requires-clause-few : goal.admit-requires-clause-few
+admit-requires-clause-few c = let e = ap length c.requires.kept.standing in let b = both_lengths 0 c.args.rows.now.items in let v = c.args.rows.now.ok in omega arith
 
 pub admit-requires-clause-fresh : goal.admit-requires-clause-fresh
 admit-requires-clause-fresh c =
@@ -47,7 +47,7 @@ returns-clause-kept c =
     kept_even c.args.rows.now.items c.push_reserved-2.new.self.items c.args.odd.now.items c.args.distances.now c.admit.new.distances c.in-Ok.stored c.requires.kept
     (new_row c.args.rows.now.items c.args.odd.now.items c.args.distances.now.terms c.in-Ok.stored c.args.row.now c.args.tag c.requires.below c.requires.fresh c.in-Ok.ensures.row.0 c.in-Ok.ensures.row.1
     c.in-Ok.ensures.kind (c.in-Ok.ensures.row.2 ∙ c.len.ensures ∙ c.args.odd.now.ok.0))
-    c.if-stored.false (c.push_reserved-2.ensures.items ∙ ap (λ l. l ++ c.in-Ok.stored ∷ []) c.reserve.ensures.items) c.admit.ensures.limits
+    c.if-stored.false (c.push_reserved-2.ensures.items ∙ ap (λ l. l ++ c.in-Ok.stored ∷ []) c.reserve.ensures.items) c.admit.ensures.terms
     (c.in_ok-clash.ensures.stands ∙ ap₂ (λ t r. table_rows c.args.distances.now ++ (t, r) ∷ []) (sym c.in-Ok.ensures.row.1) (sym c.in-Ok.ensures.row.0)) c.admit.ensures.going
 
 pub returns-clause-stands : goal.returns-clause-stands
