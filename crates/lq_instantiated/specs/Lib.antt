@@ -1,0 +1,6 @@
+-- Definitions that the contracts cite.
+pub mod Matching
+pub mod General
+pub mod Uses
+pub mod Instances
+pub mod Visiting
