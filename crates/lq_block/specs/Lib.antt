@@ -1,0 +1,3 @@
+-- Normal trees: what they stand for.
+pub mod AtomView
+pub mod BlockView
