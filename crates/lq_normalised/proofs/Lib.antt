@@ -1,0 +1,5 @@
+-- Lemmas.
+pub mod Agreement
+pub mod Cells
+pub mod Parts
+pub mod PatternRows

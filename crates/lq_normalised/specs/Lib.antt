@@ -1,0 +1,4 @@
+-- The pass over a program.
+pub mod Forming
+pub mod Rules
+pub mod Views
