@@ -1,41 +1,58 @@
 -- The counts of a loop after one item more.
-use Rattle.std.proofs.Common.{◌≡◌, ℕ, ◌+◌, ◌-◌, ◌*◌, ◌^◌, ◌<◌, min, List, [], ◌∷◌, ◌++◌, map, take, length, slice_get, get_or, Bool, true, false, if◌then◌else◌, refl, sym, ap, subst, ◌∙◌, arith}
+use Rattle.std.proofs.Common.{◌≡◌, ℕ, ◌+◌, ◌-◌, ◌*◌, ◌^◌, ◌<◌, min, List, [], ◌∷◌, ◌++◌, map, take, length, slice_get, get_or, Bool, true, false, if◌then◌else◌, refl, sym, ap, subst, ◌∙◌, arith, ◌≤◌, Some, Option}
 use Rattle.std.specs.List.{zip}
-use Rattle.std.proofs.lemmas.List.{map-append}
+use Rattle.std.specs.Option.{option_map}
+use Rattle.std.proofs.lemmas.List.{map-append, length-map}
 use Rattle.lq_sorts.specs.Shapes as plain
 use Rattle.lq_sorts.specs.Shapes.{is_same}
 use Rattle.lq_sorted.specs.Sorted.{Qualifier}
 use Rattle.lq_sorted.specs.Views.{shape_view}
 use Rattle.lq_sorted.specs.declared.shape.Shape.{Shape}
-use Rattle.lq_instances.specs.Counting.{symbol_count, replaced_count, count_of, or_first}
+use Rattle.lq_instances.specs.Counting.{count_after, symbol_count, replaced_count, count_of, or_first}
 use Rattle.lq_instances.specs.Instances.{replacements, total_count, told}
-use Rattle.lq_instances.specs.Scopes.{Scope, grown, scope_in}
-use Rattle.lq_instances.specs.Seen.{added_view}
+use Rattle.lq_instances.specs.Scopes.{Visible, Scope, Added, symbols_of, grown, scope_in, shown, without, hidden_count, IsCounted, AreBelow, AreCounted}
+use Rattle.lq_instances.specs.Seen.{added_view, hidden_view, visible_view}
 use Rattle.lq_instances.specs.Views.{unknown_view}
 use Rattle.lq_instances.specs.declared.scopes.Addition.{Addition}
 use Rattle.lq_instances.specs.declared.unknowns.Unknown.{Unknown}
 use Rattle.lq_instances.proofs.Counts.{symbol_count-more, in-or_first, products-more, count_of-more, total_count-more}
-use Rattle.lq_instances.proofs.Tables.{grown-push, grown-starts}
+use Rattle.lq_instances.proofs.Hiding.{few-symbols}
+use Rattle.lq_instances.proofs.Tables.{grown-push, grown-starts, get-map, read-at, early-scope, length_take}
 use Rattle.lq_instances.proofs.Taking.{seen-more}
 use Rattle.lq_instances.proofs.Told.{told-plus}
 
-step-by : (A : List Addition) (i : ℕ) (d : Addition) (s : plain.Shape) (counts new : List ℕ) (more r : ℕ) → i < length A
-    → counts ≡ map (symbol_count s) (grown ([] ∷ []) (map added_view (take i A)))
-    → more ≡ (if is_same s (shape_view (get_or A i d).visible.shape) then 1 else 0)
-    → r ≡ min (or_first (slice_get counts (get_or A i d).parent) counts + more) (2 ^ 64 - 1) → new ≡ counts ++ r ∷ []
+-- the count of a scope after what it hides and what it adds
+after-is : (Γ : Scope) (h : Option Visible) (v : Visible) (s : plain.Shape) → IsCounted h Γ → length (symbols_of Γ s) ≤ 2 ^ 64 - 1
+    → count_after s (symbol_count s Γ) h v ≡ symbol_count s (without h Γ ++ v ∷ [])
+after-is Γ h v s counted few =
+    let c = counted s in
+    let n : symbol_count s Γ ≡ length (symbols_of Γ s) = omega arith in
+    let m : symbol_count s Γ - hidden_count s h ≡ symbol_count s (without h Γ) = omega arith in
+    ap (λ (k : ℕ). min (k + (if is_same s v.1 then 1 else 0)) (2 ^ 64 - 1)) m ∙ symbol_count-more (without h Γ) v s
+
+step-by : (A : List Addition) (i : ℕ) (d : Addition) (s : plain.Shape) (counts new : List ℕ) (r : ℕ) → i < length A → length A ≤ 2 ^ 64 - 1
+    → AreBelow (map added_view A) → AreCounted (map added_view A) → counts ≡ map (symbol_count s) (grown ([] ∷ []) (map added_view (take i A)))
+    → r ≡ count_after s (or_first (slice_get counts (get_or A i d).parent) counts) (hidden_view (get_or A i d).hidden) (visible_view (get_or A i d).visible) → new ≡ counts ++ r ∷ []
     → new ≡ map (symbol_count s) (grown ([] ∷ []) (map added_view (take (i + 1) A)))
-step-by A i d s counts new more r less inv one is pushed =
+step-by A i d s counts new r less small below counted inv is pushed =
     let x : Addition = get_or A i d in
+    let es : List Added = map added_view A in
     let G : List Scope = grown ([] ∷ []) (map added_view (take i A)) in
-    let next : Scope = scope_in G x.parent ++ (added_view x).visible ∷ [] in
+    let next : Scope = shown G (added_view x) in
     let starts = grown-starts [] [] (map added_view (take i A)) in
     let before : or_first (slice_get counts x.parent) counts ≡ symbol_count s (scope_in G x.parent) =
     ap (λ (l : List ℕ). or_first (slice_get l x.parent) l) (inv ∙ ap (map (symbol_count s)) starts.1) ∙ in-or_first (symbol_count s) starts.0 x.parent
     ∙ ap (λ (l : List Scope). symbol_count s (scope_in l x.parent)) (sym starts.1)
     in
+    let at : slice_get es i ≡ Some (added_view x) = get-map added_view A i ∙ ap (option_map added_view) (read-at A i d less) in
+    let early : scope_in (grown ([] ∷ []) es) x.parent ≡ scope_in G x.parent = early-scope added_view A i x.parent less (below i (added_view x) at) in
+    let there : IsCounted (hidden_view x.hidden) (scope_in G x.parent) = subst (IsCounted (hidden_view x.hidden)) early (counted i (added_view x) at) in
+    let few = few-symbols (map added_view (take i A)) x.parent s in
+    let m = length-map (take i A) added_view in
+    let l = length_take A i less in
     let value : r ≡ symbol_count s next =
-    is ∙ ap (λ (n : ℕ). min (n + more) (2 ^ 64 - 1)) before ∙ ap (λ (n : ℕ). min (symbol_count s (scope_in G x.parent) + n) (2 ^ 64 - 1)) one
-    ∙ symbol_count-more (scope_in G x.parent) (added_view x).visible s
+    is ∙ ap (λ (n : ℕ). count_after s n (hidden_view x.hidden) (visible_view x.visible)) before
+    ∙ after-is (scope_in G x.parent) (hidden_view x.hidden) (visible_view x.visible) s there (omega arith)
     in
     let grows : grown ([] ∷ []) (map added_view (take (i + 1) A)) ≡ G ++ next ∷ [] =
     ap (grown ([] ∷ [])) (seen-more added_view A i x d less refl) ∙ grown-push ([] ∷ []) (map added_view (take i A)) (added_view x)
@@ -44,14 +61,13 @@ step-by A i d s counts new more r less inv one is pushed =
     ∙ sym (ap (map (symbol_count s)) grows ∙ map-append (symbol_count s) G (next ∷ []))
 
 -- the same where the list is lent
-pub symbols-step : (A B : List Addition) (i : ℕ) (d : Addition) (s : plain.Shape) (counts new : List ℕ) (more r : ℕ) → B ≡ A → i < length B
-    → counts ≡ map (symbol_count s) (grown ([] ∷ []) (map added_view (take i A)))
-    → more ≡ (if is_same s (shape_view (get_or B i d).visible.shape) then 1 else 0)
-    → r ≡ min (or_first (slice_get counts (get_or B i d).parent) counts + more) (2 ^ 64 - 1) → new ≡ counts ++ r ∷ []
+pub symbols-step : (A B : List Addition) (i : ℕ) (d : Addition) (s : plain.Shape) (counts new : List ℕ) (r : ℕ) → B ≡ A → i < length B → length A ≤ 2 ^ 64 - 1
+    → AreBelow (map added_view A) → AreCounted (map added_view A) → counts ≡ map (symbol_count s) (grown ([] ∷ []) (map added_view (take i A)))
+    → r ≡ count_after s (or_first (slice_get counts (get_or B i d).parent) counts) (hidden_view (get_or B i d).hidden) (visible_view (get_or B i d).visible) → new ≡ counts ++ r ∷ []
     → new ≡ map (symbol_count s) (grown ([] ∷ []) (map added_view (take (i + 1) A)))
-symbols-step A B i d s counts new more r lent less inv one is pushed =
-    step-by B i d s counts new more r less (inv ∙ ap (λ (l : List Addition). map (symbol_count s) (grown ([] ∷ []) (map added_view (take i l)))) (sym lent)) one is pushed
-    ∙ ap (λ (l : List Addition). map (symbol_count s) (grown ([] ∷ []) (map added_view (take (i + 1) l)))) lent
+symbols-step A B i d s counts new r lent less small below counted inv is pushed =
+    step-by A i d s counts new r (subst (λ (l : List Addition). i < length l) lent less) small below counted inv
+    (is ∙ ap (λ (l : List Addition). count_after s (or_first (slice_get counts (get_or l i d).parent) counts) (hidden_view (get_or l i d).hidden) (visible_view (get_or l i d).visible)) lent) pushed
 
 pub products-step : (P : List Shape) (i : ℕ) (d : Shape) (all : List Scope) (counts symbols new : List ℕ) → i < length P
     → counts ≡ map (replaced_count (map shape_view (take i P))) all → symbols ≡ map (symbol_count (shape_view (get_or P i d))) all
@@ -106,7 +122,7 @@ ones-step A B i d counts new lent less inv pushed =
     let long : i < length A = subst (λ (l : List Addition). i < length l) lent less in
     let x : Addition = get_or A i d in
     let G : List Scope = grown ([] ∷ []) (map added_view (take i A)) in
-    let next : Scope = scope_in G x.parent ++ (added_view x).visible ∷ [] in
+    let next : Scope = shown G (added_view x) in
     let grows : grown ([] ∷ []) (map added_view (take (i + 1) A)) ≡ G ++ next ∷ [] =
     ap (grown ([] ∷ [])) (seen-more added_view A i x d long refl) ∙ grown-push ([] ∷ []) (map added_view (take i A)) (added_view x)
     in

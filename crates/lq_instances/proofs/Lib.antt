@@ -4,6 +4,9 @@ pub mod Replaced
 pub mod Counts
 pub mod Keeping
 pub mod Taking
+pub mod Hiding
+pub mod Walking
+pub mod Shaping
 pub mod CountSteps
 pub mod ReplacedSteps
 pub mod KeptSteps

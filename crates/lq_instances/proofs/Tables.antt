@@ -1,19 +1,19 @@
 -- Scopes that grow.
-use Rattle.std.proofs.Common.{◌≡◌, ℕ, zero, suc, ◌+◌, ◌<◌, ◌≤◌, length, List, [], ◌∷◌, ◌++◌, map, slice_get, get_or, Some, None, Bool, true, false, if◌then◌else◌, ◌⊎◌, inl, inr, refl, sym, ap, subst, ◌∙◌, arith}
-use Rattle.std.proofs.lemmas.List.{length-append, map-append}
+use Rattle.std.proofs.Common.{◌≡◌, ℕ, zero, suc, ◌+◌, ◌<◌, ◌≤◌, length, take, drop, List, [], ◌∷◌, ◌++◌, map, slice_get, get_or, Some, None, Bool, true, false, if◌then◌else◌, ◌⊎◌, inl, inr, refl, sym, ap, subst, ◌∙◌, arith}
+use Rattle.std.proofs.lemmas.List.{length-append, length-map, map-append}
 use Rattle.std.specs.Option.{option_map}
-use Rattle.lq_instances.specs.Scopes.{Scope, Added, scope_in, grown, AreBelow}
+use Rattle.lq_instances.specs.Scopes.{Scope, Added, scope_in, without, shown, grown, AreBelow}
 
 pub length-grown : (all : List Scope) (es : List Added) → length (grown all es) ≡ length all + length es
 length-grown all [] = omega arith
 length-grown all (e ∷ es) =
-    let new = scope_in all e.parent ++ e.visible ∷ [] in
+    let new = shown all e in
     let h = length-grown (all ++ new ∷ []) es in
     let k = length-append all (new ∷ []) in omega arith
 
-pub grown-push : (all : List Scope) (es : List Added) (e : Added) → grown all (es ++ e ∷ []) ≡ grown all es ++ (scope_in (grown all es) e.parent ++ e.visible ∷ []) ∷ []
+pub grown-push : (all : List Scope) (es : List Added) (e : Added) → grown all (es ++ e ∷ []) ≡ grown all es ++ shown (grown all es) e ∷ []
 grown-push all [] e = refl
-grown-push all (x ∷ es) e = grown-push (all ++ (scope_in all x.parent ++ x.visible ∷ []) ∷ []) es e
+grown-push all (x ∷ es) e = grown-push (all ++ shown all x ∷ []) es e
 
 in-append : (xs ys : List Scope) (i : ℕ) → i < length xs → scope_in (xs ++ ys) i ≡ scope_in xs i
 in-append [] ys i h = absurd (omega arith)
@@ -33,37 +33,37 @@ in-past (x ∷ xs) (suc i) h = in-past xs i (omega arith)
 pub grown-keeps : (all : List Scope) (es : List Added) (i : ℕ) → i < length all → scope_in (grown all es) i ≡ scope_in all i
 grown-keeps all [] i h = refl
 grown-keeps all (e ∷ es) i h =
-    let new = scope_in all e.parent ++ e.visible ∷ [] in
+    let new = shown all e in
     let k = length-append all (new ∷ []) in grown-keeps (all ++ new ∷ []) es i (omega arith) ∙ in-append all (new ∷ []) i h
 
 -- the first scope stays the first
 pub grown-starts : (x : Scope) (all : List Scope) (es : List Added) → (rest : List Scope) × (grown (x ∷ all) es ≡ x ∷ rest)
 grown-starts x all [] = (all, refl)
-grown-starts x all (e ∷ es) = grown-starts x (all ++ (scope_in (x ∷ all) e.parent ++ e.visible ∷ []) ∷ []) es
+grown-starts x all (e ∷ es) = grown-starts x (all ++ shown (x ∷ all) e ∷ []) es
 
 -- a scope shows what its parent shows, and its own symbol
 pub grown-entry : (es : List Added) (all : List Scope) (k : ℕ) (e : Added) → slice_get es k ≡ Some e → e.parent < length all + k
-    → scope_in (grown all es) (length all + k) ≡ scope_in (grown all es) e.parent ++ e.visible ∷ []
+    → scope_in (grown all es) (length all + k) ≡ shown (grown all es) e
 grown-entry [] all k e h b = absurd (cc)
 grown-entry (x ∷ es) all zero e h b =
     let same : x ≡ e = cc in
-    let new = scope_in all x.parent ++ x.visible ∷ [] in
+    let new = shown all x in
     let next = all ++ new ∷ [] in
     let n = length-append all (new ∷ []) in
     let p : x.parent < length all = subst (λ y. y.parent < length all) (sym same) (omega arith) in
     let i : length all + 0 ≡ length all = omega arith in
     let here : scope_in (grown next es) (length all) ≡ new = grown-keeps next es (length all) (omega arith) ∙ in-last all new in
     let there : scope_in (grown next es) x.parent ≡ scope_in all x.parent = grown-keeps next es x.parent (omega arith) ∙ in-append all (new ∷ []) x.parent p in
-    subst (λ y. scope_in (grown next es) (length all + 0) ≡ scope_in (grown next es) y.parent ++ y.visible ∷ []) same
-    (ap (scope_in (grown next es)) i ∙ here ∙ ap (λ l. l ++ x.visible ∷ []) (sym there))
+    subst (λ y. scope_in (grown next es) (length all + 0) ≡ shown (grown next es) y) same
+    (ap (scope_in (grown next es)) i ∙ here ∙ ap (λ (l : Scope). without x.hidden l ++ x.visible ∷ []) (sym there))
 grown-entry (x ∷ es) all (suc k) e h b =
-    let new = scope_in all x.parent ++ x.visible ∷ [] in
+    let new = shown all x in
     let next = all ++ new ∷ [] in
     let n : length next ≡ length all + 1 = length-append all (new ∷ []) in
     let i : length all + suc k ≡ length next + k = omega arith in
     ap (scope_in (grown next es)) i ∙ grown-entry es next k e h (omega arith)
 
-one_more : (es : List Added) (e x : Added) (k : ℕ) → slice_get (es ++ e ∷ []) k ≡ Some x → (slice_get es k ≡ Some x) ⊎ ((k ≡ length es) × (e ≡ x))
+pub one_more : (es : List Added) (e x : Added) (k : ℕ) → slice_get (es ++ e ∷ []) k ≡ Some x → (slice_get es k ≡ Some x) ⊎ ((k ≡ length es) × (e ≡ x))
 one_more [] e x zero h = inr (refl, cc)
 one_more [] e x (suc k) h = absurd (cc)
 one_more (y ∷ es) e x zero h = inl h
@@ -101,3 +101,32 @@ pub read-at : {A : Type 0} (xs : List A) (i : ℕ) (d : A) → i < length xs →
 read-at [] i d h = absurd (omega arith)
 read-at (x ∷ xs) zero d h = refl
 read-at (x ∷ xs) (suc i) d h = read-at xs i d (omega arith)
+
+pub grown-append : (all : List Scope) (xs ys : List Added) → grown all (xs ++ ys) ≡ grown (grown all xs) ys
+grown-append all [] ys = refl
+grown-append all (x ∷ xs) ys = grown-append (all ++ shown all x ∷ []) xs ys
+
+-- a scope of a table is there as soon as it was added
+pub grown-early : (all : List Scope) (xs ys : List Added) (i : ℕ) → i < length all + length xs → scope_in (grown all (xs ++ ys)) i ≡ scope_in (grown all xs) i
+grown-early all xs ys i h =
+    let k = length-grown all xs in ap (λ (l : List Scope). scope_in l i) (grown-append all xs ys) ∙ grown-keeps (grown all xs) ys i (omega arith)
+
+pub length_take : {A : Type 0} (xs : List A) (i : ℕ) → i < length xs → length (take i xs) ≡ i
+length_take [] i h = absurd (omega arith)
+length_take (x ∷ xs) zero h = refl
+length_take (x ∷ xs) (suc i) h = ap suc (length_take xs i (omega arith))
+
+halves : {A : Type 0} (xs : List A) (i : ℕ) → xs ≡ take i xs ++ drop i xs
+halves [] zero = refl
+halves [] (suc i) = refl
+halves (x ∷ xs) zero = refl
+halves (x ∷ xs) (suc i) = ap (λ l. x ∷ l) (halves xs i)
+
+-- a scope of a table is there as soon as it was added, where the table is seen
+pub early-scope : {A : Type 0} (view : A → Added) (xs : List A) (i p : ℕ) → i < length xs → p ≤ i
+    → scope_in (grown ([] ∷ []) (map view xs)) p ≡ scope_in (grown ([] ∷ []) (map view (take i xs))) p
+early-scope {A} view xs i p less early =
+    let m = length-map (take i xs) view in
+    let l = length_take xs i less in
+    ap (λ (l : List Added). scope_in (grown ([] ∷ []) l) p) (ap (map view) (halves xs i) ∙ map-append view (take i xs) (drop i xs))
+    ∙ grown-early ([] ∷ []) (map view (take i xs)) (map view (drop i xs)) p (omega arith)

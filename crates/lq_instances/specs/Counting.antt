@@ -1,13 +1,17 @@
 -- Counts of replacements, as they are told.
-use Rattle.std.specs.Prelude.{ℕ, ◌+◌, List, [], ◌∷◌, length, Option, Some, None, if◌then◌else◌}
+use Rattle.std.specs.Prelude.{ℕ, ◌+◌, ◌-◌, ◌^◌, min, List, [], ◌∷◌, length, Option, Some, None, if◌then◌else◌}
 use Rattle.lq_sorts.specs.Shapes.{Shape, is_same}
 use Rattle.lq_sorted.specs.Sorted.{Qualifier}
-use Rattle.lq_instances.specs.Scopes.{Scope, symbols_of}
+use Rattle.lq_instances.specs.Scopes.{Visible, Scope, symbols_of, hidden_count}
 use Rattle.lq_instances.specs.Instances.{replacements, told}
 
 -- how many symbols of a shape there are
 abbrev pub symbol_count : Shape → Scope → ℕ
 symbol_count s Γ = told (length (symbols_of Γ s))
+
+-- how many there are after some were hidden and one was added, where there were so many
+abbrev pub count_after : Shape → ℕ → Option Visible → Visible → ℕ
+count_after s n h v = min ((n - hidden_count s h) + (if is_same s v.1 then 1 else 0)) (2 ^ 64 - 1)
 
 -- how many replacements of placeholders of these shapes there are
 abbrev pub replaced_count : List Shape → Scope → ℕ

@@ -9,3 +9,5 @@ pub mod Views
 pub mod Replacing
 pub mod Counting
 pub mod Kept
+pub mod Listed
+pub mod Shaped

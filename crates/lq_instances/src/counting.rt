@@ -1,12 +1,15 @@
 // How many replacements of placeholders there are. Nothing is made for it but numbers, one for each scope.
-ghost use Rattle.std.specs.Prelude.{◌≡◌, ◌*◌, map, slice_get, zip, IfOk};
+ghost use Rattle.std.specs.Prelude.{◌≡◌, ◌*◌, map, slice_get, zip, IfOk, if◌then◌else◌};
+ghost use Rattle.lq_sorts.specs.Shapes.{is_same};
 ghost use Rattle.lq_sorted.specs.Views.{qualifier_view, shape_view};
-ghost use Rattle.lq_instances.specs.Counting.{count_of, or_first, replaced_count, symbol_count};
+ghost use Rattle.lq_instances.specs.Counting.{count_after, count_of, or_first, replaced_count, symbol_count};
 ghost use Rattle.lq_instances.specs.Instances.{told, total_count};
+ghost use Rattle.lq_instances.specs.Scopes.{hidden_count};
+ghost use Rattle.lq_instances.specs.Seen.{hidden_view, visible_view};
 ghost use Rattle.lq_instances.specs.Views.{scopes_view, unknowns_view};
 
-use crate::scope::is_same;
-use crate::scopes::Scopes;
+use crate::scope::{Visible, is_same};
+use crate::scopes::{Addition, Scopes};
 use crate::unknowns::Unknowns;
 use lq_sorted::{ScopedQualifier, Shape};
 use std::alloc::{AllocError, Global};
@@ -24,6 +27,33 @@ fn count_at(counts: &[u64], scope: u64) -> u64
     }
 }
 
+// One where the shapes are one.
+fn one_if_same(first: Shape, second: Shape) -> u64
+    ensures { result ≡ (if is_same (shape_view first) (shape_view second) then 1 else 0) }
+{
+    if is_same(first, second) { 1 } else { 0 }
+}
+
+// How many symbols of a shape are hidden.
+fn hidden_count(shape: Shape, hidden: Option<Visible>) -> u64
+    ensures { result ≡ hidden_count (shape_view shape) (hidden_view hidden) }
+{
+    match hidden {
+        Some(visible) => one_if_same(shape, visible.shape),
+        None => 0,
+    }
+}
+
+// How many symbols of a shape a scope has, where its parent has so many.
+fn count_after(shape: Shape, before: u64, addition: Addition) -> u64
+    ensures { result ≡ count_after (shape_view shape) before (hidden_view addition.hidden)
+        (visible_view addition.visible) }
+{
+    before
+        .saturating_sub(hidden_count(shape, addition.hidden))
+        .saturating_add(one_if_same(shape, addition.visible.shape))
+}
+
 // How many symbols of a shape there are in each scope.
 fn symbol_counts(alloc: Global, scopes: &Scopes, shape: Shape) -> Result<Vec<u64>, AllocError>
     ensures { IfOk result (λ counts. counts.items
@@ -33,12 +63,7 @@ fn symbol_counts(alloc: Global, scopes: &Scopes, shape: Shape) -> Result<Vec<u64
     counts.push(0)?;
     for addition in &scopes.additions {
         let before = count_at(&counts, addition.parent);
-        let more: u64 = if is_same(shape, addition.visible.shape) {
-            1
-        } else {
-            0
-        };
-        counts.push(before.saturating_add(more))?;
+        counts.push(count_after(shape, before, *addition))?;
     }
     Ok(counts)
 }

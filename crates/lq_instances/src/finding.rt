@@ -1,10 +1,11 @@
 // The instances of scopes and shapes.
-ghost use Rattle.std.specs.Prelude.{◌≡◌, ◌<◌, ◌≤◌, ◌⊎◌, ◌∷◌, [], fold, map, IfOk, IfErr, OnOk};
+ghost use Rattle.lq_pred.specs.Formula.{Formula};
+ghost use Rattle.std.specs.Prelude.{List, ◌≡◌, ◌<◌, ◌≤◌, ◌⊎◌, ◌∷◌, [], fold, map, IfOk, IfErr, OnOk};
 ghost use Rattle.lq_sorted.specs.Views.{qualifier_view, shape_view};
 ghost use Rattle.lq_instances.specs.Instances.{all_instances_of, instances_of, made_of, of_shape, replacement_count, told, total_count};
 ghost use Rattle.lq_instances.specs.Kept.{kept};
 ghost use Rattle.lq_instances.specs.Scopes.{scope_in};
-ghost use Rattle.lq_instances.specs.Seen.{visible_view};
+ghost use Rattle.lq_instances.specs.Shaped.{AreListed};
 ghost use Rattle.lq_instances.specs.Views.{instances_view, list_view, measure_name, scope_view, scopes_view, unknowns_view};
 ghost use Rattle.std.specs.List.{flat_map};
 ghost use Rattle.lq_instances.specs.declared.finding.QualError.TheVariants.{Memory, InstancesPast};
@@ -13,8 +14,9 @@ use crate::counting::total_count;
 use crate::lists::{InstanceList, Instances};
 use crate::made::instance_for;
 use crate::replacing::replacements;
-use crate::scope::{Scope, Visible, is_same};
+use crate::scope::{Scope, is_same};
 use crate::scopes::Scopes;
+use crate::symbols::{SymbolLists, lists_at, nearer, no_symbols};
 use crate::unknowns::{Unknown, Unknowns};
 use lq_sorted::{ScopedMeasure, ScopedQualifier, Shape};
 use std::alloc::{AllocError, Global};
@@ -46,16 +48,18 @@ fn add_instances(
     alloc: Global,
     measures: &[ScopedMeasure],
     qualifier: &ScopedQualifier,
-    scope: &[Visible],
+    scopes: &Scopes,
+    symbols: &SymbolLists,
     list: &mut InstanceList,
 ) -> Result<(), AllocError>
+    requires { AreListed (scope_in (scopes_view scopes.now) symbols.now.scope) symbols.now.lists.items }
     ensures { OnOk result (list_view list.new ≡ kept (list_view list.old)
-        (made_of (map measure_name measures.now) (map visible_view scope.now)
+        (made_of (map measure_name measures.now) (scope_in (scopes_view scopes.now) symbols.now.scope)
         (qualifier_view qualifier.now))) }
 {
-    let row = replacements(alloc, scope, &qualifier.placeholders)?;
-    for symbols in &row {
-        let instance = instance_for(alloc, measures, symbols, &qualifier.predicate)?;
+    let row = replacements(alloc, scopes, symbols, &qualifier.placeholders)?;
+    for replacement in &row {
+        let instance = instance_for(alloc, measures, replacement, &qualifier.predicate)?;
         list.add(instance)?;
     }
     Ok(())
@@ -66,16 +70,19 @@ fn list_of(
     alloc: Global,
     qualifiers: &[ScopedQualifier],
     measures: &[ScopedMeasure],
-    scope: &[Visible],
+    scopes: &Scopes,
+    symbols: &SymbolLists,
     shape: Shape,
 ) -> Result<InstanceList, AllocError>
+    requires { AreListed (scope_in (scopes_view scopes.now) symbols.now.scope) symbols.now.lists.items }
     ensures { IfOk result (λ list. list_view list ≡ instances_of (map measure_name measures.now)
-        (map qualifier_view qualifiers.now) (map visible_view scope.now) (shape_view shape)) }
+        (map qualifier_view qualifiers.now) (scope_in (scopes_view scopes.now) symbols.now.scope)
+        (shape_view shape)) }
 {
     let mut list = InstanceList::new(alloc);
     for qualifier in qualifiers {
         if is_same(shape, qualifier.shape) {
-            add_instances(alloc, measures, qualifier, scope, &mut list)?;
+            add_instances(alloc, measures, qualifier, scopes, symbols, &mut list)?;
         }
     }
     Ok(list)
@@ -91,10 +98,13 @@ fn lists_of(
     ensures { IfOk result (λ all. instances_view all ≡ all_instances_of (map measure_name measures.now)
         (map qualifier_view qualifiers.now) (unknowns_view unknowns.now)) }
 {
+    let scopes = &unknowns.scopes;
+    let mut known = no_symbols(alloc, qualifiers)?;
     let mut lists = Vec::new(alloc);
     for unknown in &unknowns.unknowns {
-        let scope = unknowns.scopes.visible(alloc, unknown.scope)?;
-        let list = list_of(alloc, qualifiers, measures, &scope, unknown.shape)?;
+        known = nearer(alloc, scopes, unknown.scope, known)?;
+        let symbols = lists_at(alloc, scopes, unknown.scope, &known)?;
+        let list = list_of(alloc, qualifiers, measures, scopes, &symbols, unknown.shape)?;
         lists.push(list)?;
     }
     Ok(Instances { lists })
@@ -152,6 +162,17 @@ fn alone(alloc: Global, scope: &Scope, shape: Shape) -> Result<Unknowns, AllocEr
     Ok(Unknowns { scopes, unknowns })
 }
 
+// The only list.
+fn only(alloc: Global, all: Instances) -> InstanceList
+    ensures { (list : List Formula) → instances_view all ≡ list ∷ [] → list_view result ≡ list }
+{
+    let mut lists = all.lists;
+    match lists.pop() {
+        Some(list) => list,
+        None => InstanceList::new(alloc),
+    }
+}
+
 /// The instances of one scope and shape.
 pub fn instances(
     alloc: Global,
@@ -170,5 +191,6 @@ pub fn instances(
 {
     let unknowns = alone(alloc, scope, shape)?;
     bounded(alloc, qualifiers, &unknowns)?;
-    Ok(list_of(alloc, qualifiers, measures, &scope.items, shape)?)
+    let all = lists_of(alloc, qualifiers, measures, &unknowns)?;
+    Ok(only(alloc, all))
 }

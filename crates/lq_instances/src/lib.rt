@@ -5,11 +5,13 @@
 mod counting;
 mod finding;
 mod instance;
+mod listing;
 mod lists;
 mod made;
 mod replacing;
 mod scope;
 mod scopes;
+mod symbols;
 mod unknowns;
 
 pub use finding::{QualError, all_instances, instances};

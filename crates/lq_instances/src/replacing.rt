@@ -2,27 +2,43 @@
 ghost use Rattle.std.specs.Prelude.{◌≡◌, ◌∷◌, [], ◌++◌, true, map, IfOk, OnOk};
 ghost use Rattle.lq_sorted.specs.Views.{shape_view};
 ghost use Rattle.lq_instances.specs.Instances.{replacements};
-ghost use Rattle.lq_instances.specs.Scopes.{symbols_of};
+ghost use Rattle.lq_instances.specs.Scopes.{Scope, scope_in, symbols_of};
 ghost use Rattle.lq_instances.specs.Replacing.{each_longer, is_empty, longer};
-ghost use Rattle.lq_instances.specs.Seen.{visible_view};
+ghost use Rattle.lq_instances.specs.Shaped.{AreListed};
+ghost use Rattle.lq_instances.specs.Views.{scopes_view};
 
-use crate::scope::{Visible, is_same};
+use crate::listing::listed;
+use crate::scope::Visible;
+use crate::scopes::Scopes;
+use crate::symbols::{SymbolLists, symbols_in};
 use lq_pred::Symbol;
 use lq_sorted::Shape;
 use std::alloc::{AllocError, Global};
 
-// The symbols of a shape.
-fn symbols_of(alloc: Global, scope: &[Visible], shape: Shape) -> Result<Vec<Symbol>, AllocError>
-    ensures { IfOk result (λ found. found.items
-        ≡ symbols_of (map visible_view scope.now) (shape_view shape)) }
+// The symbols themselves.
+fn names(alloc: Global, items: &[Visible]) -> Result<Vec<Symbol>, AllocError>
+    ensures { IfOk result (λ names. names.items ≡ map (λ v. v.symbol) items.now) }
 {
-    let mut found = Vec::new(alloc);
-    for visible in scope {
-        if is_same(shape, visible.shape) {
-            found.push(visible.symbol)?;
-        }
+    items.iter().map(|visible| visible.symbol).collect(alloc)
+}
+
+// The symbols of a shape.
+fn symbols_of(
+    alloc: Global,
+    scopes: &Scopes,
+    lists: &SymbolLists,
+    shape: Shape,
+) -> Result<Vec<Symbol>, AllocError>
+    requires { AreListed (scope_in (scopes_view scopes.now) lists.now.scope) lists.now.lists.items }
+    ensures { IfOk result (λ found. found.items
+        ≡ symbols_of (scope_in (scopes_view scopes.now) lists.now.scope) (shape_view shape)) }
+{
+    if let Some(items) = symbols_in(lists, shape) {
+        return names(alloc, items);
     }
-    Ok(found)
+    let nothing = Vec::new(alloc);
+    let items = listed(alloc, scopes, lists.scope, Some(shape), 0, &nothing)?;
+    names(alloc, &items)
 }
 
 // A list of symbols with each of some others behind it, in a row of lists.
@@ -60,25 +76,24 @@ fn each_longer(
     Ok(row)
 }
 
-// Whether no symbol has this shape.
-fn is_missing(scope: &[Visible], shape: Shape) -> bool
-    ensures { result ≡ is_empty (symbols_of (map visible_view scope.now) (shape_view shape)) }
+// Whether it is known that no symbol has this shape.
+fn is_missing(lists: &SymbolLists, shape: Shape) -> bool
+    ensures { (Γ : Scope) → AreListed Γ lists.now.lists.items → result ≡ true
+        → is_empty (symbols_of Γ (shape_view shape)) ≡ true }
 {
-    for visible in scope {
-        if is_same(shape, visible.shape) {
-            return false;
-        }
+    match symbols_in(lists, shape) {
+        Some(items) => items.is_empty(),
+        None => false,
     }
-    true
 }
 
-// Whether a placeholder has no symbol.
-fn lacks(scope: &[Visible], placeholders: &[Shape]) -> bool
-    ensures { result ≡ true
-        → replacements (map visible_view scope.now) (map shape_view placeholders.now) ≡ [] }
+// Whether it is known that a placeholder has no symbol.
+fn lacks(lists: &SymbolLists, placeholders: &[Shape]) -> bool
+    ensures { (Γ : Scope) → AreListed Γ lists.now.lists.items → result ≡ true
+        → replacements Γ (map shape_view placeholders.now) ≡ [] }
 {
     for shape in placeholders {
-        if is_missing(scope, *shape) {
+        if is_missing(lists, *shape) {
             return true;
         }
     }
@@ -88,19 +103,22 @@ fn lacks(scope: &[Visible], placeholders: &[Shape]) -> bool
 /// All lists of symbols for placeholders of these shapes, the first symbol varying slowest. In memory linear in these.
 pub(crate) fn replacements(
     alloc: Global,
-    scope: &[Visible],
+    scopes: &Scopes,
+    lists: &SymbolLists,
     placeholders: &[Shape],
 ) -> Result<Vec<Vec<Symbol>>, AllocError>
+    requires { AreListed (scope_in (scopes_view scopes.now) lists.now.scope) lists.now.lists.items }
     ensures { IfOk result (λ row. map (λ l. l.items) row.items
-        ≡ replacements (map visible_view scope.now) (map shape_view placeholders.now)) }
+        ≡ replacements (scope_in (scopes_view scopes.now) lists.now.scope)
+        (map shape_view placeholders.now)) }
 {
     let mut row = Vec::new(alloc);
-    if lacks(scope, placeholders) {
+    if lacks(lists, placeholders) {
         return Ok(row);
     }
     row.push(Vec::new(alloc))?;
     for shape in placeholders {
-        let symbols = symbols_of(alloc, scope, *shape)?;
+        let symbols = symbols_of(alloc, scopes, lists, *shape)?;
         row = each_longer(alloc, &row, &symbols)?;
     }
     Ok(row)

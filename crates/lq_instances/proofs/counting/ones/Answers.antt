@@ -1,4 +1,4 @@
-use Rattle.std.proofs.Common.{◌≡◌}
+use Rattle.std.proofs.Common.{◌≡◌, None}
 use Rattle.lq_pred.specs.declared.symbol.Symbol.TheVariants.{Value}
 use Rattle.lq_sorted.specs.declared.shape.Shape.TheVariants.{Int}
 use Rattle.lq_instances.specs.declared.scopes.Addition.{Addition}
@@ -7,7 +7,7 @@ use Rattle.lq_instances.proofs.counting.ones.Goals as goal
 
 pub loop-addition-preserved : goal.loop-addition-preserved
 loop-addition-preserved c =
-    let none : Addition = record { parent = 0; visible = record { symbol = Value; shape = Int } } in
+    let none : Addition = record { parent = 0; visible = record { symbol = Value; shape = Int }; hidden = None } in
     let A = c.deref-addition-items.result.now in
     let lent : A ≡ c.args.scopes.now.additions.items = c.deref-addition-items.ensures.value in
     ones-step c.args.scopes.now.additions.items A c.loop-addition._addition-index none c.loop-addition.counts.items c.push-in-loop-addition.new.self.items lent

@@ -5,6 +5,6 @@ use Rattle.lq_instances.specs.Made.{instance_by}
 use Rattle.lq_instances.specs.Views.{list_view, measure_name}
 use Rattle.lq_instances.proofs.finding.add_instances.Given as goal
 
-abbrev pub invariant-loop-symbols : goal.invariant-loop-symbols
-invariant-loop-symbols l =
-    list_view l.list ≡ kept (list_view l.initial.list) (map (λ v. instance_by (map measure_name l.measures) v.items (predicate_view l.qualifier.predicate)) (take l.symbols-index l.symbols-items))
+abbrev pub invariant-loop-replacement : goal.invariant-loop-replacement
+invariant-loop-replacement l =
+    list_view l.list ≡ kept (list_view l.initial.list) (map (λ v. instance_by (map measure_name l.measures) v.items (predicate_view l.qualifier.predicate)) (take l.replacement-index l.replacement-items))

@@ -6,8 +6,8 @@ use Rattle.lq_sorted.specs.Views.{qualifier_view, shape_view}
 use Rattle.lq_sorted.specs.declared.sorted.ScopedQualifier.{ScopedQualifier}
 use Rattle.lq_instances.specs.Instances.{made_of, of_shape}
 use Rattle.lq_instances.specs.Kept.{kept}
-use Rattle.lq_instances.specs.Seen.{visible_view}
-use Rattle.lq_instances.specs.Views.{list_view, measure_name}
+use Rattle.lq_instances.specs.Scopes.{scope_in}
+use Rattle.lq_instances.specs.Views.{list_view, measure_name, scopes_view}
 use Rattle.lq_instances.proofs.Keeping.{kept-firsts}
 use Rattle.lq_instances.proofs.KeptSteps.{list-step}
 use Rattle.lq_instances.proofs.Taking.{seen-more}
@@ -17,7 +17,7 @@ use Rattle.lq_instances.proofs.finding.list_of.Goals.{then-is_same+in_ok-add_ins
 pub loop-qualifier-preserved : goal.loop-qualifier-preserved
 loop-qualifier-preserved c =
     let ms = map measure_name c.args.measures.now in
-    let Γ = map visible_view c.args.scope.now in
+    let Γ = scope_in (scopes_view c.args.scopes.now) c.args.symbols.now.scope in
     let Q = c.args.qualifiers.now in
     let i = c.loop-qualifier.qualifier-index in
     let x = c.qualifier-item.result in
@@ -36,7 +36,7 @@ loop-qualifier-preserved c =
 pub returns : goal.returns
 returns c =
     let ms = map measure_name c.args.measures.now in
-    let Γ = map visible_view c.args.scope.now in
+    let Γ = scope_in (scopes_view c.args.scopes.now) c.args.symbols.now.scope in
     let s = shape_view c.args.shape in
     c.loop-qualifier.invariant
     ∙ ap (λ (l : List ScopedQualifier). kept [] (flat_map (made_of ms Γ) (of_shape (map qualifier_view l) s))) (take_all c.loop-qualifier.qualifier-index c.args.qualifiers.now c.loop-qualifier-test.false)

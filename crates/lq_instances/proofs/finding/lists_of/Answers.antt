@@ -1,15 +1,16 @@
-use Rattle.std.proofs.Common.{◌≡◌, ◌<◌, ◌≤◌, List, length, map, take, get_or, sym, ap, subst, ◌∙◌}
+use Rattle.std.proofs.Common.{◌≡◌, ℕ, ◌<◌, ◌≤◌, List, length, map, take, get_or, [], ◌∷◌, sym, ap, subst, ◌∙◌, arith}
 use Rattle.std.proofs.lemmas.List.{take_all}
 use Rattle.lq_sorts.specs.Shapes as plain
 use Rattle.lq_sorted.specs.Views.{qualifier_view, shape_view}
 use Rattle.lq_sorted.specs.declared.shape.Shape.TheVariants.{Int}
 use Rattle.lq_instances.specs.Instances.{instances_of, all_instances_of}
 use Rattle.lq_instances.specs.Scopes.{Scope, scope_in}
-use Rattle.lq_instances.specs.Seen.{visible_view}
+use Rattle.lq_instances.specs.Seen.{added_view}
+use Rattle.lq_instances.specs.Shaped.{AreListed}
 use Rattle.lq_instances.specs.Views.{list_view, measure_name, scopes_view, unknown_view}
-use Rattle.lq_instances.specs.declared.scope.Visible.{Visible}
 use Rattle.lq_instances.specs.declared.unknowns.Unknown.{Unknown}
 use Rattle.lq_instances.proofs.KeptSteps.{lists-step}
+use Rattle.lq_instances.proofs.Tables.{grown-keeps}
 use Rattle.lq_instances.proofs.Taking.{seen-more}
 use Rattle.lq_instances.proofs.finding.lists_of.Goals as goal
 
@@ -26,13 +27,23 @@ loop-unknown-preserved c =
     let lent : U ≡ V = c.deref-unknown-items.ensures.value in
     let long : i < length V = subst (λ (l : List Unknown). i < length l) lent c.loop-unknown-test.true in
     let is : list_view c.in_ok-list.list ≡ instances_of ms Q (scope_in all x.scope) (shape_view x.shape) =
-    c.in_ok-list.ensures ∙ ap (λ (l : List Visible). instances_of ms Q (map visible_view l) (shape_view x.shape)) c.deref.ensures.value
-    ∙ ap (λ (Γ : Scope). instances_of ms Q Γ (shape_view x.shape)) c.in_ok-scope.ensures
+    c.in_ok-list.ensures ∙ ap (λ (n : ℕ). instances_of ms Q (scope_in all n) (shape_view x.shape)) c.in_ok-symbols.ensures.scope
     in
-    ap (map list_view) c.in_ok-push.ensures.items
+    let made = ap (map list_view) c.in_ok-push.ensures.items
     ∙ lists-step list_view (λ (u : Scope × plain.Shape). instances_of ms Q u.0 u.1) c.loop-unknown.lists.items (map (unknown_view all) (take i V)) c.in_ok-list.list (unknown_view all x)
-    c.loop-unknown.invariant is
+    c.loop-unknown.invariant.made is
     ∙ ap (all_instances_of ms Q) (sym (seen-more (unknown_view all) V i x none long (ap (λ (l : List Unknown). get_or l i none) lent)))
+    in
+    record { made = made; known = c.in_ok-known-2.ensures }
+
+pub loop-unknown-init : goal.loop-unknown-init
+loop-unknown-init c =
+    let all = scopes_view c.args.unknowns.now.scopes in
+    let first : scope_in all 0 ≡ [] = grown-keeps ([] ∷ []) (map added_view c.args.unknowns.now.scopes.additions.items) 0 (omega arith) in
+    record {
+      made = ap (map list_view) c.new-lists.ensures.items;
+      known = subst (λ (Γ : Scope). AreListed Γ c.in_ok-known.known.lists.items) (sym (ap (scope_in all) c.in_ok-known.ensures.scope ∙ first)) c.in_ok-known.ensures.lists;
+    }
 
 pub returns : goal.returns
 returns c =
@@ -42,4 +53,4 @@ returns c =
     let V = c.args.unknowns.now.unknowns.items in
     let i = c.loop-unknown.unknown-index in
     let done : length V ≤ i = subst (λ (l : List Unknown). length l ≤ i) c.deref-unknown-items.ensures.value c.loop-unknown-test.false in
-    c.loop-unknown.invariant ∙ ap (λ (l : List Unknown). all_instances_of ms Q (map (unknown_view all) l)) (take_all i V done)
+    c.loop-unknown.invariant.made ∙ ap (λ (l : List Unknown). all_instances_of ms Q (map (unknown_view all) l)) (take_all i V done)

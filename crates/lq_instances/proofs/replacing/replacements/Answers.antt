@@ -2,7 +2,8 @@ use Rattle.std.proofs.Common.{◌≡◌, Vec, Global, List, map, ap, ◌∙◌}
 use Rattle.lq_pred.specs.declared.symbol.Symbol.{Symbol}
 use Rattle.lq_sorted.specs.declared.shape.Shape.TheVariants.{Int}
 use Rattle.lq_instances.specs.Replacing.{each_longer}
-use Rattle.lq_instances.specs.Seen.{visible_view}
+use Rattle.lq_instances.specs.Scopes.{scope_in}
+use Rattle.lq_instances.specs.Views.{scopes_view}
 use Rattle.lq_instances.proofs.ReplacedSteps.{replaced-step}
 use Rattle.lq_instances.proofs.replacing.replacements.Goals as goal
 
@@ -13,5 +14,5 @@ loop-shape-preserved c =
     c.in_ok-row.ensures ∙ ap (λ (l : List (Vec Symbol Global)). each_longer c.deref-in-loop-shape.result.now (map items l)) c.deref.ensures.value
     ∙ ap (λ (l : List Symbol). each_longer l (map items c.loop-shape.row.items)) c.deref-in-loop-shape.ensures.value
     in
-    replaced-step (map visible_view c.args.scope.now) c.args.placeholders.now c.loop-shape.shape-index Int (map items c.loop-shape.row.items) (map items c.in_ok-row.row.items)
+    replaced-step (scope_in (scopes_view c.args.scopes.now) c.args.lists.now.scope) c.args.placeholders.now c.loop-shape.shape-index Int (map items c.loop-shape.row.items) (map items c.in_ok-row.row.items)
     c.in_ok-symbols.symbols.items c.loop-shape-test.true c.loop-shape.invariant c.in_ok-symbols.ensures is

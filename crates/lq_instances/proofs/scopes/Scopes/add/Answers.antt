@@ -1,29 +1,15 @@
-use Rattle.std.proofs.Common.{◌≡◌, length, vec_len, map, [], ◌∷◌, arith, ◌∙◌, ap, is_ok}
-use Rattle.std.proofs.lemmas.List.{length-map, map-append}
-use Rattle.lq_instances.specs.Scopes.{grown}
-use Rattle.lq_instances.specs.Seen.{added_view}
-use Rattle.lq_instances.proofs.Tables.{length-grown, grown-push, below-pushed}
+use Rattle.std.proofs.Common.{◌≡◌, OnOk, [], ◌∷◌, ◌++◌, subst}
+use Rattle.lq_instances.specs.Scopes.{Scope, scope_in}
+use Rattle.lq_instances.specs.Seen.{visible_view}
+use Rattle.lq_instances.specs.Views.{scopes_view}
+use Rattle.lq_instances.proofs.Hiding.{none-counted, without-none}
 use Rattle.lq_instances.proofs.scopes.Scopes.add.Goals as goal
 
-pub invariant_of-self : goal.invariant_of-self
-invariant_of-self c =
-    let old = c.args.self.now.additions.items in
-    let m = length-map old added_view in
-    let k = length-grown ([] ∷ []) (map added_view old) in
-    let r = c.requires in
-    record { parents = below-pushed added_view (is_ok c.push.result) old c.push.new.self.items record { parent = c.args.parent; visible = c.args.visible } c.push.ensures.items c.args.self.now.parents (omega arith) }
+pub extend-requires-clause-counted : goal.extend-requires-clause-counted
+extend-requires-clause-counted c = none-counted (scope_in (scopes_view c.args.self.now) c.args.parent)
 
 pub returns-clause-added : goal.returns-clause-added
 returns-clause-added c =
-    let old = c.args.self.now.additions.items in
-    ap (λ l. grown ([] ∷ []) (map added_view l)) c.in_ok-push.ensures.items
-    ∙ ap (grown ([] ∷ [])) (map-append added_view old (record { parent = c.args.parent; visible = c.args.visible } ∷ []))
-    ∙ grown-push ([] ∷ []) (map added_view old) (added_view record { parent = c.args.parent; visible = c.args.visible })
-
-pub returns-clause-number : goal.returns-clause-number
-returns-clause-number c =
-    let items = c.args.self.now.additions.items in
-    let v : vec_len c.args.self.now.additions ≡ length items = c.args.self.now.additions.ok.0 in
-    let m = length-map items added_view in
-    let k = length-grown ([] ∷ []) (map added_view items) in
-    let n = c.len.ensures in omega arith
+    let old = scopes_view c.args.self.now in
+    subst (λ (Γ : Scope). OnOk c.extend.result (scopes_view c.extend.new.self ≡ old ++ (Γ ++ visible_view c.args.visible ∷ []) ∷ []))
+    (without-none (scope_in old c.args.parent)) c.extend.ensures.added

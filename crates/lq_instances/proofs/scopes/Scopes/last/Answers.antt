@@ -1,8 +1,8 @@
 use Rattle.std.proofs.Common.{◌≡◌, ℕ, zero, suc, ◌<◌, ◌+◌, ◌-◌, ◌++◌, map, List, [], ◌∷◌, Option, Some, None, slice_get, refl, arith, ◌∙◌, ap, sym, MatchOption, IfSome}
 use Rattle.std.specs.Option.{option_map}
 use Rattle.std.proofs.lemmas.List.{length-map}
-use Rattle.lq_instances.specs.Scopes.{scope_in, grown, AreBelow}
-use Rattle.lq_instances.specs.Seen.{added_view, visible_view}
+use Rattle.lq_instances.specs.Scopes.{scope_in, without, grown, AreBelow}
+use Rattle.lq_instances.specs.Seen.{added_view, hidden_view, visible_view}
 use Rattle.lq_instances.specs.Views.{scopes_view}
 use Rattle.lq_instances.specs.declared.scopes.Addition.{Addition}
 use Rattle.lq_instances.proofs.Tables.{length-grown, grown-keeps, grown-entry, get-map, in-past, get-none}
@@ -14,7 +14,7 @@ number-of (suc at) z = omega arith
 
 last-is : (items : List Addition) (at : ℕ) (r : Option Addition) → ¬ (at ≡ 0) → AreBelow (map added_view items) → r ≡ slice_get items (at - 1)
     → let all = grown ([] ∷ []) (map added_view items) in
-    MatchOption r (scope_in all at ≡ []) (λ a. scope_in all at ≡ scope_in all a.parent ++ visible_view a.visible ∷ []) × IfSome r (λ a. a.parent < at)
+    MatchOption r (scope_in all at ≡ []) (λ a. scope_in all at ≡ without (hidden_view a.hidden) (scope_in all a.parent) ++ visible_view a.visible ∷ []) × IfSome r (λ a. a.parent < at)
 last-is items at (Some a) z below is =
     let i : at ≡ 1 + (at - 1) = number-of at z in
     let g : slice_get (map added_view items) (at - 1) ≡ Some (added_view a) = get-map added_view items (at - 1) ∙ ap (option_map added_view) (sym is) in
