@@ -1,0 +1,3 @@
+-- The equations of measures: definitions.
+pub mod Facts
+pub mod Views
