@@ -1,5 +1,5 @@
 -- Symbols that are listed from the last to the first, when some of them are known to be hidden.
-use Rattle.std.specs.Prelude.{◌≡◌, List, [], ◌∷◌, ◌++◌, map, filter, not, Bool, true, false, Option, Some, None, if◌then◌else◌}
+use Rattle.std.specs.Prelude.{List, [], ◌∷◌, ◌++◌, filter, not, Bool, true, Option, Some, None, if◌then◌else◌}
 use Rattle.std.specs.List.{list_any}
 use Rattle.lq_pred.specs.Sum.{same_symbol}
 use Rattle.lq_pred.specs.declared.symbol.Symbol.{Symbol}

@@ -1,5 +1,5 @@
 -- What is visible at a place: symbols with their shapes, the outermost first. A table of scopes names parents, so that scopes share.
-use Rattle.std.specs.Prelude.{◌≡◌, ℕ, zero, suc, ◌+◌, ◌≤◌, List, [], ◌∷◌, ◌++◌, map, filter, length, slice_get, Option, Some, None, Bool, true, false, not, if◌then◌else◌}
+use Rattle.std.specs.Prelude.{◌≡◌, ℕ, zero, suc, ◌+◌, ◌≤◌, List, [], ◌∷◌, ◌++◌, map, filter, length, slice_get, Option, Some, None, Bool, false, not, if◌then◌else◌}
 use Rattle.lq_pred.specs.Sum.{same_symbol}
 use Rattle.lq_pred.specs.declared.symbol.Symbol.{Symbol}
 use Rattle.lq_sorts.specs.Shapes.{Shape, is_same}

@@ -1,6 +1,6 @@
 // The instances of scopes and shapes.
 ghost use Rattle.lq_pred.specs.Formula.{Formula};
-ghost use Rattle.std.specs.Prelude.{List, ◌≡◌, ◌<◌, ◌≤◌, ◌⊎◌, ◌∷◌, [], fold, map, IfOk, IfErr, OnOk};
+ghost use Rattle.std.specs.Prelude.{List, false, ◌≡◌, ◌<◌, ◌≤◌, ◌⊎◌, ◌∷◌, [], fold, map, IfOk, IfErr, OnOk};
 ghost use Rattle.lq_sorted.specs.Views.{qualifier_view, shape_view};
 ghost use Rattle.lq_instances.specs.Instances.{all_instances_of, instances_of, made_of, of_shape, replacement_count, told, total_count};
 ghost use Rattle.lq_instances.specs.Kept.{kept};
@@ -88,6 +88,40 @@ fn list_of(
     Ok(list)
 }
 
+// Whether a qualifier is of this shape.
+fn has_shape(qualifiers: &[ScopedQualifier], shape: Shape) -> bool
+    ensures { result ≡ false → of_shape (map qualifier_view qualifiers.now) (shape_view shape) ≡ [] }
+{
+    for qualifier in qualifiers {
+        if is_same(shape, qualifier.shape) {
+            return true;
+        }
+    }
+    false
+}
+
+// The instances of one scope of a table and one shape. Symbols are listed only where there are qualifiers of the shape.
+fn list_at(
+    alloc: Global,
+    qualifiers: &[ScopedQualifier],
+    measures: &[ScopedMeasure],
+    scopes: &Scopes,
+    unknown: Unknown,
+    known: &SymbolLists,
+) -> Result<InstanceList, AllocError>
+    requires { AreListed (scope_in (scopes_view scopes.now) known.now.scope) known.now.lists.items }
+    ensures { IfOk result (λ list. list_view list ≡ instances_of (map measure_name measures.now)
+        (map qualifier_view qualifiers.now) (scope_in (scopes_view scopes.now) unknown.scope)
+        (shape_view unknown.shape)) }
+{
+    if !has_shape(qualifiers, unknown.shape) {
+        return Ok(InstanceList::new(alloc));
+    }
+    let symbols = lists_at(alloc, scopes, unknown.scope, known)?;
+    let list = list_of(alloc, qualifiers, measures, scopes, &symbols, unknown.shape)?;
+    Ok(list)
+}
+
 // The instances of each unknown.
 fn lists_of(
     alloc: Global,
@@ -103,8 +137,7 @@ fn lists_of(
     let mut lists = Vec::new(alloc);
     for unknown in &unknowns.unknowns {
         known = nearer(alloc, scopes, unknown.scope, known)?;
-        let symbols = lists_at(alloc, scopes, unknown.scope, &known)?;
-        let list = list_of(alloc, qualifiers, measures, scopes, &symbols, unknown.shape)?;
+        let list = list_at(alloc, qualifiers, measures, scopes, *unknown, &known)?;
         lists.push(list)?;
     }
     Ok(Instances { lists })

@@ -1,4 +1,4 @@
-use Rattle.std.proofs.Common.{◌≡◌, ℕ, ◌<◌, ◌≤◌, List, length, map, take, get_or, [], ◌∷◌, sym, ap, subst, ◌∙◌, arith}
+use Rattle.std.proofs.Common.{◌≡◌, ◌<◌, ◌≤◌, List, length, map, take, get_or, [], ◌∷◌, sym, ap, subst, ◌∙◌, arith}
 use Rattle.std.proofs.lemmas.List.{take_all}
 use Rattle.lq_sorts.specs.Shapes as plain
 use Rattle.lq_sorted.specs.Views.{qualifier_view, shape_view}
@@ -27,7 +27,7 @@ loop-unknown-preserved c =
     let lent : U ≡ V = c.deref-unknown-items.ensures.value in
     let long : i < length V = subst (λ (l : List Unknown). i < length l) lent c.loop-unknown-test.true in
     let is : list_view c.in_ok-list.list ≡ instances_of ms Q (scope_in all x.scope) (shape_view x.shape) =
-    c.in_ok-list.ensures ∙ ap (λ (n : ℕ). instances_of ms Q (scope_in all n) (shape_view x.shape)) c.in_ok-symbols.ensures.scope
+    c.in_ok-list.ensures
     in
     let made = ap (map list_view) c.in_ok-push.ensures.items
     ∙ lists-step list_view (λ (u : Scope × plain.Shape). instances_of ms Q u.0 u.1) c.loop-unknown.lists.items (map (unknown_view all) (take i V)) c.in_ok-list.list (unknown_view all x)
