@@ -5,3 +5,14 @@ pub mod Longer
 pub mod Rows
 pub mod Sides
 pub mod Joining
+pub mod Equations
+pub mod Firsts
+pub mod Equated
+pub mod Told
+pub mod Plain
+pub mod Ways
+pub mod Holding
+pub mod Points
+pub mod Along
+pub mod Reading
+pub mod Settling

@@ -6,11 +6,15 @@ use Rattle.lq_case.proofs.Giving.{numbered_more}
 use Rattle.lq_combine.specs.Path.{Fact, row_fact, flag_fact, objects_fact, never}
 use Rattle.lq_combine.specs.Proves.{AreJoined, itself, onward, backward, Clashes, rows_clash, flags_clash, merges_clash, rows_from, rows_among}
 use Rattle.lq_combine.specs.Tree.{Clash}
+use Rattle.lq_diff.specs.Stops.{StopsBy}
+use Rattle.lq_diff.specs.Table.{constants}
 use Rattle.lq_linear.specs.Contradiction.{tagged}
 use Rattle.lq_linear.specs.Row.{Row}
+use Rattle.lq_linear.specs.declared.engine.LinearStop.{LinearStop}
 use Rattle.lq_pred.specs.Sum.{Sum}
 use Rattle.lq_decide.specs.Case.{fact_of}
 use Rattle.lq_decide.specs.declared.fact.Fact.{Fact as CodeFact}
+use Rattle.lq_decide.proofs.Equations.{fewer_constants, stops_at_more}
 use Rattle.lq_decide.proofs.Sides.{parted}
 
 found_more : (n : ℕ) (fs more : List Fact) (t : ℕ) (r : Row) → tagged (rows_from n fs) t ≡ Some r → tagged (rows_from n (fs ++ more)) t ≡ Some r
@@ -41,3 +45,13 @@ clash_of_first facts i front c e h =
     let p = parted (i + 1) facts in
     subst (λ l. Clashes l c) (sym (ap (map fact_of) p.1 ∙ map-append fact_of (take (i + 1) facts) p.0))
     (clash_more (map fact_of (take (i + 1) facts)) (map fact_of p.0) c (subst (λ l. Clashes l c) e h))
+
+-- a stop at the first facts is one at all
+pub stop_of_first : (facts : List CodeFact) (i : ℕ) (front : List Fact) (stop : LinearStop) → front ≡ map fact_of (take (i + 1) facts) → StopsBy (constants (rows_among front)) stop
+    → StopsBy (constants (rows_among (map fact_of facts))) stop
+stop_of_first facts i front stop e h =
+    let p = parted (i + 1) facts in
+    let whole : map fact_of facts ≡ map fact_of (take (i + 1) facts) ++ map fact_of p.0 = ap (map fact_of) p.1 ∙ map-append fact_of (take (i + 1) facts) p.0 in
+    subst (λ l. StopsBy (constants (rows_among l)) stop) (sym whole)
+    (stops_at_more (constants (rows_among (map fact_of (take (i + 1) facts)))) (constants (rows_among (map fact_of (take (i + 1) facts) ++ map fact_of p.0))) stop
+    (fewer_constants 1 (map fact_of (take (i + 1) facts)) (map fact_of p.0)) (subst (λ l. StopsBy (constants (rows_among l)) stop) e h))

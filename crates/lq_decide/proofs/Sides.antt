@@ -1,5 +1,5 @@
 -- Objects that are there, as more come.
-use Rattle.std.proofs.Common.{Result, Ok, Err, OnOk, ◌≡◌, ℕ, zero, suc, ◌+◌, ◌<◌, List, [], ◌∷◌, ◌++◌, Bool, true, false, Some, if◌then◌else◌, length, map, take, get_or, slice_get, refl, sym, ap, subst, ◌∙◌, arith}
+use Rattle.std.proofs.Common.{Result, Ok, Err, IfErr, OnOk, ◌≡◌, ℕ, zero, suc, ◌+◌, ◌<◌, List, [], ◌∷◌, ◌++◌, Bool, true, false, Some, if◌then◌else◌, length, map, take, get_or, slice_get, refl, sym, ap, subst, ◌∙◌, arith}
 use Rattle.std.proofs.lemmas.List.{map-append, take_more}
 use Rattle.lq_combine.specs.Path.{Fact, row_fact, flag_fact, objects_fact, never}
 use Rattle.lq_pred.specs.Numbering.{has_term-append, has_term-with_term}
@@ -42,7 +42,7 @@ argument_keeps old new (div a b) k h = tt
 argument_keeps old new (rem a b) k h = tt
 
 -- what holds of each item of a list holds of each where one is added
-push_each : {X : Type 0} (P : X → Type 0) (xs : List X) (x y : X) (k : ℕ) → ((j : ℕ) (z : X) → slice_get xs j ≡ Some z → P z) → P x → slice_get (xs ++ x ∷ []) k ≡ Some y → P y
+pub push_each : {X : Type 0} (P : X → Type 0) (xs : List X) (x y : X) (k : ℕ) → ((j : ℕ) (z : X) → slice_get xs j ≡ Some z → P z) → P x → slice_get (xs ++ x ∷ []) k ≡ Some y → P y
 push_each {X} P [] x y zero h p e = let w : x ≡ y = cc in subst P w p
 push_each {X} P [] x y (suc k) h p e = absurd (cc)
 push_each {X} P (z ∷ xs) x y zero h p e = h zero y e
@@ -79,3 +79,7 @@ parted {X} (suc n) (x ∷ xs) = let p = parted n xs in (p.0, ap (λ l. x ∷ l) 
 pub on_ok : {X E : Type 0} {P Q : Type 0} (r : Result X E) → (P → Q) → OnOk r P → OnOk r Q
 on_ok {X} {E} {P} {Q} (Ok x) f h = f h
 on_ok {X} {E} {P} {Q} (Err e) f h = tt
+
+pub if_err : {X E : Type 0} {P Q : E → Type 0} (r : Result X E) → ((e : E) → P e → Q e) → IfErr r P → IfErr r Q
+if_err {X} {E} {P} {Q} (Ok x) f h = tt
+if_err {X} {E} {P} {Q} (Err e) f h = f e h

@@ -3,3 +3,5 @@ pub mod CaseView
 pub mod Deciding
 pub mod Naming
 pub mod Equating
+pub mod Settled
+pub mod Stopping

@@ -1,8 +1,10 @@
 -- Objects by their numbers, and which objects a case speaks of.
-use Rattle.std.specs.Prelude.{◌≡◌, ℕ, pos, true, List, Option, Some, None, map, slice_get}
+use Rattle.std.specs.Prelude.{◌≡◌, ℕ, pos, Bool, true, List, Option, Some, None, map, slice_get}
 use Rattle.lq_combine.specs.Path.{Fact, row_fact, flag_fact, objects_fact, never}
-use Rattle.lq_decide.specs.declared.objects.ObjectTable.{ObjectTable}
+use Rattle.lq_decide.specs.declared.object_table.ObjectTable.{ObjectTable}
 use Rattle.lq_linear.specs.Difference.{TermsBelow}
+use Rattle.lq_objects.specs.Joined.{Says}
+use Rattle.lq_objects.specs.declared.fact.ObjectFact.{ObjectFact}
 use Rattle.lq_pred.specs.Sum.{Sum, whole, var, neg, add, sub, mul, div, rem, len, measure}
 use Rattle.lq_pred.specs.Table.{has_term}
 use Rattle.lq_pred.specs.TermView.{sum_of}
@@ -57,3 +59,25 @@ IsBelow n never = Unit {0}
 
 abbrev pub AllBelow : ℕ → List Fact → Type 0
 AllBelow n facts = (k : ℕ) (f : Fact) → slice_get facts k ≡ Some f → IsBelow n f
+
+-- what a fact says of two objects is said of their numbers
+pub record IsToldOf (objects : List Sum) (about : List ObjectFact) (x y : Sum) (one : Bool) : Type 0 where
+  pub left : ℕ
+  pub right : ℕ
+  pub number : ℕ
+  pub is_left : slice_get objects left ≡ Some x
+  pub is_right : slice_get objects right ≡ Some y
+  pub says : Says about left right one number
+
+abbrev pub IsTold : List Sum → List ObjectFact → Fact → Type 0
+IsTold objects about (row_fact r) = Unit {0}
+IsTold objects about (flag_fact x value) = Unit {0}
+IsTold objects about (objects_fact a b one) = IsToldOf objects about a b one
+IsTold objects about never = Unit {0}
+
+abbrev pub AllTold : List Sum → List ObjectFact → List Fact → Type 0
+AllTold objects about facts = (k : ℕ) (f : Fact) → slice_get facts k ≡ Some f → IsTold objects about f
+
+-- more facts about objects
+abbrev pub SaysMore : List ObjectFact → List ObjectFact → Type 0
+SaysMore old new = (a b t : ℕ) (one : Bool) → Says old a b one t → Says new a b one t

@@ -1,20 +1,24 @@
 // Lengths and measures of one object are equal.
-ghost use Rattle.std.specs.Prelude.{◌≡◌, ◌<◌, ◌∷◌, [], suc, List, IsTrue, Some, None, pos, negsuc, true, IfOk, IfSome, OnOk, length, slice_get};
+ghost use Rattle.std.specs.Prelude.{◌≡◌, ◌<◌, ◌∷◌, ◌++◌, [], suc, List, ℕ, IsTrue, Some, IfOk, IfErr, IfSome, IfNone, OnOk, Option, length, slice_get, slice_index, unwrap_or};
 ghost use Rattle.lq_case.specs.PathState.{facts_in, objects_in};
 ghost use Rattle.lq_case.specs.RowState.{terms_of as row_terms};
 ghost use Rattle.lq_combine.specs.Path.{Path};
-ghost use Rattle.lq_combine.specs.Proves.{Clashes};
+ghost use Rattle.lq_combine.specs.Proves.{Clashes, rows_among};
 ghost use Rattle.lq_combine.specs.TreeView.{clash_of};
-ghost use Rattle.lq_decide.specs.Equating.{AreFirsts, IsApplication, Wraps, numbering_by};
+ghost use Rattle.lq_decide.specs.Equating.{AddsEquations, AreEquated, AreFirsts, ClassesJoin, EachEquated, IsApplication, KeepsFirsts, Wraps, applied, equation, equation_fact, first_at, numbering_by};
 ghost use Rattle.lq_decide.specs.Naming.{HasAllArguments, name_in, objects_of};
+ghost use Rattle.lq_diff.specs.Stops.{StopsBy};
+ghost use Rattle.lq_diff.specs.Table.{constants};
 ghost use Rattle.lq_literals.specs.Parts.{places_from};
+ghost use Rattle.lq_name.specs.declared.name.Name.{Name};
+ghost use Rattle.lq_objects.specs.Joined.{AreOne};
 ghost use Rattle.lq_pred.specs.Sum.{Sum};
 ghost use Rattle.lq_pred.specs.Table.{all_differ};
 ghost use Rattle.lq_pred.specs.TableView.{terms_of};
 
 use crate::application::{Application, FunctionAt};
 use crate::chain::Joint;
-use crate::objects::ObjectTable;
+use crate::object_table::ObjectTable;
 use indexmap::IndexMap;
 use lq_case::PathState;
 use lq_combine::CaseProof;
@@ -33,11 +37,7 @@ struct Equations {
 /// The row that two terms are equal.
 fn equal_row(alloc: Global, left: u64, right: u64) -> Result<LinearRow, AllocError>
     requires { left < right }
-    ensures { IfOk result (λ row. row ≡ record {
-      parts = (left, pos 1) ∷ (right, negsuc 0) ∷ [];
-      constant = pos 0;
-      equal = true;
-    }) }
+    ensures { IfOk result (λ row. row ≡ equation (left, right)) }
 {
     let parts = vec![in alloc; (left, 1), (right, -1)]?;
     Ok(LinearRow::new(parts, 0, true))
@@ -61,6 +61,9 @@ fn equate(
     requires fits { later.index < 18446744073709551615 }
     requires count { state.old.objects.count ≡ length (objects_of objects.now) }
     requires terms { row_terms state.old.rows ≡ length (terms_of table.now) }
+    requires one { AreOne (objects_in state.old) first.object later.object }
+    ensures adds { OnOk result (facts_in (name_in (objects_of objects.now)) state.new
+        ≡ facts_in (name_in (objects_of objects.now)) state.old ++ equation_fact (first.term, later.term) ∷ []) }
     ensures wraps { OnOk result ((whole : Path) → Wraps (numbering_by (terms_of table.now)) whole joints.old.items
         (facts_in (name_in (objects_of objects.now)) state.old)
         → Wraps (numbering_by (terms_of table.now)) whole joints.new.items
@@ -70,12 +73,13 @@ fn equate(
         × (state.new.rows.pivots ≡ state.old.rows.pivots) × (state.new.objects.count ≡ state.old.objects.count) }
     ensures clash { IfOk result (λ clash. IfSome clash (λ p.
         Clashes (facts_in (name_in (objects_of objects.now)) state.new) (clash_of p))) }
+    ensures stop { IfErr result (StopsBy (constants (rows_among (facts_in (name_in (objects_of objects.now)) state.old)))) }
 {
     let Ok(joined) = state.joined(first.object, later.object) else {
         return Err(LinearStop::Memory);
     };
     let Some(tags) = joined else {
-        return Ok(None);
+        unreachable!();
     };
     let Ok(row) = equal_row(alloc, first.term, later.term) else {
         return Err(LinearStop::Memory);
@@ -101,7 +105,8 @@ fn application_at(
     requires place { slice_get (places_from 0 (terms_of table.now)) index ≡ Some term }
     requires arguments { HasAllArguments (objects_of objects.now) (terms_of table.now) }
     ensures is { IfSome result (IsApplication (objects_of objects.now) (terms_of table.now)) }
-    ensures index { IfSome result (λ x. x.index ≡ index) }
+    ensures place { IfSome result (λ x. (x.index ≡ index) × (x.term ≡ term)) }
+    ensures none { IfNone result ((m : Option Name) (a : Sum) → slice_get (terms_of table.now) term ≡ Some (applied m a) → ⊥) }
 {
     match table.term(term) {
         Term::Length(object) => Some(Application {
@@ -126,11 +131,15 @@ fn first_of(
     class: u64,
     later: Application,
 ) -> Result<Option<Application>, AllocError>
-    ensures some { IfOk result (λ first. IfSome first (λ x. (objects terms : List Sum)
-        → AreFirsts objects terms later.index firsts.old.entries
-        → IsApplication objects terms x × (x.measure ≡ later.measure) × (x.index < later.index))) }
-    ensures firsts { OnOk result ((objects terms : List Sum) → AreFirsts objects terms later.index firsts.old.entries
-        → IsApplication objects terms later → AreFirsts objects terms (suc later.index) firsts.new.entries) }
+    ensures some { IfOk result (λ first. IfSome first (λ x. (objects terms : List Sum) (classes : List ℕ)
+        → AreFirsts objects terms classes later.index firsts.old.entries → IsApplication objects terms x
+        × (x.measure ≡ later.measure) × (slice_index classes x.object ≡ class) × (x.index < later.index))) }
+    ensures firsts { OnOk result ((objects terms : List Sum) (classes : List ℕ) → class ≡ slice_index classes later.object
+        → AreFirsts objects terms classes later.index firsts.old.entries → IsApplication objects terms later
+        → AreFirsts objects terms classes (suc later.index) firsts.new.entries) }
+    ensures found { IfOk result (λ first. first_at firsts.new.entries (record { measure = later.measure; class = class })
+        ≡ Some (unwrap_or first later)) }
+    ensures keeps { OnOk result (KeepsFirsts firsts.old.entries firsts.new.entries) }
 {
     let function = FunctionAt {
         measure: later.measure,
@@ -150,18 +159,28 @@ fn equate_later(
     state: &mut PathState,
     objects: &ObjectTable,
     table: &TermTable,
-    class: u64,
+    classes: &[u64],
     later: Application,
     equations: &mut Equations,
 ) -> Result<Option<CaseProof>, LinearStop>
     requires distinct { IsTrue (all_differ (terms_of table.now)) }
+    requires different { IsTrue (all_differ (objects_of objects.now)) }
     requires later { IsApplication (objects_of objects.now) (terms_of table.now) later }
-    requires firsts { AreFirsts (objects_of objects.now) (terms_of table.now) later.index equations.old.firsts.entries }
+    requires firsts { AreFirsts (objects_of objects.now) (terms_of table.now) classes.now later.index
+        equations.old.firsts.entries }
     requires fits { later.index < 18446744073709551615 }
     requires count { state.old.objects.count ≡ length (objects_of objects.now) }
     requires terms { row_terms state.old.rows ≡ length (terms_of table.now) }
-    ensures firsts { OnOk result (AreFirsts (objects_of objects.now) (terms_of table.now) (suc later.index)
-        equations.new.firsts.entries) }
+    requires each { length classes.now ≡ length (objects_of objects.now) }
+    requires one { ClassesJoin (length (objects_of objects.now)) classes.now (objects_in state.old) }
+    ensures firsts { OnOk result (AreFirsts (objects_of objects.now) (terms_of table.now) classes.now
+        (suc later.index) equations.new.firsts.entries) }
+    ensures equated { OnOk result (EachEquated (objects_of objects.now) (terms_of table.now) classes.now
+        later.index equations.old.firsts.entries (facts_in (name_in (objects_of objects.now)) state.old)
+        → EachEquated (objects_of objects.now) (terms_of table.now) classes.now (suc later.index)
+        equations.new.firsts.entries (facts_in (name_in (objects_of objects.now)) state.new)) }
+    ensures adds { OnOk result (AddsEquations (facts_in (name_in (objects_of objects.now)) state.old)
+        (facts_in (name_in (objects_of objects.now)) state.new)) }
     ensures wraps { OnOk result ((whole : Path) → Wraps (numbering_by (terms_of table.now)) whole
         equations.old.joints.items (facts_in (name_in (objects_of objects.now)) state.old)
         → Wraps (numbering_by (terms_of table.now)) whole equations.new.joints.items
@@ -171,7 +190,9 @@ fn equate_later(
         × (state.new.rows.pivots ≡ state.old.rows.pivots) × (state.new.objects.count ≡ state.old.objects.count) }
     ensures clash { IfOk result (λ clash. IfSome clash (λ p.
         Clashes (facts_in (name_in (objects_of objects.now)) state.new) (clash_of p))) }
+    ensures stop { IfErr result (StopsBy (constants (rows_among (facts_in (name_in (objects_of objects.now)) state.old)))) }
 {
+    let class = classes[later.object as usize];
     match first_of(&mut equations.firsts, class, later) {
         Ok(Some(first)) => equate(
             alloc,
@@ -197,16 +218,23 @@ pub(crate) fn equate_all(
 ) -> Result<(Vec<Joint>, Option<CaseProof>), LinearStop>
     requires arguments { HasAllArguments (objects_of objects.now) (terms_of table.now) }
     requires distinct { IsTrue (all_differ (terms_of table.now)) }
+    requires different { IsTrue (all_differ (objects_of objects.now)) }
     requires count { state.old.objects.count ≡ length (objects_of objects.now) }
     requires terms { row_terms state.old.rows ≡ length (terms_of table.now) }
     ensures wraps { IfOk result (λ found. (whole : Path) → Wraps (numbering_by (terms_of table.now)) whole []
         (facts_in (name_in (objects_of objects.now)) state.old)
         → Wraps (numbering_by (terms_of table.now)) whole found.0.items
         (facts_in (name_in (objects_of objects.now)) state.new)) }
+    ensures adds { IfOk result (λ _. AddsEquations (facts_in (name_in (objects_of objects.now)) state.old)
+        (facts_in (name_in (objects_of objects.now)) state.new)) }
+    ensures equated { IfOk result (λ found. IfNone found.1 (AreEquated (objects_of objects.now)
+        (terms_of table.now) (objects_in state.new) (facts_in (name_in (objects_of objects.now)) state.new))) }
+    ensures objects { objects_in state.new ≡ objects_in state.old }
     ensures limits { (row_terms state.new.rows ≡ row_terms state.old.rows)
         × (state.new.rows.pivots ≡ state.old.rows.pivots) × (state.new.objects.count ≡ state.old.objects.count) }
     ensures clash { IfOk result (λ found. IfSome found.1 (λ p.
         Clashes (facts_in (name_in (objects_of objects.now)) state.new) (clash_of p))) }
+    ensures stop { IfErr result (StopsBy (constants (rows_among (facts_in (name_in (objects_of objects.now)) state.old)))) }
 {
     let Ok(classes) = state.classes().to_vec(alloc) else {
         return Err(LinearStop::Memory);
@@ -220,8 +248,15 @@ pub(crate) fn equate_all(
     };
     for index in 0..places.len() {
         if let Some(later) = application_at(objects, table, index, places[index]) {
-            let class = classes[later.object as usize];
-            let clash = equate_later(alloc, state, objects, table, class, later, &mut equations)?;
+            let clash = equate_later(
+                alloc,
+                state,
+                objects,
+                table,
+                &classes,
+                later,
+                &mut equations,
+            )?;
             if clash.is_some() {
                 return Ok((equations.joints, clash));
             }

@@ -3,13 +3,16 @@
 
 mod application;
 mod chain;
+mod deciding;
 mod equating;
 mod fact;
 mod laws;
 mod literals;
+mod object_table;
 mod objects;
 mod searching;
 mod taking;
+mod values;
 
 pub use fact::{Fact, Facts};
 pub use laws::proved_cases_have_no_point;

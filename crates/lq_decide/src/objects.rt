@@ -1,59 +1,14 @@
 // The objects of which a case speaks.
-ghost use Rattle.std.specs.Prelude.{◌≡◌, ◌<◌, [], ◌∷◌, ◌++◌, true, Some, IfOk, OnOk, length, map, slice_get};
+ghost use Rattle.std.specs.Prelude.{IfOk, OnOk, map};
 ghost use Rattle.lq_decide.specs.Case.{fact_of};
 ghost use Rattle.lq_decide.specs.Naming.{HasAllArguments, HasAllSides, HasArgument, HasSides, Keeps, objects_of};
-ghost use Rattle.lq_pred.specs.Table.{has_term, with_term};
 ghost use Rattle.lq_pred.specs.TableView.{terms_of};
 ghost use Rattle.lq_pred.specs.TermView.{sum_of};
 
 use crate::fact::Fact;
-use indexmap::IndexSet;
+use crate::object_table::ObjectTable;
 use lq_pred::{Term, TermTable};
 use std::alloc::{AllocError, Global};
-
-/// Objects, numbered from 0 by their first appearance.
-#[derive(Drop)]
-pub(crate) struct ObjectTable {
-    terms: IndexSet<Term>,
-}
-
-impl ObjectTable {
-    fn new(alloc: Global) -> ObjectTable
-        ensures { objects_of result ≡ [] }
-    {
-        ObjectTable {
-            terms: IndexSet::new(alloc),
-        }
-    }
-
-    /// How many objects there are.
-    pub(crate) fn len(&self) -> usize
-        ensures { result ≡ length (objects_of self.now) }
-    {
-        self.terms.len()
-    }
-
-    /// Adds an object that may be there.
-    fn add(&mut self, alloc: Global, object: &Term) -> Result<(), AllocError>
-        ensures { OnOk result (objects_of self.new ≡ with_term (objects_of self.old) (sum_of object.now)) }
-    {
-        if self.terms.get_index_of(object).is_none() {
-            self.terms.insert(object.copy(alloc)?)?;
-        }
-        Ok(())
-    }
-
-    /// The number of an object.
-    pub(crate) fn number(&self, object: &Term) -> u64
-        requires { has_term (objects_of self.now) (sum_of object.now) ≡ true }
-        ensures { slice_get (objects_of self.now) result ≡ Some (sum_of object.now) }
-    {
-        match self.terms.get_index_of(object) {
-            Some(at) => at as u64,
-            None => unreachable!(),
-        }
-    }
-}
 
 /// Adds the objects of a literal.
 fn add_sides(alloc: Global, fact: &Fact, objects: &mut ObjectTable) -> Result<(), AllocError>

@@ -1,8 +1,8 @@
 // A case without a point has a proof tree.
-ghost use Rattle.std.specs.Prelude.{◌≡◌, [], IfOk, IfSome, length};
+ghost use Rattle.std.specs.Prelude.{◌≡◌, [], IfErr, IfOk, IfNone, IfSome, length};
 ghost use Rattle.lq_case.specs.PathState.{facts_in};
-ghost use Rattle.lq_case.specs.RowState.{terms_of as row_terms};
-ghost use Rattle.lq_combine.specs.Proves.{Proves};
+ghost use Rattle.lq_case.specs.RowState.{MayStop, terms_of as row_terms};
+ghost use Rattle.lq_combine.specs.Proves.{Proves, rows_among};
 ghost use Rattle.lq_combine.specs.Tree.{leaf};
 ghost use Rattle.lq_combine.specs.TreeView.{clash_of, tree_view};
 ghost use Rattle.lq_decide.specs.Case.{path_of};
@@ -10,12 +10,13 @@ ghost use Rattle.lq_decide.specs.CaseView.{case_of};
 ghost use Rattle.lq_decide.specs.Deciding.{IsChainOfEquals};
 ghost use Rattle.lq_decide.specs.Equating.{around, numbering_by};
 ghost use Rattle.lq_decide.specs.Naming.{AllBelow, HasAllArguments, HasAllSides, name_in, objects_of};
-ghost use Rattle.lq_pred.specs.TableView.{terms_of};
+ghost use Rattle.lq_decide.specs.Settled.{IsSettled};
+ghost use Rattle.lq_linear.specs.declared.engine.LinearStop.TheVariants.{Memory};
 
 use crate::chain::{Joint, wrapped};
 use crate::equating::equate_all;
 use crate::literals::Literals;
-use crate::objects::ObjectTable;
+use crate::object_table::ObjectTable;
 use crate::taking::take_facts;
 use lq_case::PathState;
 use lq_combine::{CaseProof, ProofTree};
@@ -24,7 +25,8 @@ use std::alloc::{AllocError, Global};
 
 /// The tree of a clash behind these nodes.
 fn refutation(alloc: Global, joints: Vec<Joint>, clash: CaseProof) -> Result<ProofTree, LinearStop>
-    ensures { IfOk result (λ tree. tree_view tree ≡ around joints.items (leaf (clash_of clash))) }
+    ensures memory { IfErr result (λ stop. stop ≡ Memory) }
+    ensures is { IfOk result (λ tree. tree_view tree ≡ around joints.items (leaf (clash_of clash))) }
 {
     match wrapped(alloc, joints, ProofTree::Leaf(clash)) {
         Ok(tree) => Ok(tree),
@@ -32,7 +34,7 @@ fn refutation(alloc: Global, joints: Vec<Joint>, clash: CaseProof) -> Result<Pro
     }
 }
 
-/// A proof tree of a case, where the state that takes its literals has no values for them.
+/// A proof tree of a case. Where there is none, the state has taken its literals and has values for them.
 pub(crate) fn refute(
     alloc: Global,
     literals: &Literals,
@@ -48,9 +50,14 @@ pub(crate) fn refute(
     ensures tree { IfOk result (λ found. IfSome found (λ t. Proves (numbering_by (case_of literals.now).terms)
         (path_of (case_of literals.now)) (tree_view t))) }
     ensures form { IfOk result (λ found. IfSome found (λ t. IsChainOfEquals (tree_view t))) }
+    ensures settled { IfOk result (λ found. IfNone found (IsSettled (objects_of objects.now)
+        (case_of literals.now) state.new)) }
+    ensures count { state.new.objects.count ≡ state.old.objects.count }
+    ensures stop { IfErr result (MayStop state.old.rows.pivots (rows_among (case_of literals.now).facts)) }
 {
     let table = literals.table();
-    let _count = table.len();
+    let _terms = table.len();
+    let _count = objects.len();
     if let Some(clash) = take_facts(state, objects, literals.facts().as_slice())? {
         return Ok(Some(ProofTree::Leaf(clash)));
     }

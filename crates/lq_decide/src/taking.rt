@@ -1,14 +1,16 @@
 // The literals of a case are taken as facts of a path.
-ghost use Rattle.std.specs.Prelude.{◌≡◌, [], ◌∷◌, ◌++◌, IfOk, IfNone, IfSome, OnOk, length, map};
-ghost use Rattle.lq_case.specs.PathState.{facts_in};
+ghost use Rattle.std.specs.Prelude.{◌≡◌, [], ◌∷◌, ◌++◌, IfErr, IfOk, IfNone, IfSome, OnOk, length, map};
+ghost use Rattle.lq_case.specs.PathState.{facts_in, objects_in};
 ghost use Rattle.lq_case.specs.RowState.{terms_of};
-ghost use Rattle.lq_combine.specs.Proves.{Clashes};
+ghost use Rattle.lq_combine.specs.Proves.{Clashes, rows_among};
 ghost use Rattle.lq_combine.specs.TreeView.{clash_of};
 ghost use Rattle.lq_decide.specs.Case.{fact_of};
-ghost use Rattle.lq_decide.specs.Naming.{AllBelow, HasAllSides, HasSides, IsBelow, name_in, objects_of};
+ghost use Rattle.lq_decide.specs.Naming.{AllBelow, AllTold, HasAllSides, HasSides, IsBelow, IsTold, SaysMore, name_in, objects_of};
+ghost use Rattle.lq_diff.specs.Stops.{StopsBy};
+ghost use Rattle.lq_diff.specs.Table.{constants};
 
 use crate::fact::Fact;
-use crate::objects::ObjectTable;
+use crate::object_table::ObjectTable;
 use lq_case::PathState;
 use lq_combine::CaseProof;
 use lq_linear::LinearStop;
@@ -25,10 +27,14 @@ fn take_fact(
     requires count { state.old.objects.count ≡ length (objects_of objects.now) }
     ensures stands { OnOk result (facts_in (name_in (objects_of objects.now)) state.new
         ≡ facts_in (name_in (objects_of objects.now)) state.old ++ fact_of fact.now ∷ []) }
+    ensures told { OnOk result (IsTold (objects_of objects.now) (objects_in state.new) (fact_of fact.now)) }
+    ensures more { OnOk result (SaysMore (objects_in state.old) (objects_in state.new)) }
     ensures limits { (terms_of state.new.rows ≡ terms_of state.old.rows)
         × (state.new.rows.pivots ≡ state.old.rows.pivots) × (state.new.objects.count ≡ state.old.objects.count) }
     ensures clash { IfOk result (λ clash. IfSome clash (λ p.
         Clashes (facts_in (name_in (objects_of objects.now)) state.new) (clash_of p))) }
+    ensures stop { IfErr result (StopsBy (constants (rows_among (facts_in (name_in (objects_of objects.now)) state.old
+        ++ fact_of fact.now ∷ [])))) }
 {
     match fact {
         Fact::Row(row) => state.take_row(row),
@@ -59,9 +65,12 @@ pub(crate) fn take_facts(
     requires count { state.old.objects.count ≡ length (objects_of objects.now) }
     ensures stands { IfOk result (λ clash. IfNone clash (facts_in (name_in (objects_of objects.now)) state.new
         ≡ map fact_of facts.now)) }
+    ensures told { IfOk result (λ clash. IfNone clash (AllTold (objects_of objects.now) (objects_in state.new)
+        (map fact_of facts.now))) }
     ensures limits { (terms_of state.new.rows ≡ terms_of state.old.rows)
         × (state.new.rows.pivots ≡ state.old.rows.pivots) × (state.new.objects.count ≡ state.old.objects.count) }
     ensures clash { IfOk result (λ clash. IfSome clash (λ p. Clashes (map fact_of facts.now) (clash_of p))) }
+    ensures stop { IfErr result (StopsBy (constants (rows_among (map fact_of facts.now)))) }
 {
     for fact in facts {
         if let Some(clash) = take_fact(state, objects, fact)? {

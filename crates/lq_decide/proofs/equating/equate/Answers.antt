@@ -1,4 +1,4 @@
-use Rattle.std.proofs.Common.{◌∷◌, [], ◌++◌, ◌+◌, refl, sym, subst}
+use Rattle.std.proofs.Common.{◌∷◌, [], ◌++◌, ◌+◌, ◌∙◌, refl, sym, ap, subst}
 use Rattle.lq_case.specs.PathState.{facts_in}
 use Rattle.lq_case.specs.RowState.{terms_of as row_terms}
 use Rattle.lq_combine.specs.Path.{row_fact}
@@ -6,8 +6,9 @@ use Rattle.lq_decide.specs.Equating.{Wraps, numbering_by}
 use Rattle.lq_decide.specs.Naming.{name_in, objects_of}
 use Rattle.lq_decide.specs.declared.chain.Joint.{Joint}
 use Rattle.lq_decide.proofs.Chains.{wraps_push}
+use Rattle.lq_decide.proofs.Equations.{adds_one, adds_stops}
 use Rattle.lq_decide.proofs.Joining.{joint_of, object_within, parts_below, rises}
-use Rattle.lq_decide.proofs.Sides.{on_ok}
+use Rattle.lq_decide.proofs.Sides.{if_err, on_ok}
 use Rattle.lq_pred.specs.TableView.{terms_of}
 use Rattle.lq_decide.proofs.equating.equate.Goals as goal
 
@@ -17,6 +18,9 @@ joined-requires-clause-left_in c = object_within (objects_of c.args.objects.now)
 pub joined-requires-clause-right_in : goal.joined-requires-clause-right_in
 joined-requires-clause-right_in c = object_within (objects_of c.args.objects.now) (terms_of c.args.table.now) c.args.later c.args.state.now.objects.count c.requires.count c.requires.later
 
+pub unreachable-requires : goal.unreachable-requires
+unreachable-requires c = (rw c.in_default-joined.is at c.in-Ok.ensures.none) c.requires.one
+
 pub equal_row-requires : goal.equal_row-requires
 equal_row-requires c = rises (objects_of c.args.objects.now) (terms_of c.args.table.now) c.args.first c.args.later c.requires.first c.requires.later c.requires.before
 
@@ -24,6 +28,20 @@ pub take_row-requires : goal.take_row-requires
 take_row-requires c =
     parts_below (objects_of c.args.objects.now) (terms_of c.args.table.now) c.args.first c.args.later (row_terms c.args.state.now.rows) c.in-Ok-equal_row.row c.requires.terms c.requires.first c.requires.later
     c.in-Ok-equal_row.ensures
+
+pub returns-clause-adds : goal.returns-clause-adds
+returns-clause-adds c =
+    let name = name_in (objects_of c.args.objects.now) in
+    on_ok c.take_row.result (λ s. s name ∙ ap (λ r. facts_in name c.args.state.now ++ row_fact r ∷ []) c.in-Ok-equal_row.ensures) c.take_row.ensures.stands
+
+pub returns-clause-stop : goal.returns-clause-stop
+returns-clause-stop c =
+    let name = name_in (objects_of c.args.objects.now) in
+    let facts = facts_in name c.args.state.now in
+    let row = c.in-Ok-equal_row.row in
+    if_err c.take_row.result
+    (λ e s. adds_stops facts (facts ++ row_fact row ∷ []) e (adds_one facts (facts ++ row_fact row ∷ []) (c.args.first.term, c.args.later.term) (ap (λ r. facts ++ row_fact r ∷ []) c.in-Ok-equal_row.ensures)) (s name))
+    c.take_row.ensures.stop
 
 pub returns-clause-wraps : goal.returns-clause-wraps
 returns-clause-wraps c =

@@ -4,7 +4,7 @@ use Rattle.lq_pred.specs.Numbering.{slice_get-index_of}
 use Rattle.lq_pred.specs.Sum.{same}
 use Rattle.lq_pred.specs.TermView.{sum_of}
 use Rattle.lq_decide.specs.Naming.{objects_of}
-use Rattle.lq_decide.proofs.objects.ObjectTable.number.Goals as goal
+use Rattle.lq_decide.proofs.object_table.ObjectTable.number.Goals as goal
 
 pub unreachable-requires : goal.unreachable-requires
 unreachable-requires c =

@@ -1,0 +1,49 @@
+-- What a state says of values where its facts don't clash, and the values that are read off it.
+use Rattle.std.specs.Prelude.{◌≡◌, ℕ, ◌<◌, ◌↔◌, true, Bool, List, Some, length, slice_get, slice_index}
+use Rattle.lq_case.specs.PathState.{PathState, AllFlagsHold, NoObjectsClash, facts_in, objects_in}
+use Rattle.lq_case.specs.RowState.{is_solved, row_point}
+use Rattle.lq_combine.specs.Path.{Fact, flag_fact}
+use Rattle.lq_combine.specs.Proves.{rows_among}
+use Rattle.lq_decide.specs.Case.{Case}
+use Rattle.lq_decide.specs.Equating.{AddsEquations, AreEquated}
+use Rattle.lq_decide.specs.Naming.{AllTold, name_in}
+use Rattle.lq_linear.specs.Contradiction.{Solves}
+use Rattle.lq_linear.specs.Steps.{valuation_of}
+use Rattle.lq_objects.specs.Joined.{AreOne}
+use Rattle.lq_point.specs.Values.{class_value, classes_of, flag_value, flags_of, numbers_of, table_of}
+use Rattle.lq_point.specs.declared.values.PointValues.{PointValues}
+use Rattle.lq_pred.specs.Sum.{Sum}
+use Rattle.lq_pred.specs.declared.symbol.Symbol.{Symbol}
+use Rattle.lq_pred.specs.declared.term.Term.{Term}
+
+-- A state took the facts of a case and then equations of lengths and measures, it has values that solve all rows, and no flags and no
+-- objects clash.
+pub record IsSettled (objects : List Sum) (c : Case) (s : PathState) : Type 0 where
+  pub solved : is_solved s.rows ≡ true
+  pub adds : AddsEquations c.facts (facts_in (name_in objects) s)
+  pub solves : Solves (row_point s.rows) (rows_among (facts_in (name_in objects) s))
+  pub flags : AllFlagsHold s.flags (facts_in (name_in objects) s)
+  pub apart : NoObjectsClash s
+  pub told : AllTold objects (objects_in s) c.facts
+  pub equated : AreEquated objects c.terms (objects_in s) (facts_in (name_in objects) s)
+
+-- facts give a flag one value
+abbrev pub AgreeOnFlags : List Fact → Type 0
+AgreeOnFlags facts = (j k : ℕ) (x : Symbol) (b c : Bool) → slice_get facts j ≡ Some (flag_fact x b) → slice_get facts k ≡ Some (flag_fact x c) → b ≡ c
+
+-- each flag has the value that a fact gives it
+abbrev pub HasFlags : List Fact → List (Symbol × Bool) → Type 0
+HasFlags facts flags = (k : ℕ) (x : Symbol) (b : Bool) → slice_get facts k ≡ Some (flag_fact x b) → flag_value flags x ≡ Some b
+
+-- each object has the class that stands at its number
+abbrev pub HasClasses : List Sum → List ℕ → List (Term × ℕ) → Type 0
+HasClasses objects classes made = (k : ℕ) (a : Sum) → slice_get objects k ≡ Some a → class_value made a ≡ Some (slice_index classes k)
+
+-- a number for each term, the truth values that facts give, and a class for each object: two have one class exactly where the facts make them one
+pub record AreValuesOf (objects : List Sum) (c : Case) (s : PathState) (values : PointValues) : Type 0 where
+  pub table : table_of values ≡ c.terms
+  pub numbers : (k : ℕ) → k < length c.terms → valuation_of (numbers_of values) k ≡ row_point s.rows k
+  pub flags : HasFlags c.facts (flags_of values)
+  pub class_of : List ℕ
+  pub classes : HasClasses objects class_of (classes_of values)
+  pub one : (a b : ℕ) → a < length objects → b < length objects → (slice_index class_of a ≡ slice_index class_of b) ↔ AreOne (objects_in s) a b
