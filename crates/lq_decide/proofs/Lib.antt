@@ -16,3 +16,4 @@ pub mod Points
 pub mod Along
 pub mod Reading
 pub mod Settling
+pub mod Stopped

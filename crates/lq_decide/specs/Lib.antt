@@ -5,3 +5,4 @@ pub mod Naming
 pub mod Equating
 pub mod Settled
 pub mod Stopping
+pub mod Answer

@@ -1,25 +1,45 @@
-// The point of a case.
+// Deciding a case.
 ghost use Rattle.std.specs.Prelude.{◌≡◌, All, IfErr, IfOk, IsTrue, length};
+ghost use Rattle.lq_combine.specs.Proves.{Proves};
+ghost use Rattle.lq_combine.specs.TreeView.{tree_view};
+ghost use Rattle.lq_decide.specs.Answer.{HasNoPoint, IfHas, IfNoPoint};
+ghost use Rattle.lq_decide.specs.Case.{numbering_of, path_of};
 ghost use Rattle.lq_decide.specs.CaseView.{case_of};
-ghost use Rattle.lq_decide.specs.Deciding.{Fits, HoldsCase, PairsAreDecided};
+ghost use Rattle.lq_decide.specs.Deciding.{Fits, HoldsCase, IsChainOfEquals, PairsAreDecided};
 ghost use Rattle.lq_decide.specs.Naming.{HasAllArguments, objects_of};
 ghost use Rattle.lq_decide.specs.Settled.{IsSettled};
-ghost use Rattle.lq_decide.specs.Stopping.{StopsDeciding};
+ghost use Rattle.lq_decide.specs.Stopping.{IsStopOf, StopsDeciding};
 ghost use Rattle.lq_point.specs.Values.{as_point};
 ghost use Rattle.lq_pred.specs.ClosedImplication.{IsPoint};
 ghost use Rattle.lq_pred.specs.Comparison.{CanGather};
 ghost use Rattle.lq_pred.specs.Literals.{implication_literals};
 
+use crate::answer::CaseAnswer;
+use crate::laws::proved_cases_have_no_point;
 use crate::literals::Literals;
 use crate::object_table::ObjectTable;
+use crate::objects::case_objects;
+use crate::searching::refute;
 use crate::values::case_values;
 use lq_case::PathState;
+use lq_linear::LinearStop;
 use lq_point::{Point, PointError};
 use lq_pred::{Stop, rows_say_what_comparisons_say};
-use std::alloc::Global;
+use std::alloc::{AllocError, Global};
+
+/// The stop of an engine, as that of a case.
+fn stop_of(stop: LinearStop) -> Stop
+    ensures { IsStopOf stop result }
+{
+    match stop {
+        LinearStop::Number(past) => Stop::Number(past),
+        LinearStop::Pivots(count) => Stop::Pivots(count),
+        LinearStop::Memory => Stop::Memory,
+    }
+}
 
 /// The point of a case by a state that took its literals.
-pub(crate) fn case_point(
+fn case_point(
     alloc: Global,
     literals: &Literals,
     objects: &ObjectTable,
@@ -47,5 +67,45 @@ pub(crate) fn case_point(
         Ok(None) => unreachable!(),
         Err(PointError::Past(past)) => Err(Stop::Number(past)),
         Err(PointError::Memory) => Err(Stop::Memory),
+    }
+}
+
+/// Whether a case has a point: with one at which each literal holds, or with a tree that proves the path of the literals. Lengths and
+/// measures of one object are made equal; of products, quotients and remainders the literals have to say in which way each two stand.
+/// A check makes at most `limit` pivots.
+///
+/// It stops only as an engine on the rows of the case may, or where a literal of the implication has no value of 128 bits at the point,
+/// or for want of memory.
+pub fn decide(alloc: Global, literals: &Literals, limit: u64) -> Result<CaseAnswer, Stop>
+    requires gathers { All CanGather (implication_literals (case_of literals.now).implication) }
+    requires fits { Fits (case_of literals.now) }
+    requires pairs { PairsAreDecided (case_of literals.now) }
+    ensures point { IfOk result (λ answer. IfHas answer (λ p. IsPoint (case_of literals.now).implication
+        (as_point p))) }
+    ensures case { IfOk result (λ answer. IfHas answer (HoldsCase (case_of literals.now))) }
+    ensures tree { IfOk result (λ answer. IfNoPoint answer (λ t. Proves (numbering_of (case_of literals.now))
+        (path_of (case_of literals.now)) (tree_view t))) }
+    ensures form { IfOk result (λ answer. IfNoPoint answer (λ t. IsChainOfEquals (tree_view t))) }
+    ensures none { IfOk result (λ answer. IfNoPoint answer (λ _. HasNoPoint (case_of literals.now))) }
+    ensures stop { IfErr result (StopsDeciding limit (case_of literals.now)) }
+{
+    proved_cases_have_no_point();
+    let table = literals.table();
+    let Ok(objects) = case_objects(alloc, literals.facts().as_slice(), table) else {
+        return Err(Stop::Memory);
+    };
+    let Ok(count) = u32::try_from(objects.len()) else {
+        return Err(Stop::Memory);
+    };
+    let Ok(mut state) = PathState::new(alloc, table.len(), limit, count) else {
+        return Err(Stop::Memory);
+    };
+    match refute(alloc, literals, &objects, &mut state) {
+        Ok(Some(tree)) => Ok(CaseAnswer::NoPoint(tree)),
+        Ok(None) => match case_point(alloc, literals, &objects, &state, limit) {
+            Ok(point) => Ok(CaseAnswer::Has(point)),
+            Err(stop) => Err(stop),
+        },
+        Err(stop) => Err(stop_of(stop)),
     }
 }

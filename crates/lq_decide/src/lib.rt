@@ -1,6 +1,7 @@
 //! Cases: literals in order, with the table that numbers the terms of their rows.
 #![tactic(auto)]
 
+mod answer;
 mod application;
 mod chain;
 mod deciding;
@@ -14,6 +15,8 @@ mod searching;
 mod taking;
 mod values;
 
+pub use answer::CaseAnswer;
+pub use deciding::decide;
 pub use fact::{Fact, Facts};
 pub use laws::proved_cases_have_no_point;
 pub use literals::Literals;
