@@ -1,0 +1,5 @@
+pub mod Operations
+pub mod FiveRows
+pub mod Places
+pub mod Along
+pub mod Added
