@@ -1,5 +1,5 @@
 -- Lengths and measures of objects of one class are equal, one application after the other.
-use Rattle.std.proofs.Common.{◌≡◌, ℕ, zero, suc, ◌+◌, ◌<◌, ◌≤◌, ◌⊎◌, inl, inr, List, [], ◌∷◌, Bool, true, false, Option, Some, None, length, refl, sym, ap, ap₂, subst, ◌∙◌, arith, if◌then◌else◌, slice_get, slice_index}
+use Rattle.std.proofs.Common.{◌≡◌, ℕ, zero, suc, ◌+◌, ◌<◌, ◌≤◌, ◌⊎◌, inl, inr, List, [], ◌∷◌, Bool, true, false, Option, Some, None, length, refl, sym, ap, subst, ◌∙◌, arith, if◌then◌else◌, slice_get, slice_index}
 use Rattle.std.proofs.lemmas.Option.{slice_get_within}
 use Rattle.lq_combine.specs.Path.{Fact}
 use Rattle.lq_combine.specs.Proves.{rows_among}
@@ -11,7 +11,7 @@ use Rattle.lq_objects.specs.Joined.{AreOne}
 use Rattle.lq_objects.specs.declared.fact.ObjectFact.{ObjectFact}
 use Rattle.lq_pred.specs.Numbering.{index_of-slice_get}
 use Rattle.lq_pred.specs.Sum.{Sum, whole, var, neg, add, sub, mul, div, rem, len, measure}
-use Rattle.lq_pred.specs.Table.{all_differ, index_of}
+use Rattle.lq_pred.specs.Table.{all_differ}
 use Rattle.lq_decide.specs.Equating.{AreEquated, EachEquated, IsApplication, IsEquated, KeepsFirsts, applied, first_at}
 use Rattle.lq_decide.specs.declared.application.Application.{Application}
 use Rattle.lq_decide.specs.declared.application.FunctionAt.{FunctionAt}

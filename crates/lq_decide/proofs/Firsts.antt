@@ -1,5 +1,5 @@
 -- The first applications of functions to classes, as they are found and looked up.
-use Rattle.std.proofs.Common.{◌≡◌, ℕ, ◌<◌, ◌≤◌, ◌&&◌, ◌==◌, List, [], ◌∷◌, ◌++◌, Bool, true, false, cond, Option, Some, None, refl, sym, ap, ap₂, subst, ◌∙◌, arith, eq-eqb, slice_index}
+use Rattle.std.proofs.Common.{◌≡◌, ℕ, ◌<◌, ◌≤◌, ◌&&◌, ◌==◌, List, [], ◌∷◌, ◌++◌, Bool, true, false, cond, Option, Some, None, refl, sym, ap, subst, ◌∙◌, arith, eq-eqb, slice_index}
 use Rattle.std.specs.Map.{lookup}
 use Rattle.std.specs.Option.{option_eq, IfSome, is_some}
 use Rattle.std.proofs.lemmas.Bool.{and_from, and_parts, eqb-true}

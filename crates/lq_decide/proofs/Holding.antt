@@ -1,5 +1,5 @@
 -- The facts of a case hold at the values that its state gives.
-use Rattle.std.proofs.Common.{◌≡◌, ℕ, zero, suc, ◌<◌, ℤ, map, List, [], ◌∷◌, Bool, true, false, Some, MatchBool, length, slice_get, slice_index, unwrap_or, pos, refl, sym, ap, ap₂, subst, ◌∙◌, eq-eqb}
+use Rattle.std.proofs.Common.{◌≡◌, ℕ, zero, suc, ◌<◌, ℤ, map, List, [], ◌∷◌, true, false, Some, MatchBool, length, slice_get, slice_index, unwrap_or, pos, refl, sym, ap, ap₂, subst, ◌∙◌, eq-eqb}
 use Rattle.std.proofs.lemmas.Bool.{ne_eqb}
 use Rattle.std.proofs.lemmas.Option.{slice_get_within}
 use Rattle.lq_case.specs.PathState.{PathState, facts_in}
@@ -12,7 +12,7 @@ use Rattle.lq_linear.specs.Contradiction.{Solves}
 use Rattle.lq_linear.specs.Difference.{TermsBelow}
 use Rattle.lq_linear.specs.Row.{Row, RowHolds, Valuation, sum_at}
 use Rattle.lq_linear.specs.Steps.{valuation_of}
-use Rattle.lq_math.specs.Rational.{ℚ, whole, ◌+ℚ◌, ◌*ℚ◌}
+use Rattle.lq_math.specs.Rational.{whole, ◌+ℚ◌, ◌*ℚ◌}
 use Rattle.lq_math.specs.RationalOrder.{◌≤ℚ◌}
 use Rattle.lq_objects.specs.Joined.{differ, itself, onward}
 use Rattle.lq_point.specs.Values.{numbers_of, point_of_values}

@@ -1,5 +1,5 @@
 -- The values that a state gives are a point of the implication.
-use Rattle.std.proofs.Common.{◌≡◌, ℕ, suc, ◌+◌, ◌-◌, ◌<◌, ◌↔◌, List, Bool, true, Option, Some, None, length, slice_get, slice_index, refl, sym, ap, subst, ◌∙◌, arith}
+use Rattle.std.proofs.Common.{◌≡◌, ℕ, suc, ◌+◌, ◌-◌, ◌<◌, ◌↔◌, List, Bool, true, Option, Some, None, slice_get, refl, sym, ap, subst, ◌∙◌, arith}
 use Rattle.std.proofs.lemmas.Option.{slice_get_within}
 use Rattle.lq_case.specs.PathState.{PathState}
 use Rattle.lq_case.specs.RowState.{row_point}
@@ -8,12 +8,10 @@ use Rattle.lq_combine.proofs.Meeting.{solves_rows}
 use Rattle.lq_combine.specs.Proves.{ApplyTwo, AreNoLiterals, products, quotients, remainders}
 use Rattle.lq_linear.specs.Row.{Row, RowHolds, Valuation}
 use Rattle.lq_linear.specs.Steps.{valuation_of}
-use Rattle.lq_math.specs.Rational.{ℚ}
 use Rattle.lq_name.specs.declared.name.Name.{Name}
 use Rattle.lq_num.specs.Past.{IsPast}
 use Rattle.lq_num.specs.declared.past.NumberPast.{NumberPast}
 use Rattle.lq_point.specs.Evaluation.{IsStepOf}
-use Rattle.lq_point.specs.Agreeing.{AgreesBefore}
 use Rattle.lq_point.specs.Values.{AreSame, as_point, classes_of, flags_of, numbers_of, point_from, point_of_values, table_of, values_of}
 use Rattle.lq_point.specs.declared.point.Point as made
 use Rattle.lq_point.specs.declared.values.PointValues.{PointValues}

@@ -12,7 +12,6 @@ use Rattle.lq_decide.specs.Settled.{AgreeOnFlags, IsSettled}
 use Rattle.lq_decide.proofs.Reading.{get_append}
 use Rattle.lq_linear.specs.Contradiction.{Solves}
 use Rattle.lq_pred.specs.Sum.{Sum}
-use Rattle.lq_pred.specs.declared.symbol.Symbol.{Symbol}
 
 pub settled : (objects : List Sum) (c : Case) (s t u : PathState) → facts_in (name_in objects) s ≡ c.facts → AllTold objects (objects_in s) c.facts
     → AddsEquations (facts_in (name_in objects) s) (facts_in (name_in objects) t) → objects_in t ≡ objects_in s → AreEquated objects c.terms (objects_in t) (facts_in (name_in objects) t)

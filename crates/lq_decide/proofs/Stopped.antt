@@ -1,5 +1,5 @@
 -- The stop of an engine is one of deciding.
-use Rattle.std.proofs.Common.{◌≡◌, ℕ, inl, subst}
+use Rattle.std.proofs.Common.{ℕ, inl, subst}
 use Rattle.lq_case.specs.RowState.{MayStop}
 use Rattle.lq_combine.specs.Proves.{rows_among}
 use Rattle.lq_linear.specs.declared.engine.LinearStop.{LinearStop}

@@ -1,5 +1,5 @@
 -- What facts say of two objects is said of their numbers.
-use Rattle.std.proofs.Common.{◌≡◌, inl, inr, ℕ, suc, ◌+◌, ◌==◌, List, [], ◌∷◌, ◌++◌, Bool, true, false, Some, map, slice_get, refl, sym, subst, eq-eqb}
+use Rattle.std.proofs.Common.{◌≡◌, inl, inr, ℕ, List, [], ◌∷◌, ◌++◌, Bool, Some, slice_get, refl, sym, subst}
 use Rattle.lq_combine.specs.Path.{Fact, row_fact, flag_fact, objects_fact, never}
 use Rattle.lq_objects.specs.Joined.{Says}
 use Rattle.lq_objects.specs.declared.fact.ObjectFact.{ObjectFact}

@@ -1,5 +1,5 @@
 -- Two applications whose way the rows of a case hold agree.
-use Rattle.std.proofs.Common.{◌≡◌, inl, inr, List, [], ◌∷◌, pos, refl, sym, ap, ap₂, subst, ◌∙◌, All, Contains}
+use Rattle.std.proofs.Common.{◌≡◌, inl, inr, List, [], ◌∷◌, pos, refl, sym, ap, ap₂, ◌∙◌, All, Contains}
 use Rattle.std.proofs.lemmas.List.Elements.{All-cons, All-contains, All-nil}
 use Rattle.lq_math.specs.Rational.{ℚ, whole, ◌+ℚ◌, ◌-ℚ◌}
 use Rattle.lq_math.specs.RationalOrder.{◌≤ℚ◌}

@@ -1,5 +1,4 @@
 -- What an answer of `decide` holds.
-use Rattle.std.specs.Prelude.{◌≡◌, true}
 use Rattle.lq_combine.specs.Met.{AllHold}
 use Rattle.lq_combine.specs.declared.tree.ProofTree.{ProofTree}
 use Rattle.lq_decide.specs.Case.{Case}

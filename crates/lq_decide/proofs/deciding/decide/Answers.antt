@@ -1,4 +1,4 @@
-use Rattle.std.proofs.Common.{◌≡◌, ◌∙◌, ap, length, map, sym, subst, true}
+use Rattle.std.proofs.Common.{◌≡◌, ◌∙◌, ap, length, map, sym, subst}
 use Rattle.std.specs.List.{filter}
 use Rattle.lq_case.specs.RowState.{MayStop}
 use Rattle.lq_combine.specs.Proves.{Proves, rows_among}

@@ -1,4 +1,4 @@
-use Rattle.std.proofs.Common.{◌≡◌, ◌∙◌, ◌++◌, ◌∷◌, [], Some, suc, refl, sym, ap, subst, slice_index}
+use Rattle.std.proofs.Common.{refl, subst}
 use Rattle.lq_case.specs.PathState.{facts_in}
 use Rattle.lq_combine.specs.Proves.{rows_among}
 use Rattle.lq_decide.specs.Equating.{equation}

@@ -1,4 +1,4 @@
-use Rattle.std.proofs.Common.{◌≡◌, ◌∙◌, ◌<◌, ap, sym, subst, length, map}
+use Rattle.std.proofs.Common.{◌∙◌, ◌<◌, ap, sym, subst, length, map}
 use Rattle.lq_decide.specs.Case.{fact_of}
 use Rattle.lq_decide.specs.CaseView.{case_of}
 use Rattle.lq_decide.specs.Naming.{objects_of}
@@ -6,7 +6,6 @@ use Rattle.lq_decide.specs.Settled.{AgreeOnFlags, HasClasses, HasFlags}
 use Rattle.lq_decide.proofs.Settling.{flags_agree}
 use Rattle.lq_linear.specs.Steps.{valuation_of}
 use Rattle.lq_pred.specs.ClosedImplication.{terms_in}
-use Rattle.lq_pred.specs.TableView.{terms_of}
 use Rattle.lq_decide.proofs.values.case_values.Goals as goal
 
 pub term_values-requires : goal.term_values-requires

@@ -1,4 +1,4 @@
-use Rattle.std.proofs.Common.{◌≡◌, ◌∙◌, ◌+◌, ◌++◌, ◌∷◌, [], sym, ap, subst, map, take}
+use Rattle.std.proofs.Common.{◌∙◌, ◌+◌, ◌++◌, ◌∷◌, [], sym, ap, subst, map, take}
 use Rattle.std.proofs.lemmas.List.{take_all}
 use Rattle.lq_decide.specs.Case.{fact_of}
 use Rattle.lq_decide.specs.Settled.{AgreeOnFlags, HasFlags}

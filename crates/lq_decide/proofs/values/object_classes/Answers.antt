@@ -1,4 +1,4 @@
-use Rattle.std.proofs.Common.{◌≡◌, ◌∙◌, ◌<◌, ◌≤◌, Some, cond, ap, arith, slice_index}
+use Rattle.std.proofs.Common.{◌∙◌, Some, cond, ap, arith, slice_index}
 use Rattle.std.proofs.lemmas.Option.{slice_get_within}
 use Rattle.lq_decide.specs.Naming.{objects_of}
 use Rattle.lq_decide.proofs.Reading.{classes_push}
