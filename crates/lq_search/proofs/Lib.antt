@@ -3,3 +3,4 @@ pub mod FiveRows
 pub mod Places
 pub mod Along
 pub mod Added
+pub mod Splitting

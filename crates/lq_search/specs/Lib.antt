@@ -1,2 +1,3 @@
 pub mod Operations
 pub mod Pairs
+pub mod Splits

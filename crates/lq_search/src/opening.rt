@@ -1,0 +1,48 @@
+// What is still to be split.
+ghost use Rattle.std.specs.Prelude.{◌≡◌, All, IfNone, IfSome, IsTrue, false, length, map, true};
+ghost use Rattle.lq_case.specs.RowState.{is_solved, row_point, terms_of};
+ghost use Rattle.lq_path.specs.Meeting.{IsAt};
+ghost use Rattle.lq_path.specs.Readings.{AreOver};
+ghost use Rattle.lq_pred.specs.NnfView.{nnfs_view};
+ghost use Rattle.lq_pred.specs.Points.{Point};
+ghost use Rattle.lq_pred.specs.TermView.{sum_of};
+ghost use Rattle.lq_search.specs.Splits.{IsDoneOrMet, IsOpen};
+
+use indexmap::IndexSet;
+use lq_case::PathState;
+use lq_path::{Choice, meets_any};
+use lq_pred::Term;
+
+/// Whether one of the readings was taken, or is known to be met.
+fn is_settled(state: &PathState, objects: &IndexSet<Term>, choice: &Choice<'_>) -> bool
+    requires solved { is_solved state.now.rows ≡ true }
+    requires over { AreOver (terms_of state.now.rows) (map sum_of objects.now.keys) (nnfs_view choice.now.members.now) }
+    requires count { state.now.objects.count ≡ length objects.now.keys }
+    ensures open { result ≡ false → choice.now.is_done ≡ false }
+    ensures settled { (p : Point) → IsAt (map sum_of objects.now.keys) state.now p → IsTrue result
+        → IsDoneOrMet (row_point state.now.rows) p choice.now }
+{
+    choice.is_done || meets_any(state, objects, choice.members)
+}
+
+/// The first choice of which no reading was taken and none is known to be met.
+pub fn first_open(
+    state: &PathState,
+    objects: &IndexSet<Term>,
+    choices: &[Choice<'_>],
+) -> Option<usize>
+    requires solved { is_solved state.now.rows ≡ true }
+    requires over { All (λ c. AreOver (terms_of state.now.rows) (map sum_of objects.now.keys) (nnfs_view c.members.now))
+        choices.now }
+    requires count { state.now.objects.count ≡ length objects.now.keys }
+    ensures some { IfSome result (IsOpen choices.now) }
+    ensures none { IfNone result ((p : Point) → IsAt (map sum_of objects.now.keys) state.now p
+        → All (IsDoneOrMet (row_point state.now.rows) p) choices.now) }
+{
+    for at in 0..choices.len() {
+        if !is_settled(state, objects, &choices[at]) {
+            return Some(at);
+        }
+    }
+    None
+}
