@@ -9,5 +9,4 @@ mod taking;
 
 pub use choice::Choice;
 pub use meeting::{meets, meets_any};
-pub use numbering::number_of;
 pub use taking::take;

@@ -7,7 +7,7 @@ use indexmap::IndexSet;
 use lq_pred::Term;
 
 /// The number of an object: its place among all.
-pub fn number_of(objects: &IndexSet<Term>, object: &Term) -> u64
+pub(crate) fn number_of(objects: &IndexSet<Term>, object: &Term) -> u64
     requires { has_term (map sum_of objects.now.keys) (sum_of object.now) ≡ true }
     ensures { slice_get (map sum_of objects.now.keys) result ≡ Some (sum_of object.now) }
 {
