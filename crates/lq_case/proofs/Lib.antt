@@ -1,5 +1,6 @@
 pub mod Evidence
 pub mod Kept
+pub mod Nearing
 pub mod Fronts
 pub mod Reading
 pub mod Keeping

@@ -49,21 +49,21 @@ point_by ByTableau d t = tableau_point t
 abbrev pub row_point : RowState → Valuation
 row_point s = point_by s.found s.distances s.tableau
 
--- the values solve the rows
+-- each row is a difference row
+abbrev pub AreDifferences : Tagged → Type 0
+AreDifferences [] = Unit {0}
+AreDifferences (r ∷ rows) = IsDifference r.1.parts × AreDifferences rows
+
+-- the values solve the rows, and are those of the tableau only where a row is no difference row
 abbrev pub IsFoundBy : Found → Tagged → diff.Table → Option table.Table → Type 0
 IsFoundBy Nothing rows d t = Unit {0}
 IsFoundBy ByDistances rows d t = (diff.table_last d ≡ Held) × Solves (diff.table_point d) rows
-IsFoundBy ByTableau rows d t = SolvesBy rows t
+IsFoundBy ByTableau rows d t = SolvesBy rows t × (AreDifferences rows → ⊥)
 
 pub record IsRowState (stored : List StoredRow) (odd : List ℕ) (d : diff.Table) (t : Option table.Table) (found : Found) (pivots : ℕ) : Type 0 where
   pub kept : IsKept stored odd d
   pub filled : MayBeFilled d.terms pivots (tagged_rows stored) t
   pub found_by : IsFoundBy found (tagged_rows stored) d t
-
--- each row is a difference row
-abbrev pub AreDifferences : Tagged → Type 0
-AreDifferences [] = Unit {0}
-AreDifferences (r ∷ rows) = IsDifference r.1.parts × AreDifferences rows
 
 -- A stop of the table of distances, by the sizes of the constants; or, where a row is no difference row, one of the tableau.
 pub record MayStop (pivots : ℕ) (rows : Tagged) (stop : LinearStop) : Type 0 where

@@ -5,8 +5,9 @@ ghost use Rattle.lq_diff.specs.Stops.{StopsBy};
 ghost use Rattle.lq_diff.specs.Table.{constants};
 ghost use Rattle.lq_linear.specs.Contradiction.{tagged, Solves, IsContradiction};
 ghost use Rattle.lq_linear.specs.Difference.{TermsBelow};
+ghost use Rattle.lq_linear.specs.Near.{IsNear};
 ghost use Rattle.lq_num.specs.Value.{value_of};
-ghost use Rattle.lq_case.specs.RowState.{MayStop, is_solved, row_point, terms_of};
+ghost use Rattle.lq_case.specs.RowState.{AreDifferences, MayStop, is_solved, row_point, terms_of};
 
 use crate::deciding::decide;
 use crate::filling::{decide_by, keep_first};
@@ -150,6 +151,18 @@ impl LinearRows {
             self.found = Found::ByTableau;
         }
         Ok(clash)
+    }
+
+    /// Where all rows are difference rows, the values that solve them are whole numbers, and none of them and no difference of two is
+    /// larger in size than the sizes of the constants sum to.
+    pub fn values_are_near(&self)
+        requires { is_solved self.now ≡ true }
+        ensures { AreDifferences self.now.rows → IsNear (constants self.now.rows) (terms_of self.now) (row_point self.now) }
+    {
+        match self.found {
+            Found::ByDistances => self.distances.values_are_near(),
+            Found::ByTableau | Found::Nothing => {}
+        }
     }
 
     /// The value of a term, where values are known that solve the rows.

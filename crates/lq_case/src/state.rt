@@ -7,13 +7,14 @@ ghost use Rattle.lq_diff.specs.Stops.{StopsBy};
 ghost use Rattle.lq_diff.specs.Table.{constants};
 ghost use Rattle.lq_linear.specs.Contradiction.{Solves};
 ghost use Rattle.lq_linear.specs.Difference.{TermsBelow};
+ghost use Rattle.lq_linear.specs.Near.{IsNear};
 ghost use Rattle.lq_num.specs.Value.{value_of};
 ghost use Rattle.lq_case.specs.Flags.{clash_after, find_given};
 ghost use Rattle.lq_combine.specs.Tree.{Clash};
 ghost use Rattle.lq_objects.specs.Joined.{AreOne, IsClash};
 ghost use Rattle.lq_pred.specs.Sum.{Sum};
 ghost use Rattle.lq_case.specs.PathState.{AllFlagsHold, AllObjectsHold, HasStops, IsByFlags, IsByRows, NoObjectsClash, facts_in, objects_in};
-ghost use Rattle.lq_case.specs.RowState.{is_solved, row_point, terms_of};
+ghost use Rattle.lq_case.specs.RowState.{AreDifferences, is_solved, row_point, terms_of};
 
 use crate::flags::{FlagClash, Given, give, giver_of};
 use crate::rows::LinearRows;
@@ -249,6 +250,16 @@ impl PathState {
         objects_say_what_facts_say();
         let clash = self.objects.clash(self.alloc)?;
         Ok(clash)
+    }
+
+    /// Where all rows are difference rows, the values that solve them are whole numbers, and none of them and no difference of two is
+    /// larger in size than the sizes of the constants sum to.
+    pub fn values_are_near(&self)
+        requires { is_solved self.now.rows ≡ true }
+        ensures { (name : ℕ → Sum) → AreDifferences (rows_among (facts_in name self.now)) → IsNear
+            (constants (rows_among (facts_in name self.now))) (terms_of self.now.rows) (row_point self.now.rows) }
+    {
+        self.rows.values_are_near();
     }
 
     /// The value of a term, where values are known that solve the rows.

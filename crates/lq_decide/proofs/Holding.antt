@@ -21,10 +21,10 @@ use Rattle.lq_pred.specs.Points.{Point}
 use Rattle.lq_pred.specs.Sum.{Sum}
 use Rattle.lq_decide.specs.Case.{Case, fact_of}
 use Rattle.lq_decide.specs.Deciding.{AllFactsBelow}
-use Rattle.lq_decide.specs.Naming.{AllBelow, IsBelow, name_in}
+use Rattle.lq_equating.specs.Naming.{AllBelow, IsBelow, name_in}
 use Rattle.lq_decide.specs.Settled.{AreValuesOf, IsSettled}
 use Rattle.lq_decide.specs.declared.fact.Fact as code
-use Rattle.lq_decide.proofs.Equations.{adds_solves}
+use Rattle.lq_equating.proofs.Equations.{adds_solves}
 
 -- ---- rows below
 

@@ -14,8 +14,8 @@ use Rattle.lq_linear.specs.declared.engine.LinearStop.{LinearStop}
 use Rattle.lq_pred.specs.Sum.{Sum}
 use Rattle.lq_decide.specs.Case.{fact_of}
 use Rattle.lq_decide.specs.declared.fact.Fact.{Fact as CodeFact}
-use Rattle.lq_decide.proofs.Equations.{fewer_constants, stops_at_more}
-use Rattle.lq_decide.proofs.Sides.{parted}
+use Rattle.lq_equating.proofs.Equations.{fewer_constants, stops_at_more}
+use Rattle.lq_equating.proofs.Sides.{parted}
 
 found_more : (n : ℕ) (fs more : List Fact) (t : ℕ) (r : Row) → tagged (rows_from n fs) t ≡ Some r → tagged (rows_from n (fs ++ more)) t ≡ Some r
 found_more n [] more t r h = cc

@@ -28,14 +28,15 @@ use Rattle.lq_pred.specs.declared.symbol.Symbol.{Symbol}
 use Rattle.lq_decide.specs.Case.{Case, fact_items}
 use Rattle.lq_decide.specs.CaseView.{case_of}
 use Rattle.lq_decide.specs.Deciding.{Fits, HoldsCase, PairsAreDecided}
-use Rattle.lq_decide.specs.Equating.{applied}
-use Rattle.lq_decide.specs.Naming.{HasAllArguments, HasArgument}
+use Rattle.lq_equating.specs.Equating.{applied}
+use Rattle.lq_equating.specs.Naming.{HasAllArguments, HasArgument}
 use Rattle.lq_decide.specs.Settled.{AreValuesOf, IsSettled}
 use Rattle.lq_decide.specs.Stopping.{IsPastAtPoint}
 use Rattle.lq_decide.specs.declared.literals.Literals.{Literals}
 use Rattle.lq_decide.proofs.Holding.{class_is, facts_hold, no_never}
-use Rattle.lq_decide.proofs.Plain.{terms_plain}
-use Rattle.lq_decide.proofs.Ways.{compare_all, product_form, way_agrees}
+use Rattle.lq_decide.proofs.Ways.{compare_all}
+use Rattle.lq_equating.proofs.Plain.{terms_plain}
+use Rattle.lq_equating.proofs.Ways.{product_form, way_agrees}
 
 -- what is known of the values
 pub record AreGiven (objects : List Sum) (c : Case) (s : PathState) (values : PointValues) : Type 0 where

@@ -6,8 +6,8 @@ use Rattle.lq_case.specs.RowState.{is_solved, row_point}
 use Rattle.lq_combine.specs.Path.{Fact, flag_fact}
 use Rattle.lq_combine.specs.Proves.{rows_among}
 use Rattle.lq_decide.specs.Case.{Case}
-use Rattle.lq_decide.specs.Equating.{AddsEquations, AreEquated, equation_fact}
-use Rattle.lq_decide.specs.Naming.{AllTold, name_in}
+use Rattle.lq_equating.specs.Equating.{AddsEquations, AreEquated, equation_fact}
+use Rattle.lq_equating.specs.Naming.{AllTold, name_in}
 use Rattle.lq_decide.specs.Settled.{AgreeOnFlags, IsSettled}
 use Rattle.lq_decide.proofs.Reading.{get_append}
 use Rattle.lq_linear.specs.Contradiction.{Solves}

@@ -5,16 +5,16 @@ use Rattle.lq_case.specs.RowState.{is_solved, row_point}
 use Rattle.lq_combine.specs.Path.{Fact, flag_fact}
 use Rattle.lq_combine.specs.Proves.{rows_among}
 use Rattle.lq_decide.specs.Case.{Case}
-use Rattle.lq_decide.specs.Equating.{AddsEquations, AreEquated}
-use Rattle.lq_decide.specs.Naming.{AllTold, name_in}
+use Rattle.lq_equating.specs.Equating.{AddsEquations, AreEquated}
+use Rattle.lq_equating.specs.Naming.{AllTold, name_in}
+use Rattle.lq_equating.specs.Values.{HasClasses}
 use Rattle.lq_linear.specs.Contradiction.{Solves}
 use Rattle.lq_linear.specs.Steps.{valuation_of}
 use Rattle.lq_objects.specs.Joined.{AreOne}
-use Rattle.lq_point.specs.Values.{class_value, classes_of, flag_value, flags_of, numbers_of, table_of}
+use Rattle.lq_point.specs.Values.{classes_of, flag_value, flags_of, numbers_of, table_of}
 use Rattle.lq_point.specs.declared.values.PointValues.{PointValues}
 use Rattle.lq_pred.specs.Sum.{Sum}
 use Rattle.lq_pred.specs.declared.symbol.Symbol.{Symbol}
-use Rattle.lq_pred.specs.declared.term.Term.{Term}
 
 -- A state took the facts of a case and then equations of lengths and measures, it has values that solve all rows, and no flags and no
 -- objects clash.
@@ -34,10 +34,6 @@ AgreeOnFlags facts = (j k : ℕ) (x : Symbol) (b c : Bool) → slice_get facts j
 -- each flag has the value that a fact gives it
 abbrev pub HasFlags : List Fact → List (Symbol × Bool) → Type 0
 HasFlags facts flags = (k : ℕ) (x : Symbol) (b : Bool) → slice_get facts k ≡ Some (flag_fact x b) → flag_value flags x ≡ Some b
-
--- each object has the class that stands at its number
-abbrev pub HasClasses : List Sum → List ℕ → List (Term × ℕ) → Type 0
-HasClasses objects classes made = (k : ℕ) (a : Sum) → slice_get objects k ≡ Some a → class_value made a ≡ Some (slice_index classes k)
 
 -- a number for each term, the truth values that facts give, and a class for each object: two have one class exactly where the facts make them one
 pub record AreValuesOf (objects : List Sum) (c : Case) (s : PathState) (values : PointValues) : Type 0 where

@@ -2,14 +2,10 @@
 #![tactic(auto)]
 
 mod answer;
-mod application;
-mod chain;
 mod deciding;
-mod equating;
 mod fact;
 mod laws;
 mod literals;
-mod object_table;
 mod objects;
 mod searching;
 mod taking;

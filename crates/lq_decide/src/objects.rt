@@ -1,13 +1,12 @@
 // The objects of which a case speaks.
 ghost use Rattle.std.specs.Prelude.{IfOk, OnOk, map};
 ghost use Rattle.lq_decide.specs.Case.{fact_of};
-ghost use Rattle.lq_decide.specs.Naming.{HasAllArguments, HasAllSides, HasArgument, HasSides, Keeps, objects_of};
+ghost use Rattle.lq_equating.specs.Naming.{HasAllArguments, HasAllSides, HasSides, Keeps, objects_of};
 ghost use Rattle.lq_pred.specs.TableView.{terms_of};
-ghost use Rattle.lq_pred.specs.TermView.{sum_of};
 
 use crate::fact::Fact;
-use crate::object_table::ObjectTable;
-use lq_pred::{Term, TermTable};
+use lq_equating::{ObjectTable, add_arguments};
+use lq_pred::TermTable;
 use std::alloc::{AllocError, Global};
 
 /// Adds the objects of a literal.
@@ -22,32 +21,6 @@ fn add_sides(alloc: Global, fact: &Fact, objects: &mut ObjectTable) -> Result<()
             objects.add(alloc, right)
         }
     }
-}
-
-/// Adds the object of which a term is the length or a measure.
-fn add_argument(alloc: Global, term: &Term, objects: &mut ObjectTable) -> Result<(), AllocError>
-    ensures keeps { OnOk result (Keeps (objects_of objects.old) (objects_of objects.new)) }
-    ensures has { OnOk result (HasArgument (objects_of objects.new) (sum_of term.now)) }
-{
-    match term {
-        Term::Length(object) | Term::Measure(_, object) => objects.add(alloc, object),
-        _ => Ok(()),
-    }
-}
-
-/// Adds the objects of which terms are lengths or measures.
-fn add_arguments(
-    alloc: Global,
-    table: &TermTable,
-    objects: &mut ObjectTable,
-) -> Result<(), AllocError>
-    ensures keeps { OnOk result (Keeps (objects_of objects.old) (objects_of objects.new)) }
-    ensures has { OnOk result (HasAllArguments (objects_of objects.new) (terms_of table.now)) }
-{
-    for at in 0..table.len() {
-        add_argument(alloc, table.term(at), objects)?;
-    }
-    Ok(())
 }
 
 /// The objects of literals.

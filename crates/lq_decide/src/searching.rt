@@ -8,18 +8,16 @@ ghost use Rattle.lq_combine.specs.TreeView.{clash_of, tree_view};
 ghost use Rattle.lq_decide.specs.Case.{path_of};
 ghost use Rattle.lq_decide.specs.CaseView.{case_of};
 ghost use Rattle.lq_decide.specs.Deciding.{IsChainOfEquals};
-ghost use Rattle.lq_decide.specs.Equating.{around, numbering_by};
-ghost use Rattle.lq_decide.specs.Naming.{AllBelow, HasAllArguments, HasAllSides, name_in, objects_of};
+ghost use Rattle.lq_equating.specs.Equating.{around, numbering_by};
+ghost use Rattle.lq_equating.specs.Naming.{AllBelow, HasAllArguments, HasAllSides, name_in, objects_of};
 ghost use Rattle.lq_decide.specs.Settled.{IsSettled};
 ghost use Rattle.lq_linear.specs.declared.engine.LinearStop.TheVariants.{Memory};
 
-use crate::chain::{Joint, wrapped};
-use crate::equating::equate_all;
 use crate::literals::Literals;
-use crate::object_table::ObjectTable;
 use crate::taking::take_facts;
 use lq_case::PathState;
 use lq_combine::{CaseProof, ProofTree};
+use lq_equating::{Joint, ObjectTable, equate_all, wrapped};
 use lq_linear::LinearStop;
 use std::alloc::{AllocError, Global};
 

@@ -5,16 +5,27 @@ ghost use Rattle.lq_case.specs.RowState.{terms_of};
 ghost use Rattle.lq_combine.specs.Proves.{Clashes, rows_among};
 ghost use Rattle.lq_combine.specs.TreeView.{clash_of};
 ghost use Rattle.lq_decide.specs.Case.{fact_of};
-ghost use Rattle.lq_decide.specs.Naming.{AllBelow, AllTold, HasAllSides, HasSides, IsBelow, IsTold, SaysMore, name_in, objects_of};
+ghost use Rattle.lq_equating.specs.Literals.{literal_fact};
+ghost use Rattle.lq_equating.specs.Naming.{AllBelow, AllTold, HasAllSides, HasSides, IsBelow, IsTold, SaysMore, name_in, objects_of};
 ghost use Rattle.lq_diff.specs.Stops.{StopsBy};
 ghost use Rattle.lq_diff.specs.Table.{constants};
 
 use crate::fact::Fact;
-use crate::object_table::ObjectTable;
 use lq_case::PathState;
 use lq_combine::CaseProof;
+use lq_equating::{Literal, ObjectTable, take_literal};
 use lq_linear::LinearStop;
-use std::alloc::AllocError;
+
+/// A fact as a literal.
+fn literal_of(fact: &Fact) -> Literal<'_>
+    ensures { literal_fact result ≡ fact_of fact.now }
+{
+    match fact {
+        Fact::Row(row) => Literal::Row(row),
+        Fact::Flag(flag, value) => Literal::Flag(*flag, *value),
+        Fact::Same(left, right, one) => Literal::Same(left, right, *one),
+    }
+}
 
 /// Takes a literal as the next fact. A clash with it is the answer.
 fn take_fact(
@@ -36,21 +47,7 @@ fn take_fact(
     ensures stop { IfErr result (StopsBy (constants (rows_among (facts_in (name_in (objects_of objects.now)) state.old
         ++ fact_of fact.now ∷ [])))) }
 {
-    match fact {
-        Fact::Row(row) => state.take_row(row),
-        Fact::Flag(flag, value) => match state.take_flag(*flag, *value) {
-            Ok(clash) => Ok(clash),
-            Err(AllocError) => Err(LinearStop::Memory),
-        },
-        Fact::Same(left, right, one) => {
-            let left = objects.number(left);
-            let right = objects.number(right);
-            match state.take_same(left, right, *one) {
-                Ok(clash) => Ok(clash),
-                Err(AllocError) => Err(LinearStop::Memory),
-            }
-        }
-    }
+    take_literal(state, objects, &literal_of(fact))
 }
 
 /// Takes the literals in order. Where some of the first ones clash, this is the answer, and the others aren't taken.

@@ -1,37 +1,19 @@
 // The values that a state gives to a case.
-ghost use Rattle.std.specs.Prelude.{◌≡◌, ◌<◌, ℕ, true, IfOk, length, map};
-ghost use Rattle.lq_case.specs.RowState.{is_solved, row_point};
+ghost use Rattle.std.specs.Prelude.{◌≡◌, IfOk, length, map};
 ghost use Rattle.lq_decide.specs.Case.{fact_of};
 ghost use Rattle.lq_decide.specs.CaseView.{case_of};
 ghost use Rattle.lq_decide.specs.Deciding.{Fits};
-ghost use Rattle.lq_decide.specs.Naming.{objects_of};
-ghost use Rattle.lq_decide.specs.Settled.{AgreeOnFlags, AreValuesOf, HasClasses, HasFlags, IsSettled};
-ghost use Rattle.lq_linear.specs.Steps.{valuation_of};
-ghost use Rattle.lq_pred.specs.TableView.{terms_of};
+ghost use Rattle.lq_decide.specs.Settled.{AgreeOnFlags, AreValuesOf, HasFlags, IsSettled};
+ghost use Rattle.lq_equating.specs.Naming.{objects_of};
 
 use crate::fact::Fact;
 use crate::literals::Literals;
-use crate::object_table::ObjectTable;
 use indexmap::IndexMap;
 use lq_case::PathState;
-use lq_num::Frac;
+use lq_equating::{ObjectTable, object_classes, term_values};
 use lq_point::PointValues;
-use lq_pred::{Symbol, Term, TermTable};
+use lq_pred::Symbol;
 use std::alloc::{AllocError, Global};
-
-/// A number for each term of a table.
-fn term_values(alloc: Global, table: &TermTable, state: &PathState) -> Result<Vec<Frac>, AllocError>
-    requires { is_solved state.now.rows ≡ true }
-    ensures count { IfOk result (λ numbers. length numbers.items ≡ length (terms_of table.now)) }
-    ensures each { IfOk result (λ numbers. (k : ℕ) → k < length (terms_of table.now)
-        → valuation_of numbers.items k ≡ row_point state.now.rows k) }
-{
-    let mut numbers = Vec::new(alloc);
-    for term in 0..table.len() {
-        numbers.push(state.value(term))?;
-    }
-    Ok(numbers)
-}
 
 /// The truth values that literals give to flags.
 fn flag_values(alloc: Global, facts: &[Fact]) -> Result<IndexMap<Symbol, bool>, AllocError>
@@ -45,23 +27,6 @@ fn flag_values(alloc: Global, facts: &[Fact]) -> Result<IndexMap<Symbol, bool>, 
         }
     }
     Ok(flags)
-}
-
-/// The class of each object.
-fn object_classes(
-    alloc: Global,
-    objects: &ObjectTable,
-    classes: &[u64],
-) -> Result<IndexMap<Term, u64>, AllocError>
-    requires { length classes.now ≡ length (objects_of objects.now) }
-    ensures { IfOk result (λ made. HasClasses (objects_of objects.now) classes.now made.entries) }
-{
-    let mut made = IndexMap::new(alloc);
-    for object in 0..objects.len() {
-        let term = objects.object(object).copy(alloc)?;
-        made.insert(term, classes[object])?;
-    }
-    Ok(made)
 }
 
 /// The values of the terms, flags and objects of a case, by a state that took its literals.

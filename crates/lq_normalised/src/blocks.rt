@@ -27,7 +27,8 @@ fn constant(alloc: Global, id: u32, place: Place, on: bool) -> Block
     }
 }
 
-fn choice_node(
+// An `if` of a condition and two blocks.
+pub(crate) fn choice_node(
     id: u32,
     place: Place,
     condition: Atom,
@@ -40,8 +41,8 @@ fn choice_node(
     Normal::operation(id, place, OperationNode::If(condition, then, otherwise))
 }
 
-// `a && b` is `if a then b else false`, and `a || b` is `if a then true else b`.
-pub(crate) fn choice_of(
+/// `a && b` is `if a then b else false`, and `a || b` is `if a then true else b`.
+pub fn choice_of(
     alloc: Global,
     id: u32,
     place: Place,
@@ -71,8 +72,8 @@ pub(crate) fn choice_of(
     }
 }
 
-// A body that matches its parameter with a pattern.
-pub(crate) fn matched(
+/// A body that matches its parameter with a pattern.
+pub fn matched(
     alloc: Global,
     local: Local,
     pattern: Pat<Binder>,
@@ -105,8 +106,8 @@ fn cell_node(
 }
 
 impl Pass {
-    // A list literal: from the last item on, each tail is bound.
-    pub(crate) fn literal(
+    /// A list literal: from the last item on, each tail is bound.
+    pub fn literal(
         &mut self,
         id: u32,
         place: Place,

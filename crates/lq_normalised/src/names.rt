@@ -14,8 +14,8 @@ use lq_tree::Expr;
 use std::alloc::AllocError;
 
 impl Pass {
-    // The next made name.
-    pub(crate) fn make_name(&mut self) -> Result<Binder, AllocError>
+    /// The next made name.
+    pub fn make_name(&mut self) -> Result<Binder, AllocError>
         ensures name { IfOk result (λ x. x.0 ≡ self.old.next) }
         ensures next { OnOk result (self.new.next ≡ self.old.next + 1) }
         ensures lets { OnOk result (lets_of self.new ≡ lets_of self.old) }
@@ -30,7 +30,8 @@ impl Pass {
         }
     }
 
-    pub(crate) fn bind(
+    /// A binding behind the others.
+    pub fn bind(
         &mut self,
         id: u32,
         place: Place,
@@ -49,8 +50,8 @@ impl Pass {
         Ok(())
     }
 
-    // An operation bound to the next made name, and that name.
-    pub(crate) fn bind_made(
+    /// An operation bound to the next made name, and that name.
+    pub fn bind_made(
         &mut self,
         id: u32,
         place: Place,
@@ -64,13 +65,8 @@ impl Pass {
         Ok(binder)
     }
 
-    // The same, and a use of that name.
-    pub(crate) fn name(
-        &mut self,
-        id: u32,
-        place: Place,
-        value: Operation,
-    ) -> Result<Atom, AllocError>
+    /// The same, and a use of that name.
+    pub fn name(&mut self, id: u32, place: Place, value: Operation) -> Result<Atom, AllocError>
         ensures { IfOk result (λ a. became_atom self.new a false
             ≡ formed.named id place (settled_as self.old value)) }
     {
@@ -82,12 +78,8 @@ impl Pass {
         })
     }
 
-    // What an operand became: what can't stand as one is bound.
-    pub(crate) fn operand(
-        &mut self,
-        part: &Expr<Binder>,
-        normal: Normal,
-    ) -> Result<Atom, AllocError>
+    /// What an operand became: what can't stand as one is bound.
+    pub fn operand(&mut self, part: &Expr<Binder>, normal: Normal) -> Result<Atom, AllocError>
         ensures { IfOk result (λ a. became_atom self.new a (is_pure_normal normal)
             ≡ formed.operand (scoped_view part.now) (became self.old normal)) }
     {

@@ -1,7 +1,7 @@
 // What an expression became, and the nodes that are made of it.
 ghost use Rattle.std.specs.Prelude.{◌≡◌, false, IfOk};
 ghost use Rattle.lq_block.specs.AtomView.{atom_view, atom_node_view, operator_of};
-ghost use Rattle.lq_block.specs.BlockView.{operation_view, operation_node_view, quotient_of};
+ghost use Rattle.lq_block.specs.BlockView.{block_view, operation_view, operation_node_view, quotient_of};
 ghost use Rattle.lq_name.specs.declared.name.Binder.{Binder};
 ghost use Rattle.lq_tree.specs.Tree.{tree, arithmetic};
 ghost use Rattle.lq_walk.specs.View.{leaf_view, one_view, two_view, three_view};
@@ -9,27 +9,30 @@ ghost use Rattle.lq_normalised.specs.Forming as formed;
 ghost use Rattle.lq_normalised.specs.Forming.{arithmetic_node, is_choice, is_connective, one_node, two_node, three_node};
 ghost use Rattle.lq_normalised.specs.Views.{shown, last_view, is_pure_normal};
 
+use crate::blocks::choice_node;
 use crate::value::Normal;
-use lq_block::{Atom, AtomNode, Operation, OperationNode, Quotient, RingOp};
+use lq_block::{Atom, AtomNode, Block, Operation, OperationNode, Quotient, RingOp};
 use lq_name::{ArithOp, Binder, Place};
 use lq_walk::{Leaf, One, Three, Two};
 use std::alloc::{AllocError, Global};
 
 impl Normal {
-    pub(crate) fn atom(id: u32, place: Place, pure: bool, node: AtomNode) -> Normal
+    /// A pure expression.
+    pub fn atom(id: u32, place: Place, pure: bool, node: AtomNode) -> Normal
         ensures { shown result ≡ formed.stands_as pure (tree id place (atom_node_view node)) }
     {
         Normal::Atom(Atom { id, place, node }, pure)
     }
 
-    pub(crate) fn operation(id: u32, place: Place, node: OperationNode) -> Normal
+    /// Another operation.
+    pub fn operation(id: u32, place: Place, node: OperationNode) -> Normal
         ensures { shown result ≡ formed.operates_as (tree id place (operation_node_view node)) }
     {
         Normal::Operation(Operation { id, place, node })
     }
 
-    // A node without parts. A name with a dot stands in no scoped program; what stands for it fails.
-    pub(crate) fn leaf(id: u32, place: Place, leaf: Leaf<Binder>) -> Normal
+    /// A node without parts. A name with a dot stands in no scoped program; what stands for it fails.
+    pub fn leaf(id: u32, place: Place, leaf: Leaf<Binder>) -> Normal
         ensures { shown result ≡ formed.leaf id place (leaf_view Binder (λ b. b.0) leaf) }
     {
         match leaf {
@@ -44,7 +47,8 @@ impl Normal {
         }
     }
 
-    pub(crate) fn is_pure(&self) -> bool
+    /// Whether the expression is pure as it is written.
+    pub fn is_pure(&self) -> bool
         ensures { result ≡ is_pure_normal self.now }
     {
         match self {
@@ -53,7 +57,8 @@ impl Normal {
         }
     }
 
-    pub(crate) fn into_operation(self) -> Operation
+    /// The operation that it is.
+    pub fn into_operation(self) -> Operation
         ensures { operation_view result ≡ last_view self }
     {
         match self {
@@ -78,8 +83,8 @@ fn ring(
     Ok(Normal::atom(id, place, pure, AtomNode::Ring(op, left, right)))
 }
 
-// An arithmetic operation on operands, of which it is said whether they are pure as they are written.
-pub(crate) fn arithmetic(
+/// An arithmetic operation on operands, of which it is said whether they are pure as they are written.
+pub fn arithmetic(
     alloc: Global,
     id: u32,
     place: Place,
@@ -105,8 +110,8 @@ fn divide(id: u32, place: Place, quotient: Quotient, left: Atom, right: Atom) ->
     Normal::operation(id, place, OperationNode::Divide(quotient, left, right))
 }
 
-// A node over one operand.
-pub(crate) fn one_node(
+/// A node over one operand.
+pub fn one_node(
     alloc: Global,
     id: u32,
     place: Place,
@@ -126,8 +131,8 @@ pub(crate) fn one_node(
     })
 }
 
-// A node over two operands.
-pub(crate) fn two_node(
+/// A node over two operands.
+pub fn two_node(
     alloc: Global,
     id: u32,
     place: Place,
@@ -168,18 +173,40 @@ fn both_boxed(alloc: Global, left: Atom, right: Atom) -> Result<(Box<Atom>, Box<
     Ok((left, right))
 }
 
-// A node over three operands. A choice is none.
-pub(crate) fn three_node(id: u32, place: Place, head: Three, a: Atom, b: Atom, c: Atom) -> Normal
-    ensures { is_choice (three_view head) ≡ false → shown result ≡ three_node (three_view head) id place (atom_view a) (atom_view b) (atom_view c) }
+// A block of a pure expression alone.
+fn alone(alloc: Global, atom: Atom) -> Result<Box<Block>, AllocError>
+    ensures { IfOk result (λ b. block_view b.value ≡ atom_view atom) }
 {
-    let node = match head {
-        Three::MapAdd => OperationNode::MapAdd(a, b, c),
-        Three::If | Three::Store => OperationNode::Store(a, b, c),
-    };
-    Normal::operation(id, place, node)
+    let last = atom.into_operation();
+    let bindings = Vec::new(alloc);
+    Ok(Box::new(alloc, Block { bindings, last })?)
 }
 
-pub(crate) fn is_choice(head: Three) -> bool
+/// A node over three operands: an `if` among them, whose branches are pure.
+pub fn three_node(
+    alloc: Global,
+    id: u32,
+    place: Place,
+    head: Three,
+    a: Atom,
+    b: Atom,
+    c: Atom,
+) -> Result<Normal, AllocError>
+    ensures { IfOk result (λ n. shown n ≡ three_node (three_view head) id place (atom_view a) (atom_view b) (atom_view c)) }
+{
+    match head {
+        Three::MapAdd => Ok(Normal::operation(id, place, OperationNode::MapAdd(a, b, c))),
+        Three::Store => Ok(Normal::operation(id, place, OperationNode::Store(a, b, c))),
+        Three::If => {
+            let then = alone(alloc, b)?;
+            let otherwise = alone(alloc, c)?;
+            Ok(choice_node(id, place, a, then, otherwise))
+        }
+    }
+}
+
+/// Whether a head is `if`.
+pub fn is_choice(head: Three) -> bool
     ensures { result ≡ is_choice (three_view head) }
 {
     match head {
@@ -188,8 +215,8 @@ pub(crate) fn is_choice(head: Three) -> bool
     }
 }
 
-// Whether a head is `&&` or `||`.
-pub(crate) fn is_connective(head: Two) -> bool
+/// Whether a head is `&&` or `||`.
+pub fn is_connective(head: Two) -> bool
     ensures { result ≡ is_connective (two_view head) }
 {
     match head {

@@ -51,8 +51,8 @@ impl Pass {
         Ok(named)
     }
 
-    // The pattern of an arm: a `_` that is the whole of it stays.
-    pub(crate) fn name_pattern(&mut self, pattern: &Pat<Binder>) -> Result<Pat<Binder>, AllocError>
+    /// The pattern of an arm: a `_` that is the whole of it stays.
+    pub fn name_pattern(&mut self, pattern: &Pat<Binder>) -> Result<Pat<Binder>, AllocError>
         ensures named { IfOk result (λ q. named_as self.new q
             ≡ named_pattern self.old.next (pat_view Binder (λ b. b.0) pattern.now)) }
         ensures lets { OnOk result (lets_of self.new ≡ lets_of self.old) }
@@ -66,8 +66,8 @@ impl Pass {
         }
     }
 
-    // A parameter, which is a made name where it is none, and the pattern that its body matches it with, where it has parts.
-    pub(crate) fn parameter(
+    /// A parameter, which is a made name where it is none, and the pattern that its body matches it with, where it has parts.
+    pub fn parameter(
         &mut self,
         pattern: &Pat<Binder>,
     ) -> Result<(Local, Option<Pat<Binder>>), AllocError>

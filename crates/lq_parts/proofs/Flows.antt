@@ -19,7 +19,7 @@ use Rattle.lq_parts.specs.Flowing.{Selection, picked, assigned, united, IsWithin
 abbrev Under : List Sum → List Sum → Type 0
 Under ts us = (x : Sum) → has_term ts x ≡ true → has_term us x ≡ true
 
-data Sublist : List Formula → List Formula → Type 0 where
+pub data Sublist : List Formula → List Formula → Type 0 where
   nil : Sublist [] []
   drop : {ps qs : List Formula} {q : Formula} → Sublist ps qs → Sublist ps (q ∷ qs)
   keep : {ps qs : List Formula} {q : Formula} → Sublist ps qs → Sublist (q ∷ ps) (q ∷ qs)
@@ -147,7 +147,7 @@ all_joined_terms ts [] = refl
 all_joined_terms ts (q ∷ qs) = joined_terms ts q qs
 
 -- some negated reading is met
-abbrev MeetsSome : Point → List Formula → Type 0
+abbrev pub MeetsSome : Point → List Formula → Type 0
 MeetsSome p [] = ⊥
 MeetsSome p (q ∷ qs) = Meets p (reading_of false q) ⊎ MeetsSome p qs
 
@@ -168,11 +168,11 @@ joined_of_some p a (q ∷ qs) (inl x) = joined_of_some p (conjunction a q) qs (i
 joined_of_some p a (q ∷ qs) (inr (inl y)) = joined_of_some p (conjunction a q) qs (inl (inr (inl y)))
 joined_of_some p a (q ∷ qs) (inr (inr s)) = joined_of_some p (conjunction a q) qs (inr s)
 
-some_of : (p : Point) (qs : List Formula) → Meets p (reading_of false (all_joined qs)) → MeetsSome p qs
+pub some_of : (p : Point) (qs : List Formula) → Meets p (reading_of false (all_joined qs)) → MeetsSome p qs
 some_of p [] m = m
 some_of p (q ∷ qs) m = some_of_joined p q qs m
 
-of_some : (p : Point) (qs : List Formula) → MeetsSome p qs → Meets p (reading_of false (all_joined qs))
+pub of_some : (p : Point) (qs : List Formula) → MeetsSome p qs → Meets p (reading_of false (all_joined qs))
 of_some p [] s = s
 of_some p (q ∷ qs) s = joined_of_some p q qs s
 
@@ -181,7 +181,7 @@ each_of p _ _ nil m = tt
 each_of p _ _ (drop {ps = ps} {qs = qs} s) m = each_of p ps qs s m.1
 each_of p _ _ (keep {ps = ps} {qs = qs} s) m = (m.0, each_of p ps qs s m.1)
 
-sub_self : (ps : List Formula) → Sublist ps ps
+pub sub_self : (ps : List Formula) → Sublist ps ps
 sub_self [] = nil
 sub_self (p ∷ ps) = keep (sub_self ps)
 
@@ -192,7 +192,7 @@ sub_append (keep s) t = keep (sub_append s t)
 
 -- an implication with fewer hypotheses and a goal of fewer instances, valid, and a point of the larger one that meets
 -- the larger hypotheses meets each of the fewer instances
-fewer : (hs ks gs fs : List Formula) → Sublist hs ks → Sublist gs fs → IsValid record { hypotheses = hs; goal = all_joined gs } → (p : Point) → IsPoint record { hypotheses = ks; goal = all_joined fs } p → MeetsEach p ks → MeetsSome p gs → ⊥
+pub fewer : (hs ks gs fs : List Formula) → Sublist hs ks → Sublist gs fs → IsValid record { hypotheses = hs; goal = all_joined gs } → (p : Point) → IsPoint record { hypotheses = ks; goal = all_joined fs } p → MeetsEach p ks → MeetsSome p gs → ⊥
 fewer hs ks gs fs s t v p is m g =
     v p (λ a b h k. is a b (more a h) (more b k)) (each_of p hs ks s m) (of_some p gs g)
   where
@@ -324,7 +324,7 @@ false_true : false ≡ true → ⊥
 false_true h = cc
 
 -- what is chosen of the instances from k on
-picked_within : (f g : ℕ → Bool) (σ : Subst) (k : ℕ) (ps : List Formula) → ((n : ℕ) → k ≤ n → n < k + length ps → f n ≡ true → g n ≡ true)
+pub picked_within : (f g : ℕ → Bool) (σ : Subst) (k : ℕ) (ps : List Formula) → ((n : ℕ) → k ≤ n → n < k + length ps → f n ≡ true → g n ≡ true)
     → Sublist (map (formula_by σ) (picked f k ps)) (map (formula_by σ) (picked g k ps))
 picked_within f g σ k [] w = nil
 picked_within f g σ k (p ∷ ps) w =
@@ -337,7 +337,7 @@ picked_within f g σ k (p ∷ ps) w =
     by false false h s = s
 
 module _ (I : ℕ → List Formula) (d c : Selection) (within : IsWithin I d c) where
-  parts_within : (hs : Parts) → Sublist (parts_under (assigned I d) hs) (parts_under (assigned I c) hs)
+  pub parts_within : (hs : Parts) → Sublist (parts_under (assigned I d) hs) (parts_under (assigned I c) hs)
   parts_within [] = nil
   parts_within (known p ∷ hs) = keep (parts_within hs)
   parts_within (unknown u σ ∷ hs) = sub_append (picked_within (d u) (c u) σ 0 (I u) (λ n a b. within u n (omega (arith, b)))) (parts_within hs)

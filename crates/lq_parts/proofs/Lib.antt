@@ -2,3 +2,4 @@ pub mod Restricting
 pub mod Replacing
 pub mod Values
 pub mod Flows
+mod Refuting

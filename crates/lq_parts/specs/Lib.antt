@@ -6,4 +6,5 @@ pub mod Assignment
 pub mod Values
 pub mod Constraint
 pub mod Flowing
+pub mod Refuting
 pub mod Laws

@@ -1,5 +1,6 @@
 // Laws of the definitions. Nothing is run.
 ghost use Rattle.lq_parts.specs.Flowing.{FailingRefutes, FlowingIsStrongest, FlowingSolves, LargestExists, UnionMeets};
+ghost use Rattle.lq_parts.specs.Refuting.{OneIsRefuted, OthersStay, RefutedGo};
 ghost use Rattle.lq_parts.specs.Laws.{FormulaAfter, PartsAfter, UnderBy};
 ghost use Rattle.lq_parts.specs.Values.{TruthBy};
 
@@ -26,4 +27,14 @@ pub fn unions_of_selections()
     ensures solves { FlowingSolves }
     ensures strongest { FlowingIsStrongest }
     ensures refutes { FailingRefutes }
+{}
+
+/// At a point at which a flow fails under a selection, some chosen instance of its goal is refuted, and none that is belongs to a fewer
+/// selection that meets the flow. Where other unknowns change, an implication stays as it was.
+///
+/// This is the step of weakening of Rondon, Kawaguchi and Jhala (PLDI 2008), at a point of the whole implication.
+pub fn refuted_instances()
+    ensures one { OneIsRefuted }
+    ensures refuted { RefutedGo }
+    ensures others { OthersStay }
 {}

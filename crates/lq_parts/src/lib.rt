@@ -3,4 +3,4 @@
 
 mod laws;
 
-pub use laws::{substitutions, truth_under_substitution, unions_of_selections};
+pub use laws::{refuted_instances, substitutions, truth_under_substitution, unions_of_selections};

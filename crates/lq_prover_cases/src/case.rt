@@ -1,6 +1,7 @@
 // A case and its answer.
 use crate::error::CaseError;
-use crate::printing::{push_pred, push_symbol, push_term};
+use crate::printing::{push_past, push_pred, push_symbol, push_term};
+use crate::proving::{nodes_text, point_text, valid_text, within_text};
 use crate::reading::implication_of;
 use lq_literals::{applications, copy_implication, first_past, flags, objects};
 use lq_pred::Closed;
@@ -71,6 +72,9 @@ fn by_kind(alloc: Global, kind: &str, implication: &Closed) -> Result<String, Ca
         "flags" => Ok(flags_text(alloc, implication)?),
         "objects" => Ok(objects_text(alloc, implication)?),
         "applications" => Ok(applications_text(alloc, implication)?),
+        "valid" => valid_text(alloc, implication),
+        "nodes" => nodes_text(alloc, implication),
+        "point" => point_text(alloc, implication),
         _ => Err(CaseError::NotACase),
     }
 }
@@ -79,6 +83,9 @@ fn found(alloc: Global, line: &str) -> Result<String, CaseError> {
     let Some((kind, rest)) = line.split_once(' ') else {
         return Err(CaseError::NotACase);
     };
+    if kind == "within" {
+        return within_text(alloc, rest);
+    }
     let implication = implication_of(alloc, rest)?;
     let copied = copy_implication(alloc, &implication)?;
     by_kind(alloc, kind, &copied)
@@ -89,6 +96,12 @@ pub(crate) fn answer(alloc: Global, line: &str) -> Result<String, AllocError> {
     match found(alloc, line) {
         Ok(answer) => Ok(answer),
         Err(CaseError::NotACase) => String::from_str(alloc, "not a case"),
+        Err(CaseError::Ungathered) => String::from_str(alloc, "a row of the tree is past"),
+        Err(CaseError::Past(past)) => {
+            let mut out = String::from_str(alloc, "the check is past: ")?;
+            push_past(&mut out, &past)?;
+            Ok(out)
+        }
         Err(CaseError::Memory) => Err(AllocError),
     }
 }

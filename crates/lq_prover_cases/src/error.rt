@@ -1,4 +1,6 @@
 // Why a line has no answer.
+use lq_num::NumberPast;
+use lq_pred::GatherError;
 use std::alloc::{AllocError, AllocFailed};
 
 /// Why a line has no answer.
@@ -6,6 +8,10 @@ use std::alloc::{AllocError, AllocFailed};
 pub(crate) enum CaseError {
     /// The line isn't a case.
     NotACase,
+    /// A row can't be gathered that a check asks for.
+    Ungathered,
+    /// An operation by which an answer is checked is past 128 bits.
+    Past(NumberPast),
     /// There is no memory.
     Memory,
 }
@@ -19,5 +25,28 @@ impl From<AllocError> for CaseError {
 impl<T: Drop> From<AllocFailed<T>> for CaseError {
     fn from(_e: AllocFailed<T>) -> CaseError {
         CaseError::Memory
+    }
+}
+
+impl From<GatherError> for CaseError {
+    fn from(e: GatherError) -> CaseError {
+        match e {
+            GatherError::Past => CaseError::Ungathered,
+            GatherError::Memory => CaseError::Memory,
+        }
+    }
+}
+
+impl From<NumberPast> for CaseError {
+    fn from(past: NumberPast) -> CaseError {
+        CaseError::Past(past)
+    }
+}
+
+/// What is there, or else the line isn't a case.
+pub(crate) fn given<T>(found: Option<T>) -> Result<T, CaseError> {
+    match found {
+        Some(x) => Ok(x),
+        None => Err(CaseError::NotACase),
     }
 }

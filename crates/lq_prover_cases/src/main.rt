@@ -2,9 +2,16 @@
 //! beside `src/` says how a case is written.
 #![tactic(auto)]
 
+mod applied;
 mod case;
+mod checking;
+mod clashes;
 mod error;
+mod meeting;
+mod nodes;
+mod path;
 mod printing;
+mod proving;
 mod reading;
 
 use case::answer;

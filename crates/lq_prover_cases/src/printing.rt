@@ -1,4 +1,5 @@
-// Terms and predicates as text, each operator behind its arguments.
+// Terms and predicates as text, each operator behind its arguments, and fractions.
+use lq_num::{Frac, NumOp, NumberPast};
 use lq_pred::{CompareOp, Pred, Symbol, Term};
 use std::alloc::AllocError;
 use std::fmt::Write;
@@ -64,4 +65,31 @@ pub(crate) fn push_pred(out: &mut String, pred: &Pred) -> Pushed {
         CompareOp::Gt => out.push_str(" >"),
         CompareOp::Ge => out.push_str(" >="),
     }
+}
+
+/// A fraction: its numerator, and its denominator where that isn't 1.
+pub(crate) fn push_fraction(out: &mut String, value: &Frac) -> Pushed {
+    let numer = value.numer();
+    let denom = value.denom();
+    write!(out, "{numer}")?;
+    if denom != 1 {
+        write!(out, "/{denom}")?;
+    }
+    Ok(())
+}
+
+/// An operation past 128 bits, with its operands.
+pub(crate) fn push_past(out: &mut String, past: &NumberPast) -> Pushed {
+    let name = match past.op {
+        NumOp::Add => "+",
+        NumOp::Sub => "-",
+        NumOp::Mul => "*",
+        NumOp::Div => "/",
+        NumOp::Neg => "neg",
+    };
+    out.push_str("number ")?;
+    push_fraction(out, &past.left)?;
+    out.push_str(" ")?;
+    push_fraction(out, &past.right)?;
+    write!(out, " {name}")
 }

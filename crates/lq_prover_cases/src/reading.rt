@@ -1,8 +1,9 @@
 // Implications as a case writes them: each operator behind its arguments, the hypotheses in order and the goal last.
-use crate::error::CaseError;
+use crate::error::{CaseError, given};
 use lq_name::{Binder, Name};
 use lq_pred::{Closed, CompareOp, Pred, Preds, Symbol, Term};
-use std::alloc::Global;
+use std::alloc::{AllocError, Global};
+use std::fmt::Write;
 
 // What was read so far and isn't part of anything yet.
 #[derive(Drop)]
@@ -129,6 +130,53 @@ impl Stacks {
         self.terms.push(term)?;
         Ok(())
     }
+
+    fn take_words(&mut self, text: &str) -> Result<(), CaseError> {
+        for word in text.split_whitespace() {
+            self.take(word)?;
+        }
+        Ok(())
+    }
+
+    // How often, and the words of a round.
+    fn take_rounds(&mut self, text: &str) -> Result<(), CaseError> {
+        let (count, words) = given(text.split_once(' '))?;
+        for round in 0..given(count.parse::<u32>().ok())? {
+            for word in words.split_whitespace() {
+                let word = word_in_round(self.alloc, word, round)?;
+                self.take(word.as_str())?;
+            }
+        }
+        Ok(())
+    }
+
+    // A text in which rounds stand between `repeat` and `end`.
+    fn take_text(&mut self, text: &str) -> Result<(), CaseError> {
+        for (at, piece) in text.split("repeat ").enumerate() {
+            if at == 0 {
+                self.take_words(piece)?;
+            } else {
+                let (rounds, rest) = given(piece.split_once(" end"))?;
+                self.take_rounds(rounds)?;
+                self.take_words(rest)?;
+            }
+        }
+        Ok(())
+    }
+}
+
+// A word with the number of the round in place of `@`, and the number behind it in place of `@+`.
+fn word_in_round(alloc: Global, word: &str, round: u32) -> Result<String, AllocError> {
+    let mut out = String::new(alloc);
+    match word.split_once('@') {
+        None => out.push_str(word)?,
+        Some((front, "+")) => {
+            let next = round.saturating_add(1);
+            write!(out, "{front}{next}")?;
+        }
+        Some((front, back)) => write!(out, "{front}{round}{back}")?,
+    }
+    Ok(out)
 }
 
 /// The implication of a text.
@@ -138,9 +186,7 @@ pub(crate) fn implication_of(alloc: Global, text: &str) -> Result<Closed, CaseEr
         terms: Vec::new(alloc),
         preds: Vec::new(alloc),
     };
-    for word in text.split_whitespace() {
-        stacks.take(word)?;
-    }
+    stacks.take_text(text)?;
     if !stacks.terms.is_empty() {
         return Err(CaseError::NotACase);
     }

@@ -1,25 +1,29 @@
 -- Pairs of one application after the other.
-use Rattle.std.proofs.Common.{◌≡◌, ◌∙◌, ◌⊎◌, inl, inr, Bool, true, false, ℕ, zero, suc, ◌+◌, ◌<◌, ◌≤◌, List, [], ◌∷◌, ◌++◌, Option, Some, None, All, IfNone, IfSome, slice_get, slice_index_or, length, refl, sym, ap, subst, arith, nat_le}
+use Rattle.std.proofs.Common.{◌≡◌, ◌∙◌, ◌⊎◌, inl, inr, Bool, true, false, ℕ, zero, suc, ◌+◌, ◌<◌, ◌≤◌, List, [], ◌∷◌, ◌++◌, Option, Some, None, All, IfNone, IfSome, cond, if◌then◌else◌, map, slice_get, slice_index_or, take, length, refl, sym, ap, subst, add-one, arith, nat_le}
 use Rattle.std.proofs.lemmas.Bool.Decides.{nat_tests}
 use Rattle.std.specs.List.{filter}
 use Rattle.std.specs.Option.{option_to_list}
 use Rattle.std.proofs.lemmas.List.{append-nil}
 use Rattle.std.proofs.lemmas.List.Elements.{All-nil, All-push, Contains-append_left, Contains-push}
 use Rattle.lq_combine.specs.Proves.{ApplyTwo, five_ways}
+use Rattle.lq_literals.specs.Gathered.{sizes}
 use Rattle.lq_literals.specs.Parts.{is_application, places_from}
 use Rattle.lq_point.proofs.Walks.{pair_fits}
 use Rattle.lq_point.specs.Agreeing.{HasAllArguments}
 use Rattle.lq_pred.specs.Comparison.{CanGather}
-use Rattle.lq_pred.specs.Literals.{all_pairs}
+use Rattle.lq_pred.specs.Literals.{all_pairs, pair_rows}
 use Rattle.lq_pred.specs.NnfView.{nnfs_view}
 use Rattle.lq_pred.specs.Numbering.{slice_get-has_term}
 use Rattle.lq_pred.specs.Sum.{Sum}
 use Rattle.lq_pred.specs.TermView.{sum_of}
 use Rattle.lq_search.specs.Operations.{operation_of, operation_view}
-use Rattle.lq_search.specs.Pairs.{AreAllPairs, ArePairsUpTo, AreWays, CanPair, HasPair, IsNumbered, IsOperationAt, IsPair, application_at}
+use Rattle.lq_search.specs.Pairs.{AreAllPairs, AreOrdered, ArePairsUpTo, AreWays, CanPair, HasPair, IsNumbered, IsOperationAt, IsPair, application_at}
+use Rattle.lq_search.specs.SearchPath.{ways_of}
+use Rattle.lq_search.specs.Sizes.{most_of_any, most_of_each, row_size}
 use Rattle.lq_search.specs.declared.applied.Operation.{Operation}
 use Rattle.lq_search.specs.declared.pair.Pair.{Pair}
 use Rattle.lq_search.proofs.Operations.{IsApplied, applied_is, applied_numbered, apply_two, one_operator, operates, operators_one, two_fit}
+use Rattle.lq_search.proofs.PairSizes.{all_pairs-push, all_pairs_more, before, before-push, before_more, pair_size, pairs_filtered, take_next, take_past}
 use Rattle.lq_search.proofs.Places.{place_at, place_rises, places_reach}
 
 some_once : {A : Type 0} (x y : A) → Some x ≡ Some y → x ≡ y
@@ -135,12 +139,21 @@ no_two terms j k o q i l differ s a b t c d h g w =
 
 -- ---- one pair after the other
 
+abbrev ways_most : List Pair → ℕ
+ways_most pairs = most_of_each (map (λ pair. nnfs_view pair.ways) pairs)
+
+ways_most-push : (pairs : List Pair) (pair : Pair) → ways_most (pairs ++ pair ∷ []) ≡ ways_most pairs + most_of_any row_size (nnfs_view pair.ways)
+ways_most-push [] pair = omega arith
+ways_most-push (x ∷ pairs) pair = let k = ways_most-push pairs pair in omega (arith, k)
+
 -- the pairs up to an application, and those of it with the first n before it
 pub record IsAlong (terms table : List Sum) (start : List Pair) (right n : ℕ) (pairs : List Pair) : Type 0 where
   pub same : table ≡ terms
   pub keeps : (i j : ℕ) → HasPair start i j → HasPair pairs i j
   pub each : All (IsPair terms) start → All (IsPair terms) pairs
   pub all : (i : ℕ) (s a b t c d : Sum) → i ≤ n → application_at terms i s → application_at terms (suc right) t → ApplyTwo s a b t c d → HasPair pairs i (suc right)
+  pub ordered : AreOrdered start → AreOrdered pairs
+  pub sizes_are : (t : Sum) → application_at terms (suc right) t → ways_most pairs ≤ ways_most start + before t (take n (filter is_application terms))
 
 pub along_start : (terms table : List Sum) (start : List Pair) (right : ℕ) → table ≡ terms → IsAlong terms table start right 0 start
 along_start terms table start right e = record {
@@ -148,6 +161,8 @@ along_start terms table start right e = record {
   keeps = λ i j h. h;
   each = λ h. h;
   all = λ i s a b t c d w h g k. absurd (none i s w h);
+  ordered = λ h. h;
+  sizes_are = λ t h. omega arith;
 }
   where
     none : (i : ℕ) (s : Sum) → i ≤ 0 → application_at terms i s → ⊥
@@ -164,13 +179,28 @@ first_or_next i n h = by (nat_le i n) refl
 has_more : (pairs : List Pair) (pair : Pair) (i j : ℕ) → HasPair pairs i j → HasPair (pairs ++ pair ∷ []) i j
 has_more pairs pair i j h = record { pair = h.pair; among = Contains-append_left pairs (pair ∷ []) h.pair h.among; is_left = h.is_left; is_right = h.is_right }
 
-pub along_pair : (terms table new : List Sum) (start : List Pair) (right n : ℕ) (pairs : List Pair) (pair : Pair) → IsAlong terms table start right n pairs → new ≡ terms
+-- the application behind the first n, and its size with the last one
+more_before : (terms : List Sum) (n : ℕ) (s t : Sum) → application_at terms (suc n) s
+    → before t (take (n + 1) (filter is_application terms)) ≡ before t (take n (filter is_application terms)) + sizes (pair_rows s t)
+more_before terms n s t h =
+    ap (λ k. before t (take k (filter is_application terms))) (add-one n) ∙ ap (before t) (take_next (filter is_application terms) n s h)
+    ∙ before-push t (take n (filter is_application terms)) s
+
+pub along_pair : (terms table new : List Sum) (start : List Pair) (right n : ℕ) (pairs : List Pair) (pair : Pair) → n < right → IsAlong terms table start right n pairs → new ≡ terms
     → IsPair terms pair → pair.left ≡ n + 1 → pair.right ≡ right + 1 → IsAlong terms new start right (n + 1) (pairs ++ pair ∷ [])
-along_pair terms table new start right n pairs pair a e is f g = record {
+along_pair terms table new start right n pairs pair less a e is f g = record {
   same = e;
   keeps = λ i j h. has_more pairs pair i j (a.keeps i j h);
   each = λ h. All-push (IsPair terms) pairs pair (a.each h) is;
   all = λ i s x y t z w l h k m. by i s x y t z w (first_or_next i n l) h k m;
+  ordered = λ h. All-push (λ (x : Pair). x.left < x.right) pairs pair (a.ordered h) (omega (arith, f, g, less));
+  sizes_are = λ t h.
+      let left : pair.left ≡ suc n = omega (arith, f) in let rights : pair.right ≡ suc right = omega (arith, g) in
+      let first : application_at terms (suc n) is.first = subst (λ k. application_at terms k is.first) left is.is_first in
+      let second : application_at terms (suc right) is.second = subst (λ k. application_at terms k is.second) rights is.is_second in
+      let last : is.second ≡ t = some_once is.second t (sym second ∙ h) in
+      let k = a.sizes_are t h in let m = ways_most-push pairs pair in let w = pair_size terms pair is in
+      let x = ap (λ z. sizes (pair_rows is.first z)) last in let y = more_before terms n is.first t first in omega (arith, k, m, w, x, y);
 }
   where
     by : (i : ℕ) (s x y t z w : Sum) → (i ≤ n) ⊎ (i ≡ suc n) → application_at terms i s → application_at terms (suc right) t → ApplyTwo s x y t z w
@@ -185,29 +215,40 @@ along_none terms table new start right n pairs a e none = record {
   keeps = a.keeps;
   each = a.each;
   all = λ i s x y t z w l h k m. by i s x y t z w (first_or_next i n l) h k m;
+  ordered = a.ordered;
+  sizes_are = λ t h. let k = a.sizes_are t h in let w = before_more t (filter is_application terms) n in omega (arith, k, w);
 }
   where
     by : (i : ℕ) (s x y t z w : Sum) → (i ≤ n) ⊎ (i ≡ suc n) → application_at terms i s → application_at terms (suc right) t → ApplyTwo s x y t z w → HasPair pairs i (suc right)
     by i s x y t z w (inl l) h k m = a.all i s x y t z w l h k m
     by i s x y t z w (inr l) h k m = absurd (none s x y t z w (subst (λ q. application_at terms q s) l h) k m)
 
-pub along_next : (terms table new : List Sum) (start : List Pair) (right n : ℕ) (pairs more : List Pair) (found : Option Pair) → IsAlong terms table start right n pairs → new ≡ terms
+pub along_next : (terms table new : List Sum) (start : List Pair) (right n : ℕ) (pairs more : List Pair) (found : Option Pair) → n < right → IsAlong terms table start right n pairs → new ≡ terms
     → IfSome found (λ pair. IsPair terms pair × (pair.left ≡ n + 1) × (pair.right ≡ right + 1))
     → IfNone found ((s a b t c d : Sum) → application_at terms (suc n) s → application_at terms (suc right) t → ApplyTwo s a b t c d → ⊥)
     → more ≡ pairs ++ option_to_list found → IsAlong terms new start right (n + 1) more
-along_next terms table new start right n pairs more None a e i h m =
+along_next terms table new start right n pairs more None less a e i h m =
     subst (IsAlong terms new start right (n + 1)) (sym (m ∙ append-nil pairs)) (along_none terms table new start right n pairs a e h)
-along_next terms table new start right n pairs more (Some pair) a e i h m =
-    subst (IsAlong terms new start right (n + 1)) (sym m) (along_pair terms table new start right n pairs pair a e i.0 i.1 i.2)
+along_next terms table new start right n pairs more (Some pair) less a e i h m =
+    subst (IsAlong terms new start right (n + 1)) (sym m) (along_pair terms table new start right n pairs pair less a e i.0 i.1 i.2)
 
 -- ---- one application after the other
 
 pub upto_start : (terms : List Sum) → ArePairsUpTo terms 0 []
-upto_start terms = record { each = All-nil (IsPair terms); all = λ i j s a b t c d w l h g k. absurd (omega (arith, w, l)) }
+upto_start terms = record { each = All-nil (IsPair terms); ordered = All-nil (λ (x : Pair). x.left < x.right); sizes_are = omega arith; all = λ i j s a b t c d w l h g k. absurd (omega (arith, w, l)) }
 
-pub upto_next : (terms table : List Sum) (start : List Pair) (right n : ℕ) (pairs : List Pair) → IsAlong terms table start right n pairs → right ≤ n → ArePairsUpTo terms right start
-    → ArePairsUpTo terms (suc right) pairs
-upto_next terms table start right n pairs a w u = record { each = a.each u.each; all = λ i j s x y t z v k l h g m. by i j s x y t z v k (first_or_next j right (omega (arith, l))) h g m }
+pub upto_next : (terms table : List Sum) (start : List Pair) (right n : ℕ) (last : Sum) (pairs : List Pair) → application_at terms (suc right) last → IsAlong terms table start right n pairs
+    → right ≡ n → ArePairsUpTo terms right start → ArePairsUpTo terms (suc right) pairs
+upto_next terms table start right n last pairs here a w u = record {
+  each = a.each u.each;
+  all = λ i j s x y t z v k l h g m. by i j s x y t z v k (first_or_next j right (omega (arith, l))) h g m;
+  ordered = a.ordered u.ordered;
+  sizes_are =
+      let k = a.sizes_are last here in let m = u.sizes_are in
+      let x = ap (λ i. before last (take i (filter is_application terms))) w in
+      let y = ap (λ l. sizes (all_pairs l)) (take_next (filter is_application terms) right last here) in
+      let z = all_pairs-push (take right (filter is_application terms)) last in omega (arith, k, m, x, y, z);
+}
   where
     by : (i j : ℕ) (s x y t z v : Sum) → i < j → (j ≤ right) ⊎ (j ≡ suc right) → application_at terms i s → application_at terms j t → ApplyTwo s x y t z v → HasPair pairs i j
     by i j s x y t z v k (inl l) h g m = a.keeps i j (u.all i j s x y t z v k l h g m)
@@ -216,11 +257,33 @@ upto_next terms table start right n pairs a w u = record { each = a.each u.each;
 
 pub upto_skip : (terms : List Sum) (right : ℕ) (pairs : List Pair) → ((s a b t c d : Sum) → application_at terms (suc right) t → ApplyTwo s a b t c d → ⊥) → ArePairsUpTo terms right pairs
     → ArePairsUpTo terms (suc right) pairs
-upto_skip terms right pairs none u = record { each = u.each; all = λ i j s x y t z v k l h g m. by i j s x y t z v k (first_or_next j right (omega (arith, l))) h g m }
+upto_skip terms right pairs none u = record {
+  each = u.each;
+  all = λ i j s x y t z v k l h g m. by i j s x y t z v k (first_or_next j right (omega (arith, l))) h g m;
+  ordered = u.ordered;
+  sizes_are = let k = u.sizes_are in let w = all_pairs_more (filter is_application terms) right in omega (arith, k, w);
+}
   where
     by : (i j : ℕ) (s x y t z v : Sum) → i < j → (j ≤ right) ⊎ (j ≡ suc right) → application_at terms i s → application_at terms j t → ApplyTwo s x y t z v → HasPair pairs i j
     by i j s x y t z v k (inl l) h g m = u.all i j s x y t z v k l h g m
     by i j s x y t z v k (inr l) h g m = absurd (none s x y t z v (subst (λ q. application_at terms q t) l g) m)
+
+pub upto_ordered : (terms : List Sum) (n : ℕ) (pairs : List Pair) → ArePairsUpTo terms n pairs → AreOrdered pairs
+upto_ordered terms n pairs u = u.ordered
+
+length_places : (n : ℕ) (ts : List Sum) → length (places_from n ts) ≡ length (filter is_application ts)
+length_places n [] = refl
+length_places n (t ∷ ts) = by (length_places (suc n) ts) (is_application t)
+  where
+    by : length (places_from (suc n) ts) ≡ length (filter is_application ts) → (b : Bool)
+        → length (if b then n ∷ places_from (suc n) ts else places_from (suc n) ts) ≡ length (cond b (t ∷ filter is_application ts) (filter is_application ts))
+    by k true = ap suc k
+    by k false = k
+
+pub upto_sizes : (terms : List Sum) (n : ℕ) (pairs : List Pair) → length (places_from 0 terms) ≤ n → ArePairsUpTo terms n pairs → most_of_each (ways_of pairs) ≤ sizes (all_pairs terms)
+upto_sizes terms n pairs w u =
+    let e = length_places 0 terms in let k = u.sizes_are in let f = pairs_filtered terms in
+    let x = ap (λ l. sizes (all_pairs l)) (take_past (filter is_application terms) n (omega (arith, w, e))) in omega (arith, k, f, x)
 
 pub upto_end : (terms : List Sum) (n : ℕ) (pairs : List Pair) → length (places_from 0 terms) ≤ n → ArePairsUpTo terms n pairs → AreAllPairs terms pairs
 upto_end terms n pairs w u = record { each = u.each; all = λ i j s a b t c d k h g m. u.all i j s a b t c d k (within j t g) h g m }

@@ -4,3 +4,14 @@ pub mod Places
 pub mod Along
 pub mod Added
 pub mod Splitting
+pub mod Weights
+pub mod Within
+pub mod Taken
+pub mod Ready
+pub mod Settled
+pub mod Nodes
+pub mod Steps
+pub mod Sizes
+pub mod Stops
+pub mod Reaching
+pub mod PairSizes

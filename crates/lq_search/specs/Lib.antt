@@ -1,3 +1,9 @@
 pub mod Operations
+pub mod Sizes
 pub mod Pairs
 pub mod Splits
+pub mod Scope
+pub mod Parts
+pub mod SearchPath
+pub mod Stopping
+pub mod Branches

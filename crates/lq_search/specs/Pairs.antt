@@ -1,18 +1,20 @@
 -- Two applications of one operation, and the ways in which they stand as readings.
-use Rattle.std.specs.Prelude.{◌≡◌, ◌<◌, ◌≤◌, ℕ, List, [], ◌∷◌, Some, All, Contains, map, slice_get}
+use Rattle.std.specs.Prelude.{◌≡◌, ◌<◌, ◌≤◌, ℕ, List, [], ◌∷◌, Some, All, Contains, map, slice_get, take}
 use Rattle.std.specs.List.{filter}
 use Rattle.lq_combine.specs.Path.{numbered_at}
 use Rattle.lq_combine.specs.Proves.{ApplyTwo, AreRowsOf, five_ways}
 use Rattle.lq_linear.specs.Row.{Row}
+use Rattle.lq_literals.specs.Gathered.{sizes}
 use Rattle.lq_literals.specs.Parts.{is_application, places_from}
 use Rattle.lq_pred.specs.Comparison.{CanGather, Comparison, IsRowOf}
-use Rattle.lq_pred.specs.Literals.{below_row, equal_row}
+use Rattle.lq_pred.specs.Literals.{all_pairs, below_row, equal_row}
 use Rattle.lq_pred.specs.NnfView.{nnfs_view, readings_of}
 use Rattle.lq_pred.specs.Reading.{Reading, row, all_of, Readings, none, more}
 use Rattle.lq_pred.specs.Sum.{Sum}
 use Rattle.lq_pred.specs.Table.{numbered}
 use Rattle.lq_pred.specs.TermView.{sum_of}
 use Rattle.lq_search.specs.Operations.{operation_of}
+use Rattle.lq_search.specs.Sizes.{most_of_each}
 use Rattle.lq_search.specs.declared.applied.Operation.{Operation}
 use Rattle.lq_search.specs.declared.pair.Pair.{Pair}
 
@@ -91,9 +93,16 @@ pub record IsOperationAt (terms : List Sum) (k : ℕ) (o : Operation) : Type 0 w
   pub here : slice_get terms place ≡ Some (sum_of o.term.now)
   pub is : operation_of (sum_of o.term.now) ≡ Some (o.operator, sum_of o.left.now, sum_of o.right.now)
 
--- each is a pair, and each two applications of one of `*`, `/` and `mod` are there, the later one among the first n
+-- the first application of each pair is the earlier one
+abbrev pub AreOrdered : List Pair → Type 0
+AreOrdered pairs = All (λ pair. pair.left < pair.right) pairs
+
+-- each is a pair, and each two applications of one of `*`, `/` and `mod` are there, the later one among the first n; of each pair one way
+-- adds no more, in all, than the sizes of the rows on the first n
 pub record ArePairsUpTo (terms : List Sum) (n : ℕ) (pairs : List Pair) : Type 0 where
   pub each : All (IsPair terms) pairs
+  pub ordered : AreOrdered pairs
+  pub sizes_are : most_of_each (map (λ pair. nnfs_view pair.ways) pairs) ≤ sizes (all_pairs (take n (filter is_application terms)))
   pub all : (i j : ℕ) (s a b t c d : Sum) → i < j → j ≤ n → application_at terms i s → application_at terms j t → ApplyTwo s a b t c d → HasPair pairs i j
 
 -- each is a pair, and each two applications of one of `*`, `/` and `mod` are there

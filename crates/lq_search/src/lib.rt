@@ -2,17 +2,27 @@
 #![tactic(auto)]
 
 mod applied;
+mod branch;
 mod counting;
+mod givens;
 mod laws;
+mod open;
 mod opening;
 mod pair;
 mod pairs;
+mod parts;
+mod search_path;
+mod searching;
 mod sparing;
+mod taking;
 mod ways;
 
 pub use counting::{Counts, count_added};
-pub use laws::pairs_are_split_by_their_ways;
+pub use givens::Givens;
+pub use laws::{pairs_are_split_by_their_ways, settled_paths_are_met};
 pub use opening::first_open;
 pub use pair::Pair;
 pub use pairs::all_pairs;
+pub use search_path::SearchPath;
+pub use searching::{search, search_with};
 pub use sparing::without_reading;

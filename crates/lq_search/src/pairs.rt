@@ -1,14 +1,17 @@
 // All pairs of applications of one operator.
-ghost use Rattle.std.specs.Prelude.{◌≡◌, ◌<◌, ◌+◌, ◌++◌, suc, All, IfOk, IfNone, IfSome, OnOk, length};
+ghost use Rattle.std.specs.Prelude.{◌≡◌, ◌<◌, ◌≤◌, ◌+◌, ◌++◌, suc, All, IfOk, IfNone, IfSome, OnOk, length};
 ghost use Rattle.std.specs.Option.{option_to_list};
 ghost use Rattle.lq_combine.specs.Proves.{ApplyTwo};
+ghost use Rattle.lq_literals.specs.Gathered.{sizes};
 ghost use Rattle.lq_literals.specs.Parts.{places_from};
 ghost use Rattle.lq_point.specs.Agreeing.{HasAllArguments};
 ghost use Rattle.lq_pred.specs.Comparison.{CanGather};
 ghost use Rattle.lq_pred.specs.Literals.{all_pairs as pair_literals};
 ghost use Rattle.lq_pred.specs.Sum.{Sum};
 ghost use Rattle.lq_pred.specs.TableView.{terms_of};
-ghost use Rattle.lq_search.specs.Pairs.{ArePairsUpTo, AreAllPairs, IsOperationAt, IsPair, application_at};
+ghost use Rattle.lq_search.specs.Pairs.{AreAllPairs, AreOrdered, ArePairsUpTo, IsOperationAt, IsPair, application_at};
+ghost use Rattle.lq_search.specs.SearchPath.{ways_of};
+ghost use Rattle.lq_search.specs.Sizes.{most_of_each};
 
 use crate::applied::{Operation, applied, is_same};
 use crate::pair::Pair;
@@ -104,6 +107,8 @@ pub fn all_pairs(
     requires table { terms_of table.old ≡ terms_of terms.now }
     ensures same { OnOk result (terms_of table.new ≡ terms_of terms.now) }
     ensures pairs { IfOk result (λ pairs. AreAllPairs (terms_of terms.now) pairs.items) }
+    ensures ordered { IfOk result (λ pairs. AreOrdered pairs.items) }
+    ensures sizes { IfOk result (λ pairs. most_of_each (ways_of pairs.items) ≤ sizes (pair_literals (terms_of terms.now))) }
 {
     let places = applications(alloc, terms)?;
     let mut pairs = Vec::new(alloc);

@@ -2,6 +2,7 @@ pub mod Keeping
 pub mod Appearing
 pub mod Combinations
 pub mod Merging
+pub mod Numerators
 pub mod Multiples
 pub mod Systems
 pub mod Values

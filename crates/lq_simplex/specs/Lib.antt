@@ -1,4 +1,5 @@
 pub mod Lines
+pub mod WholeLines
 pub mod Systems
 pub mod Standing
 pub mod RowParts

@@ -5,7 +5,7 @@ ghost use Rattle.lq_linear.specs.Row.{Valuation, sum_at};
 ghost use Rattle.lq_linear.specs.Steps.{valuation_of};
 ghost use Rattle.lq_num.specs.Past.{IsPast};
 ghost use Rattle.lq_num.specs.Value.{value_of};
-ghost use Rattle.lq_simplex.specs.Lines.{combine, factor_of, owns, IsLine, IsOwnLine, IsTableauError};
+ghost use Rattle.lq_simplex.specs.Lines.{combine, factor_of, IsLine, IsOwnLine, IsTableauError};
 ghost use Rattle.lq_linear.specs.Forms.{IsNormal};
 ghost use Rattle.lq_linear.specs.Difference.{TermsBelow};
 ghost use Rattle.lq_simplex.specs.Systems.{form_at, line_at, change_at, after, IsChange, IsAdded, IsShifted, IsFree, IsSystem, GoesOn};
@@ -13,7 +13,7 @@ ghost use Rattle.lq_simplex.specs.Appearing.{IsExtended};
 ghost use Rattle.lq_simplex.specs.Configurations.{AllStay, Brings};
 
 use crate::error::TableauError;
-use crate::line::{Entry, Line, factor, sum};
+use crate::line::{Entry, Line};
 use lq_num::{Frac, NumberPast};
 use std::alloc::{AllocError, Global};
 use std::marker::Model;
@@ -67,13 +67,13 @@ impl Model for Basis {
 }
 
 /// The value of a variable after another, which is free, has moved.
-fn moved(value: &Frac, line: &[Entry], variable: usize, by: &Frac) -> Result<Frac, NumberPast>
+fn moved(value: &Frac, line: &Line, variable: usize, by: &Frac) -> Result<Frac, NumberPast>
     requires { IsLine line.now }
     ensures exact { IfOk result (λ f. value_of f ≡ value_of value.now +ℚ factor_of line.now variable *ℚ
         value_of by.now) }
     ensures stop { IfErr result IsPast }
 {
-    match factor(line, variable) {
+    match line.factor(variable) {
         None => Ok(*value),
         Some(factor) => value.add(&factor.mul(by)?),
     }
@@ -95,7 +95,7 @@ fn shifted(
 {
     let mut shifted = Vec::new(alloc);
     for (at, line) in lines.iter().enumerate() {
-        shifted.push(moved(&values[at], line.entries(), variable, by)?)?;
+        shifted.push(moved(&values[at], line, variable, by)?)?;
     }
     Ok(shifted)
 }
@@ -103,18 +103,18 @@ fn shifted(
 /// A line in which a variable stands, after so many times a combination has been added as the line has of the variable.
 fn change(
     alloc: Global,
-    line: &[Entry],
+    line: &Line,
     variable: usize,
-    zero: &[Entry],
+    zero: &Line,
 ) -> Result<Option<Line>, TableauError>
     requires line { IsLine line.now }
     requires zero { IsLine zero.now }
     ensures change { IfOk result (λ new. IsChange line.now variable zero.now new) }
     ensures stop { IfErr result IsTableauError }
 {
-    match factor(line, variable) {
+    match line.factor(variable) {
         None => Ok(None),
-        Some(factor) => Ok(Some(sum(alloc, line, &factor, zero)?)),
+        Some(factor) => Ok(Some(Line::sum(alloc, line, &factor, zero)?)),
     }
 }
 
@@ -123,7 +123,7 @@ fn changed(
     alloc: Global,
     lines: &[Line],
     variable: usize,
-    zero: &[Entry],
+    zero: &Line,
 ) -> Result<Vec<Option<Line>>, TableauError>
     requires lines { (k : ℕ) → IsLine (line_at lines.now k) }
     requires zero { IsLine zero.now }
@@ -132,7 +132,7 @@ fn changed(
 {
     let mut changed = Vec::new(alloc);
     for line in lines {
-        changed.push(change(alloc, line.entries(), variable, zero)?)?;
+        changed.push(change(alloc, line, variable, zero)?)?;
     }
     Ok(changed)
 }
@@ -150,12 +150,7 @@ fn install(lines: &mut [Line], mut changed: Vec<Option<Line>>)
 }
 
 /// A combination that is 0 everywhere: it has the factor -1 for the entering variable, and else the leaving one and the free ones.
-fn relation(
-    alloc: Global,
-    line: &[Entry],
-    leaving: usize,
-    factor: &Frac,
-) -> Result<Line, TableauError>
+fn relation(alloc: Global, line: &Line, leaving: usize, factor: &Frac) -> Result<Line, TableauError>
     requires line { IsLine line.now }
     requires apart { ¬ (value_of factor.now ≡ whole (pos 0)) }
     ensures sum { IfOk result (λ zero. (x : Valuation)
@@ -165,11 +160,8 @@ fn relation(
 {
     let inverse = Frac::whole(1).div(factor)?;
     let times = inverse.neg()?;
-    let first = [Entry {
-        variable: leaving,
-        factor: inverse,
-    }];
-    sum(alloc, &first, &times, line)
+    let first = Line::single(alloc, leaving, inverse)?;
+    Line::sum(alloc, &first, &times, line)
 }
 
 /// The line of a form: the sum of its coefficients times the lines of its terms.
@@ -181,13 +173,13 @@ fn line_of(alloc: Global, lines: &[Line], parts: &[(u64, i128)]) -> Result<Line,
     ensures line { IfOk result IsLine }
     ensures stop { IfErr result IsTableauError }
 {
-    let mut line = Line::new(Vec::new(alloc));
+    let mut line = Line::empty(alloc);
     for (term, coefficient) in parts {
-        line = sum(
+        line = Line::sum(
             alloc,
-            line.entries(),
+            &line,
             &Frac::whole(*coefficient),
-            lines[*term as usize].entries(),
+            &lines[*term as usize],
         )?;
     }
     Ok(line)
@@ -220,16 +212,6 @@ fn find(forms: &[Form], parts: &[(u64, i128)]) -> Option<usize>
     None
 }
 
-/// Whether a combination is one variable alone.
-fn owns(entries: &[Entry], variable: usize) -> bool
-    ensures { result ≡ owns entries.now variable }
-{
-    match entries {
-        [entry] => entry.variable == variable,
-        _ => false,
-    }
-}
-
 /// The form of a term.
 fn single(alloc: Global, term: u64) -> Result<Form, AllocError>
     ensures { IfOk result (λ form. form ≡ (term, pos 1) ∷ []) }
@@ -243,13 +225,7 @@ fn single(alloc: Global, term: u64) -> Result<Form, AllocError>
 fn own(alloc: Global, term: u64) -> Result<Line, AllocError>
     ensures { IfOk result (λ line. IsOwnLine term line) }
 {
-    let factor = Frac::whole(1);
-    let mut entries = Vec::new(alloc);
-    entries.push(Entry {
-        variable: term as usize,
-        factor,
-    })?;
-    Ok(Line::new(entries))
+    Line::single(alloc, term as usize, Frac::whole(1))
 }
 
 /// Adds a form with its line and its value, or leaves all as they were.
@@ -328,12 +304,12 @@ impl Basis {
     }
 
     /// The combination of free variables that a variable is.
-    pub(crate) fn line(&self, variable: usize) -> &[Entry]
+    pub(crate) fn line(&self, variable: usize) -> &Line
         requires { variable < length self.now.forms }
         ensures line { result.now ≡ line_at self.now.lines variable }
         ensures system { IsSystem self.now }
     {
-        self.lines[variable].entries()
+        &self.lines[variable]
     }
 
     /// Whether a variable is free: its combination is itself.
@@ -342,7 +318,7 @@ impl Basis {
         ensures yes { result ≡ true → IsFree self.now.lines variable }
         ensures no { IsFree self.now.lines variable → result ≡ true }
     {
-        owns(self.lines[variable].entries(), variable)
+        self.lines[variable].owns(variable)
     }
 
     /// The number of a form, which is added where it isn't there yet.
@@ -430,13 +406,8 @@ impl Basis {
         let way = bound.sub(&self.values[leaving])?;
         let by = way.div(&entering.factor)?;
         let values = shifted(alloc, &self.lines, &self.values, entering.variable, &by)?;
-        let zero = relation(
-            alloc,
-            self.lines[leaving].entries(),
-            leaving,
-            &entering.factor,
-        )?;
-        let changed = changed(alloc, &self.lines, entering.variable, zero.entries())?;
+        let zero = relation(alloc, &self.lines[leaving], leaving, &entering.factor)?;
+        let changed = changed(alloc, &self.lines, entering.variable, &zero)?;
         install(&mut self.lines, changed);
         self.values = values;
         Ok(())

@@ -11,7 +11,7 @@ ghost use Rattle.lq_simplex.specs.Conflicts.{toward, negates, Names, IsKept};
 
 use crate::error::TableauError;
 use crate::limits::{Broken, Limit, Limits, blocking, opposite};
-use crate::line::Entry;
+use crate::line::Line;
 use crate::row::{Bound, Standing};
 use lq_linear::Side;
 use lq_num::{Frac, NumberPast};
@@ -65,7 +65,7 @@ pub(crate) fn explain(
     rows: &[Standing],
     limits: &Limits,
     broken: &Broken,
-    line: &[Entry],
+    line: &Line,
 ) -> Result<Vec<(u64, Frac)>, TableauError>
     requires { IsKept rows.now limits.now broken.now line.now }
     ensures contradicts { IfOk result (λ found. IsContradiction (standing_of rows.now)
@@ -75,7 +75,8 @@ pub(crate) fn explain(
     let mut found = Vec::new(alloc);
     let own = share(rows, &broken.limit, &Frac::whole(1), opposite(broken.side))?;
     found.push(own)?;
-    for entry in line {
+    for at in 0..line.len() {
+        let entry = line.entry(at);
         let side = blocking(&entry.factor, broken.side);
         if let Some(limit) = limits.at(side, entry.variable) {
             let other = share(rows, &limit, &entry.factor, broken.side)?;

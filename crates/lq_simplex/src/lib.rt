@@ -4,10 +4,15 @@
 mod basis;
 mod conflict;
 mod error;
+mod fractions;
+mod gather;
 mod limits;
 mod line;
+mod merge;
+mod parts;
 mod reading;
 mod row;
 mod tableau;
+mod whole;
 
 pub use tableau::Tableau;

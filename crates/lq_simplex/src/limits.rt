@@ -11,7 +11,7 @@ ghost use Rattle.lq_linear.specs.declared.bound.Side.{Side};
 ghost use Rattle.lq_linear.specs.declared.bound.Side.TheVariants.{Lower, Upper};
 ghost use Rattle.lq_simplex.specs.declared.limits.Limit.{Limit};
 
-use crate::line::Entry;
+use crate::line::{Entry, Line};
 use crate::row::{Bound, Standing};
 use lq_linear::Side;
 use lq_num::Frac;
@@ -239,17 +239,18 @@ impl Limits {
     }
 
     /// The first entry of a line whose variable can move so that the line's variable gets nearer to its bound on this side.
-    pub(crate) fn entering(&self, line: &[Entry], side: Side, values: &[Frac]) -> Option<Entry>
+    pub(crate) fn entering(&self, line: &Line, side: Side, values: &[Frac]) -> Option<Entry>
         requires { VariablesBelow (length values.now) line.now }
         ensures some { IfSome result (λ e. (at : ℕ) × (slice_get line.now at ≡ Some e)
             × AllBlocked self.now side (valuation_of values.now) (take at line.now)) }
         ensures moves { IfSome result (λ e. ¬ IsBlocked self.now side (valuation_of values.now) e) }
         ensures none { IfNone result (AllBlocked self.now side (valuation_of values.now) line.now) }
     {
-        for entry in line {
+        for at in 0..line.len() {
+            let entry = line.entry(at);
             let toward = blocking(&entry.factor, side);
             if !self.is_stuck(toward, entry.variable, &values[entry.variable]) {
-                return Some(*entry);
+                return Some(entry);
             }
         }
         None

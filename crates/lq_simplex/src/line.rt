@@ -1,15 +1,19 @@
 // Linear combinations of variables.
-ghost use Rattle.std.specs.Prelude.{◌≡◌, ◌≢◌, ℕ, pos, ◌+◌, ◌<◌, ◌≤◌, ◌⊎◌, List, length, slice_index_or, IfOk, IfErr, IfSome, IfNone};
+ghost use Rattle.std.specs.Prelude.{◌≡◌, ℕ, pos, ◌<◌, [], ◌∷◌, Some, length, slice_get, IfOk, IfErr, IfSome, IfNone};
 ghost use Rattle.lq_math.specs.Rational.{whole, ◌+ℚ◌, ◌*ℚ◌};
 ghost use Rattle.lq_num.specs.Value.{value_of};
 ghost use Rattle.lq_linear.specs.Row.{Valuation};
-ghost use Rattle.lq_linear.specs.Steps.{value_or_zero};
-ghost use Rattle.lq_num.specs.Past.{IsPast};
-ghost use Rattle.lq_simplex.specs.Lines.{combine, factor_of, IsLine, IsHead, IsPut, variable_at, IsTableauError};
+ghost use Rattle.lq_simplex.specs.Lines.{combine, factor_of, owns, IsLine, IsTableauError};
+ghost use Rattle.lq_simplex.specs.WholeLines.{only, whole_entries};
 
 use crate::error::TableauError;
-use lq_num::{Frac, NumberPast};
-use std::alloc::Global;
+use crate::fractions::{copied, factor, fraction_sum, owns};
+use crate::gather::gathered;
+use crate::merge::whole_sum;
+use crate::parts::{entries, entry_at, factor_in, owns_part};
+use crate::whole::{Part, WholeLine};
+use lq_num::Frac;
+use std::alloc::{AllocError, Global};
 use std::marker::Model;
 
 /// A variable and its factor.
@@ -19,10 +23,17 @@ pub(crate) struct Entry {
     pub(crate) factor: Frac,
 }
 
+/// How a combination is kept: as whole numbers over one denominator, or as fractions where such numbers would leave 128 bits.
+#[derive(Drop)]
+enum Kept {
+    Whole(WholeLine),
+    Fractions(Vec<Entry>),
+}
+
 /// A linear combination of variables: they stand by ascending number, each once, and no factor is 0.
 #[derive(Drop)]
 pub(crate) struct Line {
-    entries: Vec<Entry>,
+    kept: Kept,
 }
 
 impl Model for Line {
@@ -31,148 +42,154 @@ impl Model for Line {
 
     ghost Value = { List Entry };
 
-    ghost view = { λ l. l.entries.items };
+    ghost use Rattle.lq_simplex.specs.WholeLines.{kept_entries};
+
+    ghost view = { λ l. kept_entries l.kept };
 }
 
 impl Line {
-    pub(crate) fn new(entries: Vec<Entry>) -> Line
-        ensures { result ≡ entries.items }
+    /// No variable.
+    pub(crate) fn empty(alloc: Global) -> Line
+        ensures { result ≡ [] }
     {
-        Line { entries }
+        Line {
+            kept: Kept::Whole(WholeLine {
+                parts: Vec::new(alloc),
+                denominator: 1,
+            }),
+        }
     }
 
-    pub(crate) fn entries(&self) -> &[Entry]
-        ensures { result.now ≡ self.now }
+    /// One variable with its factor.
+    pub(crate) fn single(alloc: Global, variable: usize, factor: Frac) -> Result<Line, AllocError>
+        ensures { IfOk result (λ line. line ≡ only variable factor) }
     {
-        self.entries.as_slice()
+        let mut parts = Vec::new(alloc);
+        parts.push(Part {
+            variable,
+            numerator: factor.numer(),
+        })?;
+        Ok(Line {
+            kept: Kept::Whole(WholeLine {
+                parts,
+                denominator: factor.denom() as u128,
+            }),
+        })
     }
-}
 
-/// The factor of a variable, if it stands there.
-pub(crate) fn factor(entries: &[Entry], variable: usize) -> Option<Frac>
-    requires { IsLine entries.now }
-    ensures some { IfSome result (λ f. (value_of f ≡ factor_of entries.now variable)
-        × ¬ (value_of f ≡ whole (pos 0))) }
-    ensures none { IfNone result (factor_of entries.now variable ≡ whole (pos 0)) }
-{
-    for entry in entries {
-        if entry.variable == variable {
-            return Some(entry.factor);
+    /// How many variables stand in it.
+    pub(crate) fn len(&self) -> usize
+        ensures { result ≡ length self.now }
+    {
+        match &self.kept {
+            Kept::Whole(whole) => whole.parts.len(),
+            Kept::Fractions(entries) => entries.len(),
         }
     }
-    None
-}
 
-/// The variable at a place.
-fn variable(entries: &[Entry], at: usize) -> usize
-    requires { at < length entries.now }
-    ensures { result ≡ variable_at entries.now at }
-{
-    entries[at].variable
-}
-
-/// The least variable at these places of two combinations, of which one isn't read to its end.
-fn least(left: &[Entry], i: usize, right: &[Entry], j: usize) -> usize
-    requires { (i < length left.now) ⊎ (j < length right.now) }
-    ensures left { i < length left.now → result ≤ variable_at left.now i }
-    ensures right { j < length right.now → result ≤ variable_at right.now j }
-    ensures one { ((i < length left.now) × (result ≡ variable_at left.now i))
-        ⊎ ((j < length right.now) × (result ≡ variable_at right.now j)) }
-{
-    if i >= left.len() {
-        return variable(right, j);
-    }
-    let first = variable(left, i);
-    if j >= right.len() {
-        return first;
-    }
-    let second = variable(right, j);
-    if first <= second { first } else { second }
-}
-
-/// What a combination has of a variable at a place, and the place after it.
-#[derive(Clone, Copy)]
-struct Front {
-    factor: Option<Frac>,
-    next: usize,
-}
-
-/// The factor at this place, if it is that of the variable.
-fn head(entries: &[Entry], at: usize, sought: usize) -> Front
-    ensures { IsHead entries.now at sought result.factor result.next }
-{
-    if at < entries.len() {
-        let entry = entries[at];
-        if entry.variable == sought {
-            return Front {
-                factor: Some(entry.factor),
-                next: at + 1,
-            };
+    /// The variable at a place, and its factor.
+    pub(crate) fn entry(&self, at: usize) -> Entry
+        requires { at < length self.now }
+        ensures { slice_get self.now at ≡ Some result }
+    {
+        match &self.kept {
+            Kept::Whole(whole) => entry_at(whole, at),
+            Kept::Fractions(entries) => entries[at],
         }
     }
-    Front {
-        factor: None,
-        next: at,
-    }
-}
 
-/// The sum of a factor, or 0, and so many times another, or 0.
-fn joined(left: Option<Frac>, times: &Frac, right: Option<Frac>) -> Result<Frac, NumberPast>
-    ensures exact { IfOk result (λ f. value_of f ≡ value_or_zero left +ℚ value_of times.now *ℚ value_or_zero
-        right) }
-    ensures stop { IfErr result IsPast }
-{
-    match right {
-        None => match left {
-            None => Ok(Frac::whole(0)),
-            Some(factor) => Ok(factor),
-        },
-        Some(other) => {
-            let product = times.mul(&other)?;
-            match left {
-                None => Ok(product),
-                Some(factor) => factor.add(&product),
-            }
+    /// Whether it is one variable alone, and this one.
+    pub(crate) fn owns(&self, variable: usize) -> bool
+        ensures { result ≡ owns self.now variable }
+    {
+        match &self.kept {
+            Kept::Whole(whole) => owns_part(whole.parts.as_slice(), variable),
+            Kept::Fractions(entries) => owns(entries.as_slice(), variable),
         }
     }
-}
 
-/// Adds an entry, unless its factor is 0.
-fn put(entries: &mut Vec<Entry>, variable: usize, factor: Frac) -> Result<(), TableauError>
-    ensures put { IfOk result (λ _. IsPut entries.old.items variable factor entries.new.items) }
-    ensures stop { IfErr result IsTableauError }
-{
-    if !factor.is_zero() {
-        entries.push(Entry { variable, factor })?;
+    /// The factor of a variable, if it stands there.
+    pub(crate) fn factor(&self, variable: usize) -> Option<Frac>
+        requires { IsLine self.now }
+        ensures some { IfSome result (λ f. (value_of f ≡ factor_of self.now variable)
+            × ¬ (value_of f ≡ whole (pos 0))) }
+        ensures none { IfNone result (factor_of self.now variable ≡ whole (pos 0)) }
+    {
+        match &self.kept {
+            Kept::Whole(whole) => factor_in(whole, variable),
+            Kept::Fractions(entries) => factor(entries.as_slice(), variable),
+        }
     }
-    Ok(())
-}
 
-/// One combination and so many times another.
-pub(crate) fn sum(
-    alloc: Global,
-    left: &[Entry],
-    times: &Frac,
-    right: &[Entry],
-) -> Result<Line, TableauError>
-    requires left { IsLine left.now }
-    requires right { IsLine right.now }
-    ensures sum { IfOk result (λ line. (x : Valuation)
-        → combine x line ≡ combine x left.now +ℚ value_of times.now *ℚ combine x right.now) }
-    ensures line { IfOk result IsLine }
-    ensures stop { IfErr result IsTableauError }
-{
-    let mut entries = Vec::new(alloc);
-    let mut i = 0;
-    let mut j = 0;
-    while i < left.len() || j < right.len() {
-        let variable = least(left, i, right, j);
-        let first = head(left, i, variable);
-        let second = head(right, j, variable);
-        i = first.next;
-        j = second.next;
-        let factor = joined(first.factor, times, second.factor)?;
-        put(&mut entries, variable, factor)?;
+    /// Its variables with their factors.
+    fn fractions(&self, alloc: Global) -> Result<Vec<Entry>, AllocError>
+        ensures { IfOk result (λ made. made.items ≡ self.now) }
+    {
+        match &self.kept {
+            Kept::Whole(whole) => entries(alloc, whole),
+            Kept::Fractions(entries) => copied(alloc, entries.as_slice()),
+        }
     }
-    Ok(Line::new(entries))
+
+    /// The combination of these entries.
+    fn of_fractions(alloc: Global, entries: Vec<Entry>) -> Result<Line, AllocError>
+        ensures { IfOk result (λ line. line ≡ entries.items) }
+    {
+        match gathered(alloc, entries.as_slice())? {
+            None => Ok(Line {
+                kept: Kept::Fractions(entries),
+            }),
+            Some(line) => Ok(Line {
+                kept: Kept::Whole(line),
+            }),
+        }
+    }
+
+    /// One combination and so many times another, where both are kept as whole numbers and these stay within 128 bits.
+    fn whole_sum(
+        alloc: Global,
+        left: &Line,
+        times: &Frac,
+        right: &Line,
+    ) -> Result<Option<WholeLine>, AllocError>
+        requires left { IsLine left.now }
+        requires right { IsLine right.now }
+        ensures sum { IfOk result (λ made. IfSome made (λ line. (x : Valuation)
+            → combine x (whole_entries line) ≡ combine x left.now +ℚ value_of times.now *ℚ combine x
+            right.now)) }
+        ensures line { IfOk result (λ made. IfSome made (λ line. IsLine (whole_entries line))) }
+    {
+        match &left.kept {
+            Kept::Whole(first) => match &right.kept {
+                Kept::Whole(second) => whole_sum(alloc, first, times, second),
+                Kept::Fractions(_) => Ok(None),
+            },
+            Kept::Fractions(_) => Ok(None),
+        }
+    }
+
+    /// One combination and so many times another.
+    pub(crate) fn sum(
+        alloc: Global,
+        left: &Line,
+        times: &Frac,
+        right: &Line,
+    ) -> Result<Line, TableauError>
+        requires left { IsLine left.now }
+        requires right { IsLine right.now }
+        ensures sum { IfOk result (λ line. (x : Valuation)
+            → combine x line ≡ combine x left.now +ℚ value_of times.now *ℚ combine x right.now) }
+        ensures line { IfOk result IsLine }
+        ensures stop { IfErr result IsTableauError }
+    {
+        if let Some(line) = Line::whole_sum(alloc, left, times, right)? {
+            return Ok(Line {
+                kept: Kept::Whole(line),
+            });
+        }
+        let first = left.fractions(alloc)?;
+        let second = right.fractions(alloc)?;
+        let entries = fraction_sum(alloc, first.as_slice(), times, second.as_slice())?;
+        Ok(Line::of_fractions(alloc, entries)?)
+    }
 }

@@ -20,7 +20,7 @@ use crate::basis::Basis;
 use crate::conflict::explain;
 use crate::error::TableauError;
 use crate::limits::Limits;
-use crate::line::Entry;
+use crate::line::Line;
 use crate::reading::read;
 use crate::row::{Standing, copy};
 use lq_linear::{Answer, LinearEngine, LinearRow, LinearStop, Mark, Verdict};
@@ -174,10 +174,7 @@ fn decide(
     }
     let limits = Limits::new(alloc, rows, basis.len())?;
     if let Some(broken) = limits.crossed(basis.len()) {
-        let own = [Entry {
-            variable: broken.variable,
-            factor: Frac::whole(1),
-        }];
+        let own = Line::single(alloc, broken.variable, Frac::whole(1))?;
         return Ok(Some(explain(alloc, rows, &limits, &broken, &own)?));
     }
     settle(alloc, basis, &limits)?;

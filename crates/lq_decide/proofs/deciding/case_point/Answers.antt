@@ -1,6 +1,6 @@
 use Rattle.std.proofs.Common.{◌∙◌, All, inr, ap, sym, subst}
 use Rattle.lq_decide.specs.CaseView.{case_of}
-use Rattle.lq_decide.specs.Naming.{objects_of}
+use Rattle.lq_equating.specs.Naming.{objects_of}
 use Rattle.lq_decide.proofs.Points.{all_terms, are_point, given, holds_case, past_at_point}
 use Rattle.lq_point.specs.Evaluation.{IsStepOf}
 use Rattle.lq_point.specs.Values.{as_point, numbers_of, point_of_values, table_of}

@@ -6,10 +6,10 @@ use Rattle.lq_combine.specs.TreeView.{tree_view}
 use Rattle.lq_decide.specs.Case.{Case, fact_of, numbering_of, path_of}
 use Rattle.lq_decide.specs.CaseView.{case_of}
 use Rattle.lq_decide.specs.Deciding.{Fits}
-use Rattle.lq_decide.specs.Equating.{numbering_by}
-use Rattle.lq_decide.specs.Naming.{AllBelow, HasAllArguments, HasAllSides, name_in, objects_of}
+use Rattle.lq_equating.specs.Equating.{numbering_by}
+use Rattle.lq_equating.specs.Naming.{AllBelow, HasAllArguments, HasAllSides, name_in, objects_of}
 use Rattle.lq_decide.proofs.Holding.{all_below}
-use Rattle.lq_decide.proofs.Joining.{second}
+use Rattle.lq_equating.proofs.Joining.{second}
 use Rattle.lq_decide.proofs.Stopped.{stops}
 use Rattle.lq_literals.specs.Parts.{is_application}
 use Rattle.lq_pred.specs.Table.{all_differ}

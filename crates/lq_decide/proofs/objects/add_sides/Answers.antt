@@ -1,7 +1,7 @@
 use Rattle.std.proofs.Common.{sym, subst}
 use Rattle.lq_decide.specs.Case.{fact_of}
-use Rattle.lq_decide.specs.Naming.{HasSides, objects_of}
-use Rattle.lq_decide.proofs.Sides.{keeps_new, on_ok}
+use Rattle.lq_equating.specs.Naming.{HasSides, objects_of}
+use Rattle.lq_equating.proofs.Sides.{keeps_new, on_ok}
 use Rattle.lq_pred.specs.TermView.{sum_of}
 use Rattle.lq_decide.proofs.objects.add_sides.Goals as goal
 

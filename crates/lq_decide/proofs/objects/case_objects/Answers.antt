@@ -1,5 +1,5 @@
-use Rattle.lq_decide.specs.Naming.{objects_of}
-use Rattle.lq_decide.proofs.Sides.{sides_keep}
+use Rattle.lq_equating.specs.Naming.{objects_of}
+use Rattle.lq_equating.proofs.Sides.{sides_keep}
 use Rattle.lq_decide.proofs.objects.case_objects.Goals as goal
 
 pub returns-clause-sides : goal.returns-clause-sides

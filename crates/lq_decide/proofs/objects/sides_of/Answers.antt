@@ -1,8 +1,8 @@
 use Rattle.std.proofs.Common.{sym, subst, map, take}
 use Rattle.std.proofs.lemmas.List.{take_all}
 use Rattle.lq_decide.specs.Case.{fact_of}
-use Rattle.lq_decide.specs.Naming.{HasAllSides, objects_of}
-use Rattle.lq_decide.proofs.Sides.{all_sides_push, seen-more}
+use Rattle.lq_equating.specs.Naming.{HasAllSides, objects_of}
+use Rattle.lq_equating.proofs.Sides.{all_sides_push, seen-more}
 use Rattle.lq_decide.proofs.objects.sides_of.Goals as goal
 
 pub loop-fact-preserved : goal.loop-fact-preserved

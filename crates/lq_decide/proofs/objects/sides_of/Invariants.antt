@@ -1,6 +1,6 @@
 use Rattle.std.proofs.Common.{map, take}
 use Rattle.lq_decide.specs.Case.{fact_of}
-use Rattle.lq_decide.specs.Naming.{HasAllSides, objects_of}
+use Rattle.lq_equating.specs.Naming.{HasAllSides, objects_of}
 use Rattle.lq_decide.proofs.objects.sides_of.Given as goal
 
 abbrev pub invariant-loop-fact : goal.invariant-loop-fact

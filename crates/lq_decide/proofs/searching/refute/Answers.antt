@@ -1,4 +1,4 @@
-use Rattle.std.proofs.Common.{◌≡◌, ◌∙◌, map, sym, ap, subst}
+use Rattle.std.proofs.Common.{◌≡◌, ◌∙◌, [], map, sym, ap, subst}
 use Rattle.std.proofs.lemmas.Result.{err_from_is_err_and}
 use Rattle.lq_case.specs.PathState.{facts_in, objects_in}
 use Rattle.lq_case.specs.RowState.{MayStop}
@@ -9,11 +9,12 @@ use Rattle.lq_combine.specs.declared.tree.ProofTree as ProofTree
 use Rattle.lq_decide.specs.Case.{fact_of, path_of}
 use Rattle.lq_decide.specs.CaseView.{case_of}
 use Rattle.lq_decide.specs.Deciding.{IsChainOfEquals}
-use Rattle.lq_decide.specs.Equating.{AreEquated, numbering_by}
-use Rattle.lq_decide.specs.Naming.{AllTold, name_in, objects_of}
-use Rattle.lq_decide.proofs.Chains.{begun, chain_of, ended}
-use Rattle.lq_decide.proofs.Equations.{adds_may_stop, may_stop_by}
-use Rattle.lq_decide.proofs.Joining.{second}
+use Rattle.lq_equating.specs.Equating.{AreEquated, numbering_by}
+use Rattle.lq_equating.specs.Naming.{AllTold, name_in, objects_of}
+use Rattle.lq_decide.proofs.Ends.{chain_of}
+use Rattle.lq_equating.proofs.Chains.{begun, ended}
+use Rattle.lq_equating.proofs.Equations.{adds_may_stop, may_stop_by}
+use Rattle.lq_equating.proofs.Joining.{second}
 use Rattle.lq_decide.proofs.Settling.{settled}
 use Rattle.lq_diff.specs.Stops.{StopsBy}
 use Rattle.lq_diff.specs.Table.{constants}
@@ -39,10 +40,10 @@ returns-in-Some-found-clause-tree c =
     let name = name_in (objects_of c.args.objects.now) in
     let facts_are = ap (map fact_of) c.as_slice.ensures ∙ c.facts.ensures in
     let T = terms_of c.table-table.result.now in
-    let base = begun (numbering_by T) case.facts (facts_in name c.take_facts.new.state) ((rw c.in_default.is at c.in_ok-clash.ensures.stands) ∙ facts_are) in
+    let base = begun (numbering_by T) [] case.facts (facts_in name c.take_facts.new.state) ((rw c.in_default.is at c.in_ok-clash.ensures.stands) ∙ facts_are) in
     subst (λ ts. Proves (numbering_by ts) (path_of case) (tree_view c.in_ok-refutation.field-0)) c.table-table.ensures
     (subst (Proves (numbering_by T) (path_of case)) (sym c.in_ok-refutation.ensures.is)
-    (ended (numbering_by T) (path_of case) c.in_ok-joints.joints.items (facts_in name c.equate_all.new.state) (clash_of c.in-Some-found.clash) (c.in_ok-joints.ensures.wraps (path_of case) base)
+    (ended (numbering_by T) (path_of case) [] c.in_ok-joints.joints.items (facts_in name c.equate_all.new.state) (clash_of c.in-Some-found.clash) (c.in_ok-joints.ensures.wraps (path_of case) [] base)
     (rw c.in-Some-found.is at c.in_ok-joints.ensures.clash)))
 
 pub returns-in-Some-found-clause-form : goal.returns-in-Some-found-clause-form
@@ -55,10 +56,10 @@ returns-in_ok-refutation-in-Some-2-clause-tree c =
     let name = name_in (objects_of c.args.objects.now) in
     let facts_are = ap (map fact_of) c.as_slice.ensures ∙ c.facts.ensures in
     let T = terms_of c.table-table.result.now in
-    let base = begun (numbering_by T) case.facts (facts_in name c.take_facts.new.state) ((rw c.in_default.is at c.in_ok-clash.ensures.stands) ∙ facts_are) in
+    let base = begun (numbering_by T) [] case.facts (facts_in name c.take_facts.new.state) ((rw c.in_default.is at c.in_ok-clash.ensures.stands) ∙ facts_are) in
     subst (λ ts. Proves (numbering_by ts) (path_of case) (tree_view c.in_ok-refutation-in-Some-2.field-0)) c.table-table.ensures
     (subst (Proves (numbering_by T) (path_of case)) (sym c.in_ok-refutation-in-Some-2.ensures.is)
-    (ended (numbering_by T) (path_of case) c.in_ok-joints.joints.items (facts_in name c.equate_all.new.state) (clash_of c.in-Some-2.clash) (c.in_ok-joints.ensures.wraps (path_of case) base)
+    (ended (numbering_by T) (path_of case) [] c.in_ok-joints.joints.items (facts_in name c.equate_all.new.state) (clash_of c.in-Some-2.clash) (c.in_ok-joints.ensures.wraps (path_of case) [] base)
     (subst (λ fs. Clashes fs (clash_of c.in-Some-2.clash)) (c.in_ok-clash-2.ensures.facts name) ((rw c.in-Some-2.is at c.in_ok-clash-2.ensures.some) name))))
 
 pub returns-in_ok-refutation-in-Some-2-clause-form : goal.returns-in_ok-refutation-in-Some-2-clause-form
@@ -94,7 +95,7 @@ returns-in_err-clash-2-clause-stop c =
     let stop = c.in_err-clash-2.field-0.0 in
     let pivots = second c.in_ok-joints.ensures.limits ∙ second c.in_ok-clash.ensures.limits in
     rw (p.1, p.2) (subst (λ fs. MayStop c.args.state.now.rows.pivots (rows_among fs) stop) stands
-    (adds_may_stop c.args.state.now.rows.pivots before after stop c.in_ok-joints.ensures.adds (subst (λ n. MayStop n (rows_among after) stop) pivots (c.in_err-clash-2.ensures.stop name))))
+    (adds_may_stop c.args.state.now.rows.pivots before after stop (c.in_ok-joints.ensures.adds name) (subst (λ n. MayStop n (rows_among after) stop) pivots (c.in_err-clash-2.ensures.stop name))))
 
 pub returns-in-None-clause-settled : goal.returns-in-None-clause-settled
 returns-in-None-clause-settled c =
@@ -111,5 +112,5 @@ returns-in-None-clause-settled c =
     let equated = subst (λ ts. AreEquated objects ts (objects_in t) (facts_in name t)) c.table-table.ensures (rw c.in_default-found.is at c.in_ok-joints.ensures.equated) in
     let e = c.in_ok-clash-2.ensures in
     let solves = rw c.in-None.is at e.solves in
-    settled objects case s t u stands told c.in_ok-joints.ensures.adds c.in_ok-joints.ensures.objects equated (e.facts name) e.objects solves.0 (solves.1 name) ((rw c.in-None.is at e.flags) name)
+    settled objects case s t u stands told (c.in_ok-joints.ensures.adds name) c.in_ok-joints.ensures.objects equated (e.facts name) e.objects solves.0 (solves.1 name) ((rw c.in-None.is at e.flags) name)
     (rw c.in-None.is at e.apart)

@@ -3,11 +3,11 @@ use Rattle.std.proofs.lemmas.Result.{err_from_is_err_and}
 use Rattle.lq_case.specs.PathState.{facts_in, objects_in}
 use Rattle.lq_combine.specs.TreeView.{clash_of}
 use Rattle.lq_decide.specs.Case.{fact_of}
-use Rattle.lq_decide.specs.Naming.{AllTold, IsBelow, name_in, objects_of}
-use Rattle.lq_decide.proofs.Joining.{second, third}
+use Rattle.lq_equating.specs.Naming.{AllTold, IsBelow, name_in, objects_of}
+use Rattle.lq_equating.proofs.Joining.{second, third}
 use Rattle.lq_decide.proofs.Longer.{clash_of_first, stop_of_first}
-use Rattle.lq_decide.proofs.Sides.{seen-more, seen_at}
-use Rattle.lq_decide.proofs.Told.{all_told_push}
+use Rattle.lq_equating.proofs.Sides.{seen-more, seen_at}
+use Rattle.lq_equating.proofs.Told.{all_told_push}
 use Rattle.lq_decide.proofs.taking.take_facts.Goals as goal
 
 pub take_fact-requires-clause-sides : goal.take_fact-requires-clause-sides

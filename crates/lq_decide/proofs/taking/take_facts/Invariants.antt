@@ -2,7 +2,7 @@ use Rattle.std.proofs.Common.{◌≡◌, map, take}
 use Rattle.lq_case.specs.PathState.{facts_in, objects_in}
 use Rattle.lq_case.specs.RowState.{terms_of}
 use Rattle.lq_decide.specs.Case.{fact_of}
-use Rattle.lq_decide.specs.Naming.{AllTold, name_in, objects_of}
+use Rattle.lq_equating.specs.Naming.{AllTold, name_in, objects_of}
 use Rattle.lq_decide.proofs.taking.take_facts.Given as goal
 
 abbrev pub invariant-loop-fact : goal.invariant-loop-fact

@@ -1,8 +1,9 @@
 use Rattle.std.proofs.Common.{◌∙◌, ◌<◌, ap, sym, subst, length, map}
 use Rattle.lq_decide.specs.Case.{fact_of}
 use Rattle.lq_decide.specs.CaseView.{case_of}
-use Rattle.lq_decide.specs.Naming.{objects_of}
-use Rattle.lq_decide.specs.Settled.{AgreeOnFlags, HasClasses, HasFlags}
+use Rattle.lq_equating.specs.Naming.{objects_of}
+use Rattle.lq_decide.specs.Settled.{AgreeOnFlags, HasFlags}
+use Rattle.lq_equating.specs.Values.{HasClasses}
 use Rattle.lq_decide.proofs.Settling.{flags_agree}
 use Rattle.lq_linear.specs.Steps.{valuation_of}
 use Rattle.lq_pred.specs.ClosedImplication.{terms_in}

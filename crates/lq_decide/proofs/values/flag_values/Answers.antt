@@ -2,8 +2,9 @@ use Rattle.std.proofs.Common.{◌∙◌, ◌+◌, ◌++◌, ◌∷◌, [], sym, 
 use Rattle.std.proofs.lemmas.List.{take_all}
 use Rattle.lq_decide.specs.Case.{fact_of}
 use Rattle.lq_decide.specs.Settled.{AgreeOnFlags, HasFlags}
-use Rattle.lq_decide.proofs.Reading.{agree_first, flags_push, flags_still, flags_updated, no_flag}
-use Rattle.lq_decide.proofs.Sides.{seen-more}
+use Rattle.lq_decide.proofs.Reading.{agree_first, flags_push, flags_still, no_flag}
+use Rattle.lq_equating.proofs.Flags.{flags_updated}
+use Rattle.lq_equating.proofs.Sides.{seen-more}
 use Rattle.lq_decide.proofs.values.flag_values.Goals as goal
 use Rattle.lq_decide.proofs.values.flag_values.Goals.{in-Flag+in_ok-insert, in_default}
 

@@ -1,7 +1,7 @@
-use Rattle.std.proofs.Common.{◌≤◌, arith}
+use Rattle.std.proofs.Common.{◌≡◌, slice_index_or, arith}
 use Rattle.lq_pred.specs.TableView.{terms_of}
 use Rattle.lq_pred.specs.TermView.{sum_of}
-use Rattle.lq_search.proofs.Along.{along_next, no_second, operation_at, place_below, upto_next, upto_skip}
+use Rattle.lq_search.proofs.Along.{along_next, here_at, no_second, operation_at, place_below, place_of, upto_next, upto_skip}
 use Rattle.lq_search.proofs.pairs.add_pairs_with.Goals as goal
 
 pub term-requires : goal.term-requires
@@ -21,9 +21,12 @@ pair_of-requires-clause-other c =
 pub loop-left-preserved : goal.loop-left-preserved
 loop-left-preserved c =
     along_next (terms_of c.args.terms.now) (terms_of c.loop-left.table) (terms_of c.pair_of.new.table) c.args.pairs.now.items c.args.right c.loop-left.left c.loop-left.pairs.items
-    c.add_pair.new.pairs.items c.in_ok-found.found c.loop-left.invariant c.in_ok-found.ensures.same c.in_ok-found.ensures.pair c.in_ok-found.ensures.none c.in_ok-add_pair.ensures
+    c.add_pair.new.pairs.items c.in_ok-found.found c.loop-left-test.true c.loop-left.invariant c.in_ok-found.ensures.same c.in_ok-found.ensures.pair c.in_ok-found.ensures.none c.in_ok-add_pair.ensures
 
 pub returns-clause-pairs : goal.returns-clause-pairs
 returns-clause-pairs c =
-    let past_end : c.args.right ≤ c.loop-left.left = omega arith in
-    upto_next (terms_of c.args.terms.now) (terms_of c.loop-left.table) c.args.pairs.now.items c.args.right c.loop-left.left c.loop-left.pairs.items c.loop-left.invariant past_end
+    let right = c.args.right in let places = c.args.places.now in
+    let ended : right ≡ c.loop-left.left = omega arith in
+    upto_next (terms_of c.args.terms.now) (terms_of c.loop-left.table) c.args.pairs.now.items right c.loop-left.left (sum_of c.term.result.now) c.loop-left.pairs.items
+    (here_at (terms_of c.args.terms.now) right (slice_index_or places right 0) (sum_of c.term.result.now) (place_of (terms_of c.args.terms.now) places right c.requires.places c.requires.right) c.term.ensures)
+    c.loop-left.invariant ended

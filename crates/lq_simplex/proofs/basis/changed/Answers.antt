@@ -1,4 +1,4 @@
-use Rattle.std.proofs.Common.{◌≡◌, ◌∙◌, sym, subst, arith, [], List}
+use Rattle.std.proofs.Common.{◌≡◌, sym, subst, arith, [], List}
 use Rattle.lq_simplex.specs.declared.line.Entry.{Entry}
 use Rattle.lq_simplex.specs.Systems.{line_at, IsChange}
 use Rattle.lq_simplex.proofs.Systems.{added_step, added_all}
@@ -8,7 +8,7 @@ use Rattle.lq_simplex.proofs.basis.changed.Goals as goal
 pub loop-line-preserved : goal.loop-line-preserved
 loop-line-preserved c =
     let lines = c.args.lines.now in let i = c.loop-line.line-index in
-    let here : c.entries.result.now ≡ line_at lines i = c.entries.ensures ∙ sym (element lines i c.line-item.result [] c.loop-line-test.true c.line-item.is) in
+    let here : c.line-item.result ≡ line_at lines i = sym (element lines i c.line-item.result [] c.loop-line-test.true c.line-item.is) in
     rw c.in_ok-push.ensures.items
     (added_step lines c.args.variable c.args.zero.now c.loop-line.changed.items i c.in_ok-change.field-0 c.loop-line.invariant
     (subst (λ (es : List Entry). IsChange es c.args.variable c.args.zero.now c.in_ok-change.field-0) here c.in_ok-change.ensures.change))

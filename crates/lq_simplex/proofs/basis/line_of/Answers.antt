@@ -20,7 +20,7 @@ pub sum-requires-clause-right : goal.sum-requires-clause-right
 sum-requires-clause-right c =
     let lines = c.args.lines.now in let items = c.args.parts.now in let i = c.loop-term.term-index in
     let within = term_below (length lines) items i (0, pos 0) c.requires.below c.loop-term-test.true in
-    subst IsLine (element lines (get_or items i (0, pos 0)).0 c.index-lines-term.result [] within c.index-lines-term.is ∙ sym c.entries-in-loop-term.ensures) (c.requires.lines (get_or items i (0, pos 0)).0)
+    subst IsLine (element lines (get_or items i (0, pos 0)).0 c.index-lines-term.result [] within c.index-lines-term.is) (c.requires.lines (get_or items i (0, pos 0)).0)
 
 pub loop-term-preserved : goal.loop-term-preserved
 loop-term-preserved c =
@@ -28,11 +28,11 @@ loop-term-preserved c =
     let p : ℕ × ℤ = get_or items i (0, pos 0) in
     let fits : FitsSigned w128 p.1 = search rules in
     let within : p.0 < length lines = term_below (length lines) items i (0, pos 0) c.requires.below c.loop-term-test.true in
-    let right : c.entries-in-loop-term.result.now ≡ line_at lines p.0 = c.entries-in-loop-term.ensures ∙ sym (element lines p.0 c.index-lines-term.result [] within c.index-lines-term.is) in
+    let right : c.index-lines-term.result ≡ line_at lines p.0 = sym (element lines p.0 c.index-lines-term.result [] within c.index-lines-term.is) in
     record {
       sum = λ x.
           c.in_ok-line.ensures.sum x
-          ∙ ap₂ (λ s t. s +ℚ t) (ap (combine x) c.entries.ensures ∙ c.loop-term.invariant.sum x)
+          ∙ ap₂ (λ s t. s +ℚ t) (c.loop-term.invariant.sum x)
           (ap₂ (λ s t. s *ℚ t) (c.whole.ensures.value ∙ ap whole (to_z-of_z w128 p.1 fits)) (ap (combine x) right))
           ∙ sym (sum_at-more (λ t. combine x (line_at lines t)) items i (0, pos 0) c.loop-term-test.true);
       ascends = c.in_ok-line.ensures.line;

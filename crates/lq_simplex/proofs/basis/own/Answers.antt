@@ -1,10 +1,5 @@
-use Rattle.std.proofs.Common.{ap, ◌∙◌, [], ◌∷◌, ◌++◌, List}
-use Rattle.lq_simplex.specs.declared.line.Entry.{Entry}
+use Rattle.std.proofs.lemmas.Result.{IfOk-weaker}
 use Rattle.lq_simplex.proofs.basis.own.Goals as goal
 
 pub returns : goal.returns
-returns c = record {
-  factor = c.whole-factor.result;
-  is = c.new.ensures ∙ c.in_ok-push.ensures.items ∙ ap (λ (es : List Entry). es ++ (record { variable = c.args.term; factor = c.whole-factor.result }) ∷ []) c.new-entries.ensures.items;
-  one = c.whole-factor.ensures.value;
-}
+returns c = IfOk-weaker c.single.result _ _ (λ line e. record { factor = c.whole.result; is = e; one = c.whole.ensures.value }) c.single.ensures

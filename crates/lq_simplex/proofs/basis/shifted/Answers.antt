@@ -16,7 +16,7 @@ loop-at-preserved c =
     let new : value_of c.in_ok-moved.field-0 ≡ valuation_of values at +ℚ factor_of (line_at lines at) v *ℚ by =
     c.in_ok-moved.ensures.exact
     ∙ ap₂ (λ s es. s +ℚ factor_of es v *ℚ by) (sym (value_there values at c.index-values-at.result inside c.index-values-at.is))
-    (c.entries.ensures ∙ sym (element lines at c.index-lines-at.result [] c.loop-at-test.true c.index-lines-at.is)) in
+    (sym (element lines at c.index-lines-at.result [] c.loop-at-test.true c.index-lines-at.is)) in
     record {
       count = ap length c.in_ok-push.ensures.items ∙ length_push c.loop-at.shifted.items c.in_ok-moved.field-0 ∙ ap (λ n. n + 1) c.loop-at.invariant.count;
       moved = λ k h. subst (λ (xs : List Frac). valuation_of xs k ≡ valuation_of values k +ℚ factor_of (line_at lines k) v *ℚ by) (sym c.in_ok-push.ensures.items)

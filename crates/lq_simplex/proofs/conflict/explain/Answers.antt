@@ -1,4 +1,4 @@
-use Rattle.std.proofs.Common.{◌≡◌, ◌∙◌, ◌+◌, ◌++◌, ◌∷◌, [], sym, ap, subst, Some, None, slice_get, List, ℕ, Vec, Global}
+use Rattle.std.proofs.Common.{◌≡◌, ◌∙◌, ◌+◌, ◌++◌, arith, ◌∷◌, [], sym, ap, subst, Some, None, slice_get, List, ℕ, Vec, Global}
 use Rattle.lq_simplex.specs.declared.line.Entry.{Entry}
 use Rattle.lq_num.specs.declared.frac.Frac.{Frac}
 use Rattle.lq_num.specs.Value.{value_of}
@@ -6,7 +6,6 @@ use Rattle.lq_linear.specs.declared.bound.Side.{Side}
 use Rattle.lq_simplex.specs.Bounds.{limit_at, blocking_of}
 use Rattle.lq_simplex.proofs.Limiting.{blocked_at}
 use Rattle.lq_simplex.proofs.Explaining.{Explained, explained_start, explained_step, explained_end, given_some, limit_names, limit_divides, own_limit}
-use Rattle.lq_simplex.proofs.Values.{there}
 use Rattle.lq_simplex.proofs.conflict.explain.Goals as goal
 use Rattle.lq_simplex.proofs.conflict.explain.Goals.{in-Some+in_ok-other+in_ok-push-2, in_default}
 
@@ -20,8 +19,8 @@ share-requires-clause-divides c =
     limit_divides c.args.rows.now c.requires.forms c.args.broken.now.side c.args.broken.now.variable c.args.broken.now.limit c.requires.read
     (own_limit c.args.rows.now c.args.limits.now c.args.broken.now c.args.line.now c.requires)
 
-pub loop-entry-init : goal.loop-entry-init
-loop-entry-init c = λ kept.
+pub loop-at-init : goal.loop-at-init
+loop-at-init c = λ kept.
     subst (λ (found : List (ℕ × Frac)). Explained c.args.rows.now c.args.limits.now c.args.broken.now c.args.line.now kept 0 found)
     (sym (c.in_ok-push.ensures.items ∙ ap (λ (ms : List (ℕ × Frac)). ms ++ c.in_ok-own.own ∷ []) c.new-found.ensures.items))
     (explained_start c.args.rows.now c.args.limits.now c.args.broken.now c.args.line.now kept c.whole.result c.in_ok-own.own.1 c.in_ok-own.own.0 c.in_ok-own.ensures.names c.whole.ensures.value
@@ -29,28 +28,28 @@ loop-entry-init c = λ kept.
 
 pub share-requires-in-Some-clause-given : goal.share-requires-in-Some-clause-given
 share-requires-in-Some-clause-given c =
-    let at : limit_at c.args.limits.now c.blocking-side.result c.entry-item.result.variable ≡ Some c.in-Some.limit = sym c.in-Some.ensures in
-    let g = given_some c.args.rows.now c.args.limits.now c.blocking-side.result c.entry-item.result.variable c.in-Some.limit c.requires.given at in
-    (g.standing.tag, limit_names c.args.rows.now c.blocking-side.result c.entry-item.result.variable c.in-Some.limit g)
+    let at : limit_at c.args.limits.now c.blocking-side.result c.entry-entry.result.variable ≡ Some c.in-Some.limit = sym c.in-Some.ensures in
+    let g = given_some c.args.rows.now c.args.limits.now c.blocking-side.result c.entry-entry.result.variable c.in-Some.limit c.requires.given at in
+    (g.standing.tag, limit_names c.args.rows.now c.blocking-side.result c.entry-entry.result.variable c.in-Some.limit g)
 
 pub share-requires-in-Some-clause-divides : goal.share-requires-in-Some-clause-divides
 share-requires-in-Some-clause-divides c =
-    let at : limit_at c.args.limits.now c.blocking-side.result c.entry-item.result.variable ≡ Some c.in-Some.limit = sym c.in-Some.ensures in
-    limit_divides c.args.rows.now c.requires.forms c.blocking-side.result c.entry-item.result.variable c.in-Some.limit c.requires.read
-    (given_some c.args.rows.now c.args.limits.now c.blocking-side.result c.entry-item.result.variable c.in-Some.limit c.requires.given at)
+    let at : limit_at c.args.limits.now c.blocking-side.result c.entry-entry.result.variable ≡ Some c.in-Some.limit = sym c.in-Some.ensures in
+    limit_divides c.args.rows.now c.requires.forms c.blocking-side.result c.entry-entry.result.variable c.in-Some.limit c.requires.read
+    (given_some c.args.rows.now c.args.limits.now c.blocking-side.result c.entry-entry.result.variable c.in-Some.limit c.requires.given at)
 
-pub loop-entry-preserved : goal.loop-entry-preserved
-loop-entry-preserved c = λ kept.
-    let rows = c.args.rows.now in let limits = c.args.limits.now in let broken = c.args.broken.now in let line = c.args.line.now in let i = c.loop-entry.entry-index in
-    let e : Entry = c.entry-item.result in
-    let here : slice_get line i ≡ Some e = there line i e c.loop-entry-test.true c.entry-item.is in
+pub loop-at-preserved : goal.loop-at-preserved
+loop-at-preserved c = λ kept.
+    let rows = c.args.rows.now in let limits = c.args.limits.now in let broken = c.args.broken.now in let line = c.args.line.now in let i = c.loop-at.at in
+    let e : Entry = c.entry-entry.result in
+    let here : slice_get line i ≡ Some e = c.entry-entry.ensures in
     elim c.match-at.branch [
       | in-Some+in_ok-other+in_ok-push-2 w ↦
           let at : limit_at limits (blocking_of broken.side (value_of e.factor)) e.variable ≡ Some w.in-Some.limit =
           ap (λ (s : Side). limit_at limits s e.variable) (sym c.blocking-side.ensures) ∙ sym c.at.ensures ∙ w.in-Some.is in
-          let items : c.match-at.found.items ≡ c.loop-entry.found.items ++ w.in_ok-other.other ∷ [] = ap (λ (v : Vec (ℕ × Frac) Global). v.items) w.found-is ∙ w.in_ok-push-2.ensures.items in
+          let items : c.match-at.found.items ≡ c.loop-at.found.items ++ w.in_ok-other.other ∷ [] = ap (λ (v : Vec (ℕ × Frac) Global). v.items) w.found-is ∙ w.in_ok-push-2.ensures.items in
           subst (λ (found : List (ℕ × Frac)). Explained rows limits broken line kept (i + 1) found) (sym items)
-          (explained_step rows limits broken line kept i c.loop-entry.found.items e w.in-Some.limit w.in_ok-other.other.1 w.in_ok-other.other.0 (c.loop-entry.invariant kept) here at
+          (explained_step rows limits broken line kept i c.loop-at.found.items e w.in-Some.limit w.in_ok-other.other.1 w.in_ok-other.other.0 (c.loop-at.invariant kept) here at
           w.in_ok-other.ensures.names w.in_ok-other.ensures.exact)
       | in_default w ↦
           let block = blocked_at limits broken.side kept.values line i e kept.blocked here in
@@ -60,4 +59,5 @@ loop-entry-preserved c = λ kept.
 
 pub returns-clause-contradicts : goal.returns-clause-contradicts
 returns-clause-contradicts c =
-    explained_end c.args.rows.now c.args.limits.now c.args.broken.now c.args.line.now c.requires c.loop-entry.entry-index c.loop-entry.found.items c.loop-entry-test.false (c.loop-entry.invariant c.requires)
+    explained_end c.args.rows.now c.args.limits.now c.args.broken.now c.args.line.now c.requires c.loop-at.at c.loop-at.found.items
+    (let e = c.len-at-end.ensures in let h = c.loop-at-test.false in omega arith) (c.loop-at.invariant c.requires)

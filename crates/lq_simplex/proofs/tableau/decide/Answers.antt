@@ -1,6 +1,8 @@
 use Rattle.std.proofs.Common.{◌≡◌, ◌<◌, length, arith, ◌∙◌, sym, subst, List}
 use Rattle.std.proofs.lemmas.Result.{IfOk-weaker}
 use Rattle.lq_linear.specs.Forms.{Parts}
+use Rattle.lq_simplex.specs.declared.line.Entry.{Entry}
+use Rattle.lq_simplex.specs.Conflicts.{IsKept}
 use Rattle.lq_simplex.specs.Systems.{System}
 use Rattle.lq_simplex.specs.Standing.{AllRead, AllBare}
 use Rattle.lq_simplex.proofs.Tables.{bounds_below, BothTight, both_given, crossed_kept, all_solved, none_weaker}
@@ -14,8 +16,9 @@ pub explain-requires : goal.explain-requires
 explain-requires c =
     let tight : BothTight c.args.rows.now c.in_ok-limits.limits = record { lower = c.in_ok-limits.ensures.lower; upper = c.in_ok-limits.ensures.upper } in
     let e = c.in-Some-crossed.ensures.some in
-    crossed_kept c.args.basis.now.forms c.args.rows.now c.in_ok-limits.limits c.in-Some-crossed.broken c.whole.result e.0 c.requires.read c.requires.apart (both_given c.args.rows.now c.in_ok-limits.limits tight)
-    c.whole.ensures.value e.1 e.2 e.3
+    subst (λ (es : List Entry). IsKept c.args.rows.now c.in_ok-limits.limits c.in-Some-crossed.broken es) (sym c.in_ok-own.ensures)
+    (crossed_kept c.args.basis.now.forms c.args.rows.now c.in_ok-limits.limits c.in-Some-crossed.broken c.whole.result e.0 c.requires.read c.requires.apart (both_given c.args.rows.now c.in_ok-limits.limits tight)
+    c.whole.ensures.value e.1 e.2 e.3)
 
 pub returns-clause-solved : goal.returns-clause-solved
 returns-clause-solved c =

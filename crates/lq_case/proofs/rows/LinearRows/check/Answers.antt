@@ -3,8 +3,9 @@ use Rattle.std.proofs.lemmas.Result.{err_from_is_err_and}
 use Rattle.lq_combine.specs.TreeView.{multiplier_items, multiplier_views}
 use Rattle.lq_diff.specs.Table.{table_point, table_rows}
 use Rattle.lq_case.specs.RowState.{RowState, MayStop}
-use Rattle.lq_case.specs.Stored.{MayBeFilled, tagged_rows}
+use Rattle.lq_case.specs.Stored.{MayBeFilled, SolvesBy, tagged_rows}
 use Rattle.lq_case.proofs.Keeping.{kept_again, kept_clash, held, kept_solves, stops_distances, stops_tableau}
+use Rattle.lq_case.proofs.Nearing.{none_of, not_all}
 use Rattle.lq_case.proofs.rows.LinearRows.check.Goals as goal
 
 pub returns-in_err-clash-clause-stop : goal.returns-in_err-clash-clause-stop
@@ -50,3 +51,21 @@ returns-in_err-clash-2-clause-stop c =
     let s = stops_tableau c.self.inside.pivots c.self.inside.rows.items c.self.inside.odd.items c.self.inside.distances c.in_err-clash-2.field-0.0 c.self.invariant.1.kept
     (λ e. let t = c.all_hold.ensures.none (c.deref-2.ensures.value ∙ e) in let f = c.if-all_hold.false in absurd (cc)) c.in_err-clash-2.ensures.stop in
     rw (p.1, p.2) (subst (λ (s : RowState). MayStop s.pivots s.rows c.in_err-clash-2.field-0.0) c.self.view_is s)
+
+pub invariant_of-self-then-is_none : goal.invariant_of-self-then-is_none
+invariant_of-self-then-is_none c =
+    let stored = c.self.inside.rows.items in let odd = c.self.inside.odd.items in let d = c.self.inside.distances in let e = c.decide.new.engine in
+    let terms : d.terms ≡ e.terms = let l = c.decide.ensures.limits in cc in
+    let solves : SolvesBy (tagged_rows c.deref-3.result.now) c.decide_by.new.tableau = none_of c.in_ok-clash-2.clash (let n = c.is_none.ensures in let t = c.if-is_none.true in cc) c.in_ok-clash-2.ensures.none in
+    let rows = c.deref-3.ensures.value in (
+      sym terms ∙ c.self.invariant.0,
+      record {
+        kept = kept_again stored odd d e c.self.invariant.1.kept c.decide.ensures.limits c.decide.ensures.stands c.decide.ensures.going;
+        filled = subst (λ l. MayBeFilled e.terms c.self.inside.pivots (tagged_rows l) c.decide_by.new.tableau) rows
+            (subst (λ n. MayBeFilled n c.self.inside.pivots (tagged_rows c.deref-3.result.now) c.decide_by.new.tableau) (sym c.self.invariant.0 ∙ terms) c.decide_by.ensures.filled);
+        found_by = (
+          subst (λ l. SolvesBy (tagged_rows l) c.decide_by.new.tableau) rows solves,
+          not_all stored odd d c.self.invariant.1.kept (λ x. let t = c.all_hold.ensures.none (c.deref-2.ensures.value ∙ x) in let f = c.if-all_hold.false in absurd (cc)),
+        );
+      },
+    )

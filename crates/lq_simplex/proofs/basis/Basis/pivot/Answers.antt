@@ -27,13 +27,13 @@ invariant_of-self c =
     let there = rw (sym c.self.view_is) at c.requires.entry in
     let inside = rw (sym c.self.view_is) at c.requires.inside in
     let within : c.args.leaving < length s.lines = (let e = c.self.invariant.are_lines.same in omega arith) in
-    let line : c.entries.result.now ≡ line_at s.lines c.args.leaving = c.entries.ensures ∙ sym (element s.lines c.args.leaving c.index-2.result.now [] within c.index-2.ensures) in
+    let line : c.index-2.result.now ≡ line_at s.lines c.args.leaving = sym (element s.lines c.args.leaving c.index-2.result.now [] within c.index-2.ensures) in
     let same : length c.install.new.lines ≡ c.self.inside.lines.len = omega (arith, c.install.auto.lines, c.deref_mut.ensures.len) in
     let pivot : IsPivot s.lines c.install.new.lines c.args.leaving c.args.entering.variable (value_of c.args.entering.factor) c.in_ok-zero.zero =
     pivot_of s c.install.new.lines c.args.leaving there.0 c.args.entering c.in_ok-zero.zero c.in_ok-changed.changed.items
     c.self.invariant inside there.1 c.requires.apart
     (rw (sym line) c.in_ok-zero.ensures.sum)
-    (rw (sym c.deref-3.ensures.value, sym c.entries-2.ensures) c.in_ok-changed.ensures.added)
+    (rw (sym c.deref-3.ensures.value) c.in_ok-changed.ensures.added)
     (c.install.auto.lines ∙ ap length c.deref_mut.ensures.value)
     (λ r. rw (sym c.deref_mut.ensures.value) (c.install.ensures r)) in
     rw (take_at c.install.new.lines (drop (length c.install.new.lines) c.self.inside.lines.items) c.self.inside.lines.len same)
@@ -48,14 +48,14 @@ returns-clause-brought c =
     let inside = rw (sym c.self.view_is) at c.requires.inside in
     let within : c.args.leaving < length s.lines = (let e = c.self.invariant.are_lines.same in omega arith) in
     let valued : c.args.leaving < length s.values = (let e = c.self.invariant.valued in omega arith) in
-    let line : c.entries.result.now ≡ line_at s.lines c.args.leaving = c.entries.ensures ∙ sym (element s.lines c.args.leaving c.index-2.result.now [] within c.index-2.ensures) in
+    let line : c.index-2.result.now ≡ line_at s.lines c.args.leaving = sym (element s.lines c.args.leaving c.index-2.result.now [] within c.index-2.ensures) in
     let same : length c.install.new.lines ≡ c.self.inside.lines.len = omega (arith, c.install.auto.lines, c.deref_mut.ensures.len) in
     let f = value_of c.args.entering.factor in let bound = value_of c.args.bound.now in let values = c.in_ok-values.values.items in
     let pivot : IsPivot s.lines c.install.new.lines c.args.leaving c.args.entering.variable f c.in_ok-zero.zero =
     pivot_of s c.install.new.lines c.args.leaving there.0 c.args.entering c.in_ok-zero.zero c.in_ok-changed.changed.items
     c.self.invariant inside there.1 c.requires.apart
     (rw (sym line) c.in_ok-zero.ensures.sum)
-    (rw (sym c.deref-3.ensures.value, sym c.entries-2.ensures) c.in_ok-changed.ensures.added)
+    (rw (sym c.deref-3.ensures.value) c.in_ok-changed.ensures.added)
     (c.install.auto.lines ∙ ap length c.deref_mut.ensures.value)
     (λ r. rw (sym c.deref_mut.ensures.value) (c.install.ensures r)) in
     let way : value_of c.in_ok-by.by *ℚ f ≡ bound -ℚ valuation_of s.values c.args.leaving =

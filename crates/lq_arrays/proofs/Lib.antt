@@ -1,0 +1,4 @@
+pub mod Lists
+pub mod Fetching
+pub mod Making
+pub mod Storing

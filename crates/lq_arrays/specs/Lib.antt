@@ -1,0 +1,2 @@
+-- Arrays: definitions.
+pub mod Arrays

@@ -1,0 +1,4 @@
+-- Lemmas.
+mod Apart
+mod Counting
+mod Times

@@ -1,0 +1,3 @@
+-- What the numbers of binders say of a scoped program.
+pub mod Counting
+pub mod Apart

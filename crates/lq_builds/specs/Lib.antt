@@ -1,0 +1,2 @@
+-- Constructors: definitions.
+pub mod Builds

@@ -1,0 +1,2 @@
+-- Operands and calls: definitions.
+pub mod Operands

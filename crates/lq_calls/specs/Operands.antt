@@ -1,0 +1,111 @@
+-- Operands, with what stands for them in predicates, and calls.
+use Rattle.std.specs.Prelude.{◌≡◌, ℕ, suc, true, Some, None}
+use Rattle.lq_model.specs.Core as core
+use Rattle.lq_model.specs.Core.{Core, Value, close}
+use Rattle.lq_model.specs.Operations.{World}
+use Rattle.lq_parts.specs.Assignment.{Assignment}
+use Rattle.lq_parts.specs.Substitution.{Atom}
+use Rattle.lq_tree.specs.MlType as ml
+use Rattle.lq_tree.specs.MlType.{MlType}
+use Rattle.lq_refined.specs.Context.{Context, type_in}
+use Rattle.lq_refined.specs.Operations.{symbol_of}
+use Rattle.lq_refined.specs.Refined.{Refined, Refineds, int_with, bool_with, unit_type, function, tuple_of, array_with, data_with, map_with, type_variable, none, more, kind, argument_of}
+use Rattle.lq_subtype.specs.Subtype.{IsSubtype}
+use Rattle.lq_checks.specs.Basis.{Basis}
+use Rattle.lq_checks.specs.Fitting.{Fits}
+use Rattle.lq_checks.specs.Operation.{called_type}
+use Rattle.lq_checks.specs.Pure.{pure_type, pure_atom}
+use Rattle.lq_checks.specs.Tree.{Pure, whole, flag, unit, use_of, negated, add, subtract, multiply, length_of, compare, not_of, and_of, or_of}
+use Rattle.lq_checks.specs.Typing.{Points, Types, HasPure}
+use Rattle.lq_inhabits.specs.Truth.{Givens, Objects, Scene}
+use Rattle.lq_inhabits.specs.Shut.{shut, Shuts}
+use Rattle.lq_inhabits.specs.Inhabits.{Table, Inhabits}
+use Rattle.lq_inhabits.specs.Runs.{RunsWell}
+use Rattle.lq_included.specs.Apart.{Apart}
+use Rattle.lq_included.specs.Laws.{IsScene}
+use Rattle.lq_included.specs.Putting.{StandsFor}
+use Rattle.lq_included.specs.Symbols.{Symbols, TypeOn}
+use Rattle.lq_renamed.specs.Names.{IsNoVariable, NamesApart, TwinsOutside}
+use Rattle.lq_runs.specs.Closed.{names_in, IsClosed}
+use Rattle.lq_runs.specs.Meets.{pairs, Meets}
+use Rattle.lq_runs.specs.Runs.{Exactly, RunsTo}
+use Rattle.lq_pures.specs.Cores.{pure_core}
+use Rattle.lq_pures.specs.Pures.{KnowsLengths, scene_of, PureOver}
+
+-- an operand runs to one value that inhabits its type, and the atom stands for the value in predicates
+abbrev pub RunsToOperand : Scene → Shuts → Context → Core → Refined → Atom → Type 0
+RunsToOperand S by Γ c t a =
+    (n : ℕ) (W : Table) (σ : Givens) → Meets S by (suc n) W Γ σ
+    → (v : Value) × Inhabits S (suc n) W (shut σ by t) v × StandsFor S.objects σ a v × ((k : ℕ) (w : World) → RunsWell k (close (pairs σ) c) w (Exactly v w))
+
+-- where a function in the type names its argument by a name of the environment, that name's type is of the argument's kind
+abbrev mutual
+  pub KindsAgree : Context → Refined → Type 0
+  KindsAgree Γ (int_with p) = Unit {0}
+  KindsAgree Γ (bool_with p) = Unit {0}
+  KindsAgree Γ unit_type = Unit {0}
+  KindsAgree Γ (function None a b) = KindsAgree Γ a × KindsAgree Γ b
+  KindsAgree Γ (function (Some x) a b) =
+      (names_in Γ (symbol_of x) ≡ true → (kind (type_in Γ (symbol_of x)) ≡ kind a) × IsNoVariable (type_in Γ (symbol_of x)))
+      × KindsAgree Γ a × KindsAgree Γ b
+  KindsAgree Γ (tuple_of ts) = AllKindsAgree Γ ts
+  KindsAgree Γ (array_with e p) = KindsAgree Γ e
+  KindsAgree Γ (data_with d ts m p) = AllKindsAgree Γ ts
+  KindsAgree Γ (map_with e p) = Unit {0}
+  KindsAgree Γ (type_variable i) = Unit {0}
+
+  pub AllKindsAgree : Context → Refineds → Type 0
+  AllKindsAgree Γ none = Unit {0}
+  AllKindsAgree Γ (more t ts) = KindsAgree Γ t × AllKindsAgree Γ ts
+
+-- The names of arguments in a variable's type are apart from the names of which it speaks, have kinds that agree with the environment's, and
+-- twins that stand nowhere in it.
+pub record IsTwinReady (S : Scene) (Γ : Context) (t : Refined) : Type 0 where
+  pub over : Symbols
+  pub on : TypeOn S.assignment t over
+  pub apart : NamesApart over t
+  pub kinds : KindsAgree Γ t
+  pub outside : TwinsOutside (names_in Γ) t
+
+-- a variable may be used where its type is one of these; functions and tuples get twins
+abbrev pub IsUsable : Scene → Context → Refined → Type 0
+IsUsable S Γ (int_with p) = Unit {0}
+IsUsable S Γ (bool_with p) = Unit {0}
+IsUsable S Γ unit_type = Unit {0}
+IsUsable S Γ (function x a b) = IsTwinReady S Γ (function x a b)
+IsUsable S Γ (tuple_of ts) = IsTwinReady S Γ (tuple_of ts)
+IsUsable S Γ (array_with e p) = Unit {0}
+IsUsable S Γ (data_with d ts m p) = Unit {0}
+IsUsable S Γ (map_with e p) = ⊥
+IsUsable S Γ (type_variable i) = ⊥
+
+abbrev pub IsUsablePure : Scene → Context → Pure → Type 0
+IsUsablePure S Γ (use_of u) = IsUsable S Γ (type_in Γ (symbol_of u.name))
+IsUsablePure S Γ (whole n) = Unit {0}
+IsUsablePure S Γ (flag b) = Unit {0}
+IsUsablePure S Γ unit = Unit {0}
+IsUsablePure S Γ (negated a) = Unit {0}
+IsUsablePure S Γ (add a b) = Unit {0}
+IsUsablePure S Γ (subtract a b) = Unit {0}
+IsUsablePure S Γ (multiply a b) = Unit {0}
+IsUsablePure S Γ (length_of a) = Unit {0}
+IsUsablePure S Γ (compare o a b) = Unit {0}
+IsUsablePure S Γ (not_of a) = Unit {0}
+IsUsablePure S Γ (and_of a b) = Unit {0}
+IsUsablePure S Γ (or_of a b) = Unit {0}
+
+-- a usable expression is an operand of its type, and its atom stands for it
+abbrev pub OperandsRun : Type 0
+OperandsRun =
+    (P : Basis) (A : Assignment) (O : Objects) → IsScene (scene_of P A O) → KnowsLengths O → (by : Shuts) (Q : Points) (Δ : Types) (Γ : Context)
+    → Fits Δ Γ → IsClosed (scene_of P A O) Γ → (e : Pure) (a : MlType) → HasPure Q Δ e a → PureOver (names_in Γ) e
+    → IsUsablePure (scene_of P A O) Γ e → RunsToOperand (scene_of P A O) by Γ (pure_core e) (pure_type P Γ e) (pure_atom P Γ e)
+
+-- a call whose operand's type is a subtype of the argument's runs to the result's type, with the operand for the argument's name
+abbrev pub CallsRun : Type 0
+CallsRun =
+    (P : Basis) (A : Assignment) (O : Objects) → IsScene (scene_of P A O) → KnowsLengths O → (by : Shuts) (Q : Points) (Δ : Types) (Γ : Context)
+    → Fits Δ Γ → IsClosed (scene_of P A O) Γ → (g e : Pure) (a b : MlType) → HasPure Q Δ g (ml.arrow a b) → HasPure Q Δ e a
+    → PureOver (names_in Γ) g → PureOver (names_in Γ) e → IsUsablePure (scene_of P A O) Γ g → IsUsablePure (scene_of P A O) Γ e
+    → (d : IsSubtype P.setting A Γ (pure_type P Γ e) (argument_of (pure_type P Γ g))) → Apart (scene_of P A O) d
+    → RunsTo (scene_of P A O) by Γ (core.call (pure_core g) (pure_core e)) (called_type P Γ (pure_type P Γ g) e)

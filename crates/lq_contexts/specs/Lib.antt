@@ -1,0 +1,2 @@
+-- What subtypings add: definitions.
+pub mod Growing

@@ -1,0 +1,8 @@
+//! Environments in which names have types, and the implications between the tops of two types in one.
+#![tactic(auto)]
+
+mod comparing;
+mod naming;
+
+pub use comparing::tops;
+pub use naming::{TypedName, guarded, named};

@@ -1,0 +1,113 @@
+-- Facts with equations after them: what their rows say, their sizes, and the stops.
+use Rattle.std.proofs.Common.{◌≡◌, ◌⊎◌, inl, inr, ℕ, suc, pos, negsuc, ◌≤◌, List, [], ◌∷◌, ◌++◌, map, refl, sym, ap, subst, ◌∙◌, arith, append-nil, append_assoc}
+use Rattle.std.proofs.lemmas.List.{map-append}
+use Rattle.lq_case.specs.RowState.{AreDifferences, MayStop}
+use Rattle.lq_combine.specs.Path.{Fact, row_fact, flag_fact, objects_fact, never}
+use Rattle.lq_combine.specs.Proves.{rows_among, rows_from}
+use Rattle.lq_diff.specs.Stops.{StopsBy}
+use Rattle.lq_diff.specs.Table.{constants}
+use Rattle.lq_linear.specs.Contradiction.{Solves}
+use Rattle.lq_linear.specs.Row.{Row, RowHolds, Valuation}
+use Rattle.lq_linear.specs.declared.engine.LinearStop.{LinearStop}
+use Rattle.lq_linear.specs.declared.engine.LinearStop.TheVariants.{Number, Pivots, Memory}
+use Rattle.lq_math.specs.Rational.{ℚ, whole, ◌+ℚ◌, ◌*ℚ◌}
+use Rattle.lq_math.specs.Solver.{var, con, ◌⊕◌, ◌⊗◌, solve}
+use Rattle.lq_simplex.specs.Table.{StopsAt}
+use Rattle.lq_equating.specs.Equating.{AddsEquations, equation, equation_fact}
+
+-- ---- what rows say
+
+pub solves_fewer : (v : Valuation) (n : ℕ) (fs gs : List Fact) → Solves v (rows_from n (fs ++ gs)) → Solves v (rows_from n fs)
+solves_fewer v n [] gs h = tt
+solves_fewer v n (row_fact r ∷ fs) gs h = (h.0, solves_fewer v (suc n) fs gs h.1)
+solves_fewer v n (flag_fact x value ∷ fs) gs h = solves_fewer v (suc n) fs gs h
+solves_fewer v n (objects_fact a b one ∷ fs) gs h = solves_fewer v (suc n) fs gs h
+solves_fewer v n (never ∷ fs) gs h = solves_fewer v (suc n) fs gs h
+
+pub last_holds : (v : Valuation) (n : ℕ) (fs : List Fact) (r : Row) → Solves v (rows_from n (fs ++ row_fact r ∷ [])) → RowHolds v r
+last_holds v n [] r h = h.0
+last_holds v n (row_fact s ∷ fs) r h = last_holds v (suc n) fs r h.1
+last_holds v n (flag_fact x value ∷ fs) r h = last_holds v (suc n) fs r h
+last_holds v n (objects_fact a b one ∷ fs) r h = last_holds v (suc n) fs r h
+last_holds v n (never ∷ fs) r h = last_holds v (suc n) fs r h
+
+same_numbers : (x y : ℚ) → (whole (pos 1) *ℚ x +ℚ (whole (negsuc 0) *ℚ y +ℚ whole (pos 0))) +ℚ whole (pos 0) ≡ whole (pos 0) → x ≡ y
+same_numbers x y e =
+    solve (x ∷ y ∷ []) (var 0) ((((con (pos 1) ⊗ var 0) ⊕ ((con (negsuc 0) ⊗ var 1) ⊕ con (pos 0))) ⊕ con (pos 0)) ⊕ var 1) refl ∙ ap (λ z. z +ℚ y) e
+    ∙ solve (y ∷ []) (con (pos 0) ⊕ var 0) (var 0) refl
+
+pub equation_says : (v : Valuation) (i j : ℕ) → RowHolds v (equation (i, j)) → v i ≡ v j
+equation_says v i j h = same_numbers (v i) (v j) h
+
+-- ---- facts that get equations
+
+pub adds_none : (fs : List Fact) → AddsEquations fs fs
+adds_none fs = record { pairs = []; is = sym (append-nil fs) }
+
+pub adds_one : (old new : List Fact) (p : ℕ × ℕ) → new ≡ old ++ equation_fact p ∷ [] → AddsEquations old new
+adds_one old new p e = record { pairs = p ∷ []; is = e }
+
+pub adds_then : (a b c : List Fact) → AddsEquations a b → AddsEquations b c → AddsEquations a c
+adds_then a b c p q = record {
+  pairs = p.pairs ++ q.pairs;
+  is = q.is ∙ ap (λ l. l ++ map equation_fact q.pairs) p.is ∙ append_assoc a (map equation_fact p.pairs) (map equation_fact q.pairs)
+      ∙ ap (λ l. a ++ l) (sym (map-append equation_fact p.pairs q.pairs));
+}
+
+pub adds_solves : (v : Valuation) (old new : List Fact) → AddsEquations old new → Solves v (rows_among new) → Solves v (rows_among old)
+adds_solves v old new p h = solves_fewer v 1 old (map equation_fact p.pairs) (subst (λ l. Solves v (rows_among l)) p.is h)
+
+-- ---- sizes and stops
+
+pub fewer_constants : (n : ℕ) (fs gs : List Fact) → constants (rows_from n fs) ≤ constants (rows_from n (fs ++ gs))
+fewer_constants n [] gs = omega arith
+fewer_constants n (row_fact r ∷ fs) gs = let k = fewer_constants (suc n) fs gs in omega arith
+fewer_constants n (flag_fact x value ∷ fs) gs = fewer_constants (suc n) fs gs
+fewer_constants n (objects_fact a b one ∷ fs) gs = fewer_constants (suc n) fs gs
+fewer_constants n (never ∷ fs) gs = fewer_constants (suc n) fs gs
+
+no_constants : (n : ℕ) (pairs : List (ℕ × ℕ)) → constants (rows_from n (map equation_fact pairs)) ≡ 0
+no_constants n [] = refl
+no_constants n (p ∷ pairs) = let k = no_constants (suc n) pairs in omega (arith, k)
+
+same_constants : (n : ℕ) (fs : List Fact) (pairs : List (ℕ × ℕ)) → constants (rows_from n (fs ++ map equation_fact pairs)) ≡ constants (rows_from n fs)
+same_constants n [] pairs = no_constants n pairs
+same_constants n (row_fact r ∷ fs) pairs = let k = same_constants (suc n) fs pairs in omega arith
+same_constants n (flag_fact x value ∷ fs) pairs = same_constants (suc n) fs pairs
+same_constants n (objects_fact a b one ∷ fs) pairs = same_constants (suc n) fs pairs
+same_constants n (never ∷ fs) pairs = same_constants (suc n) fs pairs
+
+all_differences : (n : ℕ) (pairs : List (ℕ × ℕ)) → AreDifferences (rows_from n (map equation_fact pairs))
+all_differences n [] = tt
+all_differences n (p ∷ pairs) = (inl (refl, refl), all_differences (suc n) pairs)
+
+more_differences : (n : ℕ) (fs : List Fact) (pairs : List (ℕ × ℕ)) → AreDifferences (rows_from n fs) → AreDifferences (rows_from n (fs ++ map equation_fact pairs))
+more_differences n [] pairs h = all_differences n pairs
+more_differences n (row_fact r ∷ fs) pairs h = (h.0, more_differences (suc n) fs pairs h.1)
+more_differences n (flag_fact x value ∷ fs) pairs h = more_differences (suc n) fs pairs h
+more_differences n (objects_fact a b one ∷ fs) pairs h = more_differences (suc n) fs pairs h
+more_differences n (never ∷ fs) pairs h = more_differences (suc n) fs pairs h
+
+pub stops_at_more : (n m : ℕ) (stop : LinearStop) → n ≤ m → StopsBy n stop → StopsBy m stop
+stops_at_more n m (Number e) l h = (h.0, (let k = h.1 in omega arith))
+stops_at_more n m (Pivots k) l h = h
+stops_at_more n m Memory l h = tt
+
+pub adds_constants : (old new : List Fact) → AddsEquations old new → constants (rows_among new) ≡ constants (rows_among old)
+adds_constants old new p = ap (λ l. constants (rows_among l)) p.is ∙ same_constants 1 old p.pairs
+
+pub adds_stops : (old new : List Fact) (stop : LinearStop) → AddsEquations old new → StopsBy (constants (rows_among new)) stop → StopsBy (constants (rows_among old)) stop
+adds_stops old new stop p h = subst (λ n. StopsBy n stop) (adds_constants old new p) h
+
+pub may_stop_by : (limit : ℕ) (facts : List Fact) (stop : LinearStop) → StopsBy (constants (rows_among facts)) stop → MayStop limit (rows_among facts) stop
+may_stop_by limit facts stop h = record { differences = λ d. h; any = inl h }
+
+pub adds_may_stop : (limit : ℕ) (old new : List Fact) (stop : LinearStop) → AddsEquations old new → MayStop limit (rows_among new) stop → MayStop limit (rows_among old) stop
+adds_may_stop limit old new stop p h = record {
+  differences = λ d. adds_stops old new stop p (h.differences (subst (λ l. AreDifferences (rows_among l)) (sym p.is) (more_differences 1 old p.pairs d)));
+  any = by h.any;
+}
+  where
+    by : StopsBy (constants (rows_among new)) stop ⊎ StopsAt limit stop → StopsBy (constants (rows_among old)) stop ⊎ StopsAt limit stop
+    by (inl k) = inl (adds_stops old new stop p k)
+    by (inr k) = inr k

@@ -1,0 +1,15 @@
+pub mod Chains
+pub mod Places
+pub mod Rows
+pub mod Sides
+pub mod Joining
+pub mod Equations
+pub mod Firsts
+pub mod Equated
+pub mod Told
+pub mod Along
+pub mod Classes
+pub mod Numbers
+pub mod Plain
+pub mod Ways
+pub mod Flags

@@ -1,0 +1,17 @@
+use Rattle.std.proofs.Common.{◌∙◌, sym, ap, subst, inl, inr}
+use Rattle.lq_equating.specs.Naming.{HasArgument, objects_of}
+use Rattle.lq_equating.proofs.Sides.{keeps_new, on_ok}
+use Rattle.lq_pred.specs.Table.{with_term}
+use Rattle.lq_pred.specs.TermView.{sum_of}
+use Rattle.lq_equating.proofs.arguments.add_argument.Goals as goal
+
+pub returns-in-Length-clause-has : goal.returns-in-Length-clause-has
+returns-in-Length-clause-has c =
+    on_ok c.add.result
+    (λ e. let h = (keeps_new (objects_of c.args.objects.now) (objects_of c.add.new.self) (sum_of c.in-Length.object.value)
+    (e ∙ ap (λ t. with_term (objects_of c.args.objects.now) (sum_of t)) c.deref.ensures)).1 in
+    elim c.in-Length.is [
+      | inl p ↦ subst (λ t. HasArgument (objects_of c.add.new.self) (sum_of t)) (sym p) h
+      | inr p ↦ subst (λ t. HasArgument (objects_of c.add.new.self) (sum_of t)) (sym p.1) h
+    ])
+    c.add.ensures

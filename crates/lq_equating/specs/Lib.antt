@@ -1,0 +1,4 @@
+pub mod Naming
+pub mod Literals
+pub mod Equating
+pub mod Values

@@ -1,0 +1,4 @@
+pub mod Standing
+pub mod Stands
+pub mod Bare
+pub mod Unfolded

@@ -1,0 +1,3 @@
+-- What the fields of a constructor inhabit: definitions.
+pub mod Standing
+pub mod Fields

@@ -1,0 +1,34 @@
+use Rattle.std.proofs.Common.{◌∙◌, [], ◌∷◌, ◌++◌, append-nil, sym, ap}
+use Rattle.lq_instances.specs.Scopes.{Scope, scope_in}
+use Rattle.lq_instances.specs.Views.{scopes_view}
+use Rattle.lq_refinements.specs.Growing.{Extends-refl}
+use Rattle.lq_sorted.specs.Views.{shape_view}
+use Rattle.lq_templates.specs.Scopes.{with_symbol}
+use Rattle.lq_fresh.specs.Growing.{scope_pushed}
+use Rattle.lq_fresh.specs.Views.{scopes_of, shape_if, unknowns_of, Longer}
+use Rattle.lq_fresh.proofs.Adding.{symbol_spoken, views_kept}
+use Rattle.lq_fresh.proofs.templates.Templates.with_symbol.Goals as goal
+
+pub returns-in_ok-added-in-Some-clause-scope : goal.returns-in_ok-added-in-Some-clause-scope
+returns-in_ok-added-in-Some-clause-scope c =
+    let old = scopes_of c.args.self.now in
+    let Γ = scope_in old c.args.scope in
+    let s = c.in-Some.shape in
+    let X : Scope = Γ ++ (c.args.symbol, shape_view s) ∷ [] in
+    ap (λ l. scope_in l c.in_ok-added-in-Some.added) c.in_ok-added-in-Some.ensures.added
+    ∙ (ap (scope_in (old ++ X ∷ [])) c.in_ok-added-in-Some.ensures.number
+    ∙ (scope_pushed old X
+    ∙ (sym (symbol_spoken c.args.symbol s Γ) ∙ ap (λ o. with_symbol c.args.symbol (shape_if o) Γ) (sym c.in-Some.is))))
+
+pub returns-in_ok-added-in-Some-clause-made : goal.returns-in_ok-added-in-Some-clause-made
+returns-in_ok-added-in-Some-clause-made c =
+    let self = c.args.self.now in
+    let old = scopes_of self in
+    let new = scopes_view c.add.new.self in
+    let X : Scope = scope_in old c.args.scope ++ (c.args.symbol, shape_view c.in-Some.shape) ∷ [] in
+    let l : Longer old new = record { added = X ∷ []; is = c.in_ok-added-in-Some.ensures.added } in
+    record {
+      types = Extends-refl self.types.rows.items;
+      scopes = l;
+      unknowns = views_kept old new self.unknowns.unknowns.items l self.inside ∙ sym (append-nil (unknowns_of self));
+    }

@@ -1,0 +1,14 @@
+-- What is known of fields is enough for matrices.
+use Rattle.std.specs.Prelude.{◌≡◌, ℕ, List}
+use Rattle.lq_templates.specs.Cells.{constructor_cells}
+use Rattle.lq_tree.specs.MlType.{MlTypes}
+use Rattle.lq_tree.specs.Types.{Signature}
+use Rattle.lq_fresh.specs.Fields.{cells_of_constructors, shapes_of}
+use Rattle.lq_fresh.specs.Views.{constructors_of, Describes}
+use Rattle.lq_fresh.specs.declared.fields.Datatypes.{Datatypes}
+
+-- the cells by the shapes of arguments and fields are those of a template
+abbrev pub CellsAreOfShapes : Type 0
+CellsAreOfShapes =
+    (D : Datatypes) (g : Signature) (ordered : ℕ → List ℕ) (n d : ℕ) (us : MlTypes) → Describes D g ordered
+    → cells_of_constructors n d (shapes_of us) (constructors_of D d) ≡ constructor_cells g n d us (ordered d)

@@ -1,0 +1,6 @@
+-- Fresh templates in tables: definitions.
+pub mod Fields
+pub mod Inside
+pub mod Views
+pub mod Growing
+pub mod Laws

@@ -1,0 +1,11 @@
+//! Fresh templates in tables: a refined type with unknowns for a simple type, with the scopes and shapes of its unknowns.
+#![tactic(auto)]
+
+mod fields;
+mod laws;
+mod matrix;
+mod templates;
+
+pub use fields::{Constructor, Datatypes, Field};
+pub use laws::cells_are_of_shapes;
+pub use templates::Templates;

@@ -1,0 +1,122 @@
+// Refined types with unknowns, and the scopes of the unknowns.
+ghost use Rattle.lq_fresh.specs.Inside.{AreInside};
+
+use lq_instances::{Scopes, Unknown, Unknowns, Visible};
+use lq_pred::Symbol;
+use lq_refinements::{Form, RefinedTypes};
+use lq_sorted::Shape;
+use lq_substitution::{Part, Parts, Subst};
+use std::alloc::{AllocError, Global};
+
+/// Refined types in a table, and their unknowns, each with its scope and its shape.
+#[derive(Drop)]
+pub struct Templates {
+    types: RefinedTypes,
+    unknowns: Unknowns,
+    ghost inside: { AreInside unknowns },
+}
+
+impl Templates {
+    ghost use Rattle.std.specs.Prelude.{◌≡◌, ◌<◌, [], ◌∷◌, ◌++◌, All, IfOk, OnOk, length};
+    ghost use Rattle.lq_instances.specs.Scopes.{scope_in, without};
+    ghost use Rattle.lq_instances.specs.Seen.{hidden_view, visible_view};
+    ghost use Rattle.lq_parts.specs.Part.{Scopes as ScopeLists};
+    ghost use Rattle.lq_refinements.specs.Forms.{form_rows, form_type};
+    ghost use Rattle.lq_refinements.specs.Whole.{count_of, refined_at};
+    ghost use Rattle.lq_sorted.specs.Views.{shape_view};
+    ghost use Rattle.lq_templates.specs.Scopes.{with_symbol};
+    ghost use Rattle.lq_fresh.specs.Growing.{top_parts, top_unknowns};
+    ghost use Rattle.lq_fresh.specs.Views.{all_types, scope_at, scopes_of, shape_if, unknowns_of, IsMade};
+
+    /// No types, no unknowns, and the empty scope alone.
+    pub fn new(alloc: Global) -> Result<Templates, AllocError>
+        ensures types { IfOk result (λ t. count_of t.types ≡ 0) }
+        ensures scopes { IfOk result (λ t. scopes_of t ≡ [] ∷ []) }
+        ensures unknowns { IfOk result (λ t. unknowns_of t ≡ []) }
+    {
+        Ok(Templates {
+            types: RefinedTypes::new(alloc),
+            unknowns: Unknowns {
+                scopes: Scopes::new(alloc)?,
+                unknowns: Vec::new(alloc),
+            },
+        })
+    }
+
+    /// The types.
+    pub fn types(&self) -> &RefinedTypes
+        ensures { result.now ≡ self.now.types }
+    {
+        &self.types
+    }
+
+    /// The unknowns with their scopes.
+    pub fn unknowns(&self) -> &Unknowns
+        ensures { result.now ≡ self.now.unknowns }
+    {
+        &self.unknowns
+    }
+
+    /// The number of a scope with one symbol more, where predicates speak of its shape.
+    pub fn with_symbol(
+        &mut self,
+        scope: u64,
+        symbol: Symbol,
+        shape: Option<Shape>,
+    ) -> Result<u64, AllocError>
+        requires { scope < length (scopes_of self.old) }
+        ensures scope { IfOk result (λ s. scope_at self.new s ≡ with_symbol symbol (shape_if shape) (scope_at self.old scope)) }
+        ensures there { IfOk result (λ s. s < length (scopes_of self.new)) }
+        ensures made { OnOk result (IsMade self.old self.new []) }
+        ensures kept { self.new.types ≡ self.old.types }
+    {
+        match shape {
+            Some(shape) => {
+                let added = self.unknowns.scopes.add(scope, Visible { symbol, shape })?;
+                Ok(added)
+            }
+            None => Ok(scope),
+        }
+    }
+
+    /// One unknown more, and its number.
+    pub fn add_unknown(&mut self, scope: u64, shape: Shape) -> Result<u64, AllocError>
+        requires { scope < length (scopes_of self.old) }
+        ensures number { IfOk result (λ n. n ≡ length (unknowns_of self.old)) }
+        ensures made { OnOk result (IsMade self.old self.new ((scope_at self.old scope, shape_view shape) ∷ [])) }
+        ensures kept { self.new.types ≡ self.old.types }
+    {
+        let number = self.unknowns.unknowns.len() as u64;
+        self.unknowns.unknowns.push(Unknown { scope, shape })?;
+        Ok(number)
+    }
+
+    /// The type of this form, with an unknown at its top where predicates speak of the shape.
+    pub fn topped(
+        &mut self,
+        alloc: Global,
+        form: Form,
+        scope: u64,
+        shape: Option<Shape>,
+    ) -> Result<usize, AllocError>
+        requires scope { scope < length (scopes_of self.old) }
+        requires form { All (λ p. p < count_of self.old.types) (form_rows form) }
+        ensures refined { IfOk result (λ r. (scopes : ScopeLists) → refined_at scopes self.new.types r
+            ≡ form_type (all_types scopes self.old) form (top_parts (length (unknowns_of self.old)) shape)) }
+        ensures there { IfOk result (λ r. r < count_of self.new.types) }
+        ensures made { OnOk result (IsMade self.old self.new (top_unknowns (scope_at self.old scope) shape)) }
+    {
+        match shape {
+            Some(shape) => {
+                let unknown = self.add_unknown(scope, shape)?;
+                let top = Parts::single(alloc, Part::Unknown(unknown, Subst::new(alloc)))?;
+                let row = self.types.push(form, top)?;
+                Ok(row)
+            }
+            None => {
+                let row = self.types.push(form, Parts::new(alloc))?;
+                Ok(row)
+            }
+        }
+    }
+}

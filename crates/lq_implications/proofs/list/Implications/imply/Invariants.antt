@@ -1,0 +1,14 @@
+use Rattle.std.proofs.Common.{◌≡◌, ◌+◌, ◌-◌, ◌^◌, ◌++◌, length, map, min, take}
+use Rattle.lq_subtype.specs.Implication.{goals}
+use Rattle.lq_substitution.specs.Views.{part_view, parts_view}
+use Rattle.lq_implications.specs.Views.{count_of, environment_at, environment_lists, implications_of, origin_view}
+use Rattle.lq_implications.proofs.list.Implications.imply.Given as goal
+
+abbrev pub invariant-loop-goal : goal.invariant-loop-goal
+invariant-loop-goal l =
+    let made = goals (environment_at l.initial.self l.env) (parts_view l.left) (map part_view (take l.goal-index l.right)) (origin_view l.origin.0 l.origin.1) in
+    record {
+      added : implications_of l.self ≡ take 262144 (implications_of l.initial.self ++ made);
+      counted : count_of l.self ≡ min (count_of l.initial.self + length made) (2 ^ 64 - 1);
+      environments : environment_lists l.self ≡ environment_lists l.initial.self;
+    }

@@ -1,0 +1,3 @@
+-- Implications: what the code's stand for.
+pub mod Placed
+pub mod Views

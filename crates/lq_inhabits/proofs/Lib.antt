@@ -1,0 +1,5 @@
+pub mod Running
+pub mod Numbers
+pub mod Staying
+pub mod Topped
+pub mod Keeping

@@ -1,0 +1,2 @@
+-- Matches on datatypes: definitions.
+pub mod Matches

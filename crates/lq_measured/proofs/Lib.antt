@@ -1,0 +1,4 @@
+mod Terms
+mod Equations
+mod Pairing
+mod Numbers

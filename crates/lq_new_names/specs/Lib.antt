@@ -1,0 +1,2 @@
+-- Subtypings whose names are new: definitions.
+pub mod NewNames

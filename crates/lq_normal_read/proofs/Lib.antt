@@ -1,0 +1,3 @@
+mod Lets
+mod Shapes
+mod Reading

@@ -1,0 +1,3 @@
+-- Programs whose normal form can be read: definitions.
+pub mod Suits
+pub mod Laws

@@ -1,0 +1,2 @@
+-- Laws of the names of normal forms.
+pub mod Laws

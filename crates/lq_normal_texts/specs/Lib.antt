@@ -1,0 +1,2 @@
+-- Laws of programs of texts.
+pub mod Laws

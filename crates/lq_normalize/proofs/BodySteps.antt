@@ -1,0 +1,142 @@
+-- What goes on behind a parameter, what a let binds, a scrutinee, and an arm.
+use Rattle.std.proofs.Common.{◌≡◌, ℕ, Bool, true, false, if◌then◌else◌, List, [], ◌∷◌, ◌++◌, Option, Some, None, refl, sym, ap, ap₂, ◌∙◌, append_assoc, append-nil}
+use Rattle.lq_block.specs.BlockView.{local_view}
+use Rattle.lq_block.specs.declared.block.Local.{Local}
+use Rattle.lq_name.specs.declared.name.Binder.{Binder}
+use Rattle.lq_name.specs.declared.place.Place.{Place}
+use Rattle.lq_tree.specs.Pattern.{Pattern}
+use Rattle.lq_tree.specs.Tree as form
+use Rattle.lq_tree.specs.Tree.{Tree, tree, Cases}
+use Rattle.lq_tree.specs.TreeView.{Case, Recursive, cases_of}
+use Rattle.lq_tree.specs.declared.pattern.Pat.{Pat}
+use Rattle.lq_walk.specs.Shape.{listed_cases}
+use Rattle.lq_normal.specs.Flattening.{Let, let_one, let_function}
+use Rattle.lq_normal.specs.Naming.{NamedPattern, behind, named_pattern, parameter}
+use Rattle.lq_normalised.specs.Forming.{Formed, FormedRow, FormedCases, operation, block_of, body_under, is_matched, bound, scrutinee, over_cases, settled, formed, formed_cases}
+use Rattle.lq_normalised.specs.Views.{under_view, is_there}
+use Rattle.lq_normalize.specs.Frames.{forms, under_parameter, after_body, after_under, after_function, function_node, recursive_node, match_with, after_arm, looked_at, after_scrutinee, one_part}
+use Rattle.lq_normalize.specs.declared.frames.Label.{Label}
+use Rattle.lq_normalize.specs.declared.frames.Parameter.{Parameter}
+use Rattle.lq_normalize.proofs.Shapes.{cases_back}
+use Rattle.lq_normalize.proofs.Steps.{if_true, if_false}
+
+abbrev first_or : Tree → List Tree → Tree
+first_or x [] = x
+first_or x (t ∷ ts) = t
+
+module _ (i : ℕ) (p : Place) where
+  -- ---- functions
+
+  abbrev the_fun : List Let → ℕ → Pattern → Tree → Formed
+  the_fun ls n q b = operation ls n (tree i p (form.fun q b))
+
+  pub body_next : (x : Parameter) (q : Pattern) (b : Tree) (ls ms ns : List Let) (k m : ℕ) → local_view x.local ≡ parameter k q
+      → ((t : Tree) → under_parameter x t ≡ body_under k q t) → ms ≡ ls → ns ≡ [] → m ≡ behind k q → after_body i p ms x (formed ns m b) ≡ function_node i p ls k q b
+  body_next x q b ls ms ns k m local under around none next =
+      let B = formed [] (behind k q) b in
+      ap (λ ms. after_body i p ms x (formed ns m b)) around ∙ ap₂ (λ ns m. after_body i p ls x (formed ns m b)) none next
+      ∙ ap₂ (the_fun ls B.next) local (under (block_of B))
+
+  pub body_done : (x : Parameter) (F : Formed) (ls ms : List Let) (k : ℕ) (b d : Tree) → ms ≡ ls → k ≡ F.next → b ≡ block_of F → d ≡ under_parameter x b
+      → the_fun ms k (local_view x.local) d ≡ after_body i p ls x F
+  body_done x F ls ms k b d around next is under =
+      ap₂ (λ ms t. the_fun ms k (local_view x.local) t) around (under ∙ ap (under_parameter x) is)
+      ∙ ap (λ n. the_fun ls n (local_view x.local) (under_parameter x (block_of F))) next
+
+  abbrev the_function : List Let → ℕ → ℕ → ℕ → Place → Pattern → Tree → Tree → Formed
+  the_function ls n f j r q b e = settled (formed (ls ++ let_function i p f j r q b ∷ []) n e)
+
+  pub function_next : (f : ℕ) (l : Label) (x : Parameter) (r : Recursive) (e : Tree) (ls ms ns : List Let) (k m : ℕ) → l.id ≡ r.id → l.place ≡ r.place
+      → local_view x.local ≡ parameter k r.parameter → ((t : Tree) → under_parameter x t ≡ body_under k r.parameter t) → ms ≡ ls → ns ≡ [] → m ≡ behind k r.parameter
+      → after_function i p ms f l x e (formed ns m r.body) ≡ recursive_node i p ls k f r e
+  function_next f l x r e ls ms ns k m id place local under around none next =
+      let B = formed [] (behind k r.parameter) r.body in
+      ap (λ ms. after_function i p ms f l x e (formed ns m r.body)) around ∙ ap₂ (λ ns m. after_function i p ls f l x e (formed ns m r.body)) none next
+      ∙ ap₂ (λ q t. the_function ls B.next f l.id l.place q t e) local (under (block_of B))
+      ∙ ap₂ (λ j o. the_function ls B.next f j o (parameter k r.parameter) (body_under k r.parameter (block_of B)) e) id place
+
+  pub function_done : (f : ℕ) (l : Label) (x : Parameter) (e : Tree) (F : Formed) (ls ms ns : List Let) (k : ℕ) (b d : Tree) → ms ≡ ls → k ≡ F.next → b ≡ block_of F
+      → d ≡ under_parameter x b → ns ≡ ms ++ let_function i p f l.id l.place (local_view x.local) d ∷ [] → settled (formed ns k e) ≡ after_function i p ls f l x e F
+  function_done f l x e F ls ms ns k b d around next is under pushed =
+      ap (λ ns. settled (formed ns k e)) pushed
+      ∙ ap₂ (λ ms t. the_function ms k f l.id l.place (local_view x.local) t e) around (under ∙ ap (under_parameter x) is)
+      ∙ ap (λ n. the_function ls n f l.id l.place (local_view x.local) (under_parameter x (block_of F)) e) next
+
+  -- ---- lets
+
+  abbrev behind_let : List Let → Pattern → Tree → List Let
+  behind_let ls q t = ls ++ let_one i p q t ∷ []
+
+  pub bound_settles : (q : Pattern) (E : Formed) (b : Tree) (ls ms : List Let) (k : ℕ) (x : Pattern) (t : Tree) → is_matched q ≡ false → x ≡ parameter E.next q
+      → ls ≡ E.lets → ms ≡ behind_let ls x t → t ≡ E.last → k ≡ behind E.next q → settled (formed ms k b) ≡ bound i p q E (forms b)
+  bound_settles q E b ls ms k x t is_none local same pushed is next =
+      let whole = behind_let E.lets (parameter E.next q) E.last in
+      ap₂ (λ ms k. settled (formed ms k b)) (pushed ∙ ap (λ ls. behind_let ls x t) same ∙ ap₂ (behind_let E.lets) local is) next
+      ∙ sym (if_false (is_matched q) (let B = formed [] (behind E.next q) b in operation whole B.next (body_under E.next q (block_of B))) (settled (formed whole (behind E.next q) b)) is_none)
+
+  pub bound_matches : (q : Pattern) (E : Formed) (b : Tree) (ls ms ns os : List Let) (k m : ℕ) (x : Pattern) (t : Tree) (l : Local) (r : Pat Binder) → is_matched q ≡ true → x ≡ parameter E.next q
+      → ls ≡ E.lets → ms ≡ behind_let ls x t → t ≡ E.last → k ≡ behind E.next q → os ≡ ms → ns ≡ [] → m ≡ k → ((d : Tree) → under_view l (Some r) d ≡ body_under E.next q d)
+      → after_under os l r (formed ns m b) ≡ bound i p q E (forms b)
+  bound_matches q E b ls ms ns os k m x t l r is_one local same pushed is next around none kept under =
+      let whole = behind_let E.lets (parameter E.next q) E.last in
+      let B = formed [] (behind E.next q) b in
+      ap₂ (λ ns m. after_under os l r (formed ns m b)) none (kept ∙ next)
+      ∙ ap₂ (λ os d. operation os B.next d) (around ∙ pushed ∙ ap (λ ls. behind_let ls x t) same ∙ ap₂ (behind_let E.lets) local is) (under (block_of B))
+      ∙ sym (if_true (is_matched q) (operation whole B.next (body_under E.next q (block_of B))) (settled (formed whole (behind E.next q) b)) is_one)
+
+  pub under_done : (F : Formed) (ls ms : List Let) (k : ℕ) (b d : Tree) (l : Local) (r : Pat Binder) → ms ≡ ls → k ≡ F.next → b ≡ block_of F → d ≡ under_view l (Some r) b
+      → operation ms k d ≡ after_under ls l r F
+  under_done F ls ms k b d l r around next is under =
+      ap₂ (λ ms d. operation ms k d) around (under ∙ ap (under_view l (Some r)) is) ∙ ap (λ n. operation ls n (under_view l (Some r) (block_of F))) next
+
+  -- ---- matches
+
+  abbrev the_match : List Let → ℕ → Tree → List Case → Formed
+  the_match ls n x cs = operation ls n (tree i p (form.match_on x (cases_of cs)))
+
+  abbrev the_arm : Pattern → Tree → Case
+  the_arm q b = record { pattern = q; body = b }
+
+  abbrev with_pattern : List Let → Tree → List Case → Tree → List Case → NamedPattern → Formed
+  with_pattern ls x done b ds Q =
+      let B = formed [] Q.next b in let R = formed_cases B.next (cases_of ds) in the_match ls R.next x (done ++ the_arm Q.pattern (block_of B) ∷ listed_cases R.cases)
+
+  -- an arm's body is next
+  pub arm_next : (ls ms ns : List Let) (x : Tree) (done cs ds : List Case) (q : Pattern) (b : Tree) (k n m : ℕ) (r : Pattern)
+      → cs ≡ the_arm q b ∷ ds → ms ≡ ls → ns ≡ [] → m ≡ n → record { pattern = r; next = n } ≡ named_pattern k q
+      → after_arm i p ms x done r ds (formed ns m b) ≡ match_with i p ls x done (formed_cases k (cases_of cs))
+  arm_next ls ms ns x done cs ds q b k n m r next around none same pat =
+      let B = formed [] n b in let R = formed_cases B.next (cases_of ds) in
+      ap (λ ms. after_arm i p ms x done r ds (formed ns m b)) around ∙ ap₂ (λ ns m. after_arm i p ls x done r ds (formed ns m b)) none same
+      ∙ ap (the_match ls R.next x) (append_assoc done (the_arm r (block_of B) ∷ []) (listed_cases R.cases))
+      ∙ ap (with_pattern ls x done b ds) pat
+      ∙ ap (λ es. match_with i p ls x done (formed_cases k (cases_of es))) (sym next)
+
+  pub arms_over : (ls : List Let) (x : Tree) (done cs : List Case) (k : ℕ) → cs ≡ [] → the_match ls k x done ≡ match_with i p ls x done (formed_cases k (cases_of cs))
+  arms_over ls x done cs k none =
+      ap (the_match ls k x) (sym (append-nil done)) ∙ ap (λ es. match_with i p ls x done (formed_cases k (cases_of es))) (sym none)
+
+  pub arm_done : (F : Formed) (ls ms : List Let) (x : Tree) (done more cs : List Case) (k : ℕ) (q : Pattern) (b : Tree) → ms ≡ ls → k ≡ F.next → b ≡ block_of F
+      → more ≡ done ++ the_arm q b ∷ [] → match_with i p ms x more (formed_cases k (cases_of cs)) ≡ after_arm i p ls x done q cs F
+  arm_done F ls ms x done more cs k q b around next is pushed =
+      ap₂ (λ ms es. match_with i p ms x es (formed_cases k (cases_of cs))) around (pushed ∙ ap (λ t. done ++ the_arm q t ∷ []) is)
+      ∙ ap (λ n. match_with i p ls x (done ++ the_arm q (block_of F) ∷ []) (formed_cases n (cases_of cs))) next
+
+  abbrev matched_on : List Case → FormedRow → Tree → Formed
+  matched_on cs R x = let C = formed_cases R.next (cases_of cs) in operation R.lets C.next (tree i p (form.match_on x C.cases))
+
+  pub scrutinee_done : (e : Tree) (F : Formed) (ls : List Let) (k : ℕ) (x : Tree) (cs : List Case) → record { lets = ls; next = k; atoms = x ∷ [] } ≡ one_part (looked_at e F)
+      → match_with i p ls x [] (formed_cases k (cases_of cs)) ≡ after_scrutinee i p e cs F
+  scrutinee_done e F ls k x cs is =
+      let C = formed_cases k (cases_of cs) in
+      ap (λ ds. operation ls C.next (tree i p (form.match_on x ds))) (cases_back C.cases)
+      ∙ ap (λ (R : FormedRow). matched_on cs R (first_or x R.atoms)) is
+
+-- what a variable becomes is itself
+looked_same : (e : Tree) (ls : List Let) (k : ℕ) → looked_at e (formed ls k e) ≡ scrutinee e (formed ls k e)
+looked_same (tree i p (form.use_of x)) ls k = refl
+looked_same (tree i p _) ls k = refl
+
+pub match_next : (i : ℕ) (p : Place) (e : Tree) (cs : List Case) (ls : List Let) (k : ℕ)
+    → after_scrutinee i p e cs (formed ls k e) ≡ (let E = scrutinee e (formed ls k e) in over_cases i p E (formed_cases E.next (cases_of cs)))
+match_next i p e cs ls k = ap (λ (E : Formed). over_cases i p E (formed_cases E.next (cases_of cs))) (looked_same e ls k)

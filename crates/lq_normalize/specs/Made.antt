@@ -1,0 +1,29 @@
+-- A program in normal form as it stands in memory, and the names that were made for it.
+use Rattle.std.specs.Prelude.{◌≡◌, ℕ, ◌+◌, ◌-◌, ◌||◌, nat_lt, not, List, [], ◌++◌, Option, Some, None, if◌then◌else◌}
+use Rattle.lq_block.specs.BlockView.{definitions_view}
+use Rattle.lq_model.specs.FromTree.{items_of}
+use Rattle.lq_model.specs.Outcomes.{HaveSameOutcomes}
+use Rattle.lq_tree.specs.Items.{ItemTree}
+use Rattle.lq_tree.specs.TypingRules.{Annotation, IsTyped}
+use Rattle.lq_normalize.specs.declared.program.NormalProgram.{NormalProgram}
+
+-- the definitions, the first made name, and the name behind the last one
+pub record Normal : Type 0 where
+  pub items : List ItemTree
+  pub first_made : ℕ
+  pub next : ℕ
+
+abbrev pub normal_view : NormalProgram → Normal
+normal_view p = record { items = definitions_view p.definitions.items; first_made = p.first_made; next = p.next }
+
+-- the k of a made name `%k`
+abbrev pub made_of : Normal → ℕ → Option ℕ
+made_of p x = if nat_lt x p.first_made || not (nat_lt x p.next) then None else Some (x - p.first_made + 1)
+
+-- The definitions have types: an annotation of them, behind definitions of datatypes alone, obeys the rules.
+abbrev pub HaveTypes : List ItemTree → Type 0
+HaveTypes is = (n : Annotation) × (types : List ItemTree) × (items_of types ≡ []) × IsTyped n (types ++ is)
+
+-- as programs they have the same outcomes
+abbrev pub KeepOutcomes : List ItemTree → List ItemTree → Type 0
+KeepOutcomes is js = HaveSameOutcomes (items_of is) (items_of js)

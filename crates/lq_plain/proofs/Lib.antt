@@ -1,0 +1,3 @@
+pub mod Datatypes
+pub mod Scoping
+pub mod DataExample

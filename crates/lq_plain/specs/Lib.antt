@@ -1,0 +1,3 @@
+-- Programs whose needs can be read off: definitions.
+pub mod Plain
+pub mod DataExample

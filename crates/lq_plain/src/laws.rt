@@ -1,0 +1,35 @@
+// Laws of the definitions. Nothing is run.
+ghost use Rattle.lq_plain.specs.DataExample.{DataExampleIsPlain};
+ghost use Rattle.lq_plain.specs.Plain.{PlainProgramsAreSafe};
+
+use lq_included::{like_types_fit, subtypes_fit};
+use lq_inhabits::{inhabitants_stay, numbers_below};
+use lq_model::{closing, parts_step};
+use lq_new_names::subtypes_are_apart;
+use lq_parts::{substitutions, truth_under_substitution};
+use lq_pred::whole_numbers_are_a_point;
+use lq_pures::pures_run;
+use lq_safe::checks_are_safe;
+
+/// A simply typed program of plain forms that checks under an assignment is safe.
+pub fn plain_programs_are_safe()
+    ensures { PlainProgramsAreSafe }
+{
+    whole_numbers_are_a_point();
+    truth_under_substitution();
+    substitutions();
+    parts_step();
+    closing();
+    inhabitants_stay();
+    numbers_below();
+    subtypes_fit();
+    like_types_fit();
+    subtypes_are_apart();
+    pures_run();
+    checks_are_safe();
+}
+
+/// A program with a list, a tuple and a match on each is plain.
+pub fn data_example_is_plain()
+    ensures { DataExampleIsPlain }
+{}

@@ -1,0 +1,12 @@
+pub mod Naming
+pub mod Opening
+pub mod Pairs
+pub mod Meeting
+pub mod Points
+pub mod Flagged
+pub mod Seen
+pub mod Start
+pub mod Ending
+pub mod Literals
+pub mod Stopped
+pub mod Near

@@ -1,0 +1,69 @@
+-- A path without facts and choices, on which no way of a pair was taken.
+use Rattle.std.proofs.Common.{◌≡◌, ℕ, List, [], ◌∷◌, All, Bool, true, false, ◌⊎◌, inl, inr, length, sym, ap, ap₂, subst, arith}
+use Rattle.std.proofs.lemmas.List.Elements.{All-cons, All-head, All-nil, All-same, All-tail}
+use Rattle.lq_case.specs.PathState.{facts_in, objects_in}
+use Rattle.lq_case.specs.RowState.{terms_of as row_terms}
+use Rattle.lq_combine.specs.Path.{nothing}
+use Rattle.lq_combine.specs.Proves.{rows_among}
+use Rattle.lq_diff.specs.Table.{constants}
+use Rattle.lq_equating.specs.Naming.{AllTold, name_in}
+use Rattle.lq_equating.proofs.Told.{all_told_none}
+use Rattle.lq_linear.specs.Row.{Row, Valuation}
+use Rattle.lq_path.specs.SearchPath.{choices_of}
+use Rattle.lq_path.specs.declared.choice.Choice.{Choice}
+use Rattle.lq_pred.specs.NnfView.{nnfs_view}
+use Rattle.lq_pred.specs.Points.{Point}
+use Rattle.lq_pred.specs.Reading.{Reading}
+use Rattle.lq_pred.specs.Sum.{Sum}
+use Rattle.lq_search.specs.Scope.{AllMayHold, AreWithin, Scope}
+use Rattle.lq_search.specs.SearchPath.{IsMet, IsReadyFor, path_of, ways_of}
+use Rattle.lq_search.specs.Sizes.{most_of_each}
+use Rattle.lq_search.specs.Splits.{IsDoneOrMet}
+use Rattle.lq_search.specs.Stopping.{most_on, most_open}
+use Rattle.lq_search.specs.declared.pair.Pair.{Pair}
+use Rattle.lq_search.specs.declared.search_path.SearchPath.{SearchPath}
+use Rattle.lq_search.proofs.Sizes.{most_open-open}
+
+pub record IsStart (s : Scope) (pairs : List Pair) (p : SearchPath) : Type 0 where
+  pub facts : (name : ℕ → Sum) → facts_in name p.state ≡ []
+  pub terms_are : row_terms p.state.rows ≡ length s.terms
+  pub count : p.state.objects.count ≡ length s.objects
+  pub choices_are : p.choices.items ≡ []
+  pub pairs_are : choices_of p.pairs.items ≡ ways_of pairs
+  pub open_still : All (λ (c : Choice). c.is_done ≡ false) p.pairs.items
+
+open_met : (v : Valuation) (p : Point) (cs : List Choice) → All (λ (c : Choice). c.is_done ≡ false) cs → All (IsDoneOrMet v p) cs → All (IsMet v p) cs
+open_met v p [] o h = All-nil (IsMet v p)
+open_met v p (c ∷ cs) o h =
+    All-cons (IsMet v p) c cs (by c.is_done (All-head (λ (x : Choice). x.is_done ≡ false) c cs o) (All-head (IsDoneOrMet v p) c cs h))
+    (open_met v p cs (All-tail (λ (x : Choice). x.is_done ≡ false) c cs o) (All-tail (IsDoneOrMet v p) c cs h))
+  where
+    by : (b : Bool) → b ≡ false → (b ≡ true) ⊎ IsMet v p c → IsMet v p c
+    by true e d = cc
+    by false e (inl f) = cc
+    by false e (inr m) = m
+
+pub start_path : (s : Scope) (pairs : List Pair) (p : SearchPath) → IsStart s pairs p → path_of s p ≡ nothing
+start_path s pairs p h = ap₂ (λ f c. record { facts = f; choices = c }) (h.facts (name_in s.objects)) (ap choices_of h.choices_are)
+
+pub start_ready : (s : Scope) (pairs : List Pair) (r : Reading Row) (p : SearchPath) → IsStart s pairs p → IsReadyFor r s pairs p
+start_ready s pairs r p h = record {
+  terms_are = h.terms_are;
+  count = h.count;
+  may_hold = subst AllMayHold (sym (h.facts (name_in s.objects))) tt;
+  choices_in = All-same (λ (c : Choice). AreWithin s (nnfs_view c.members.now)) p.choices.items [] h.choices_are (All-nil (λ (c : Choice). AreWithin s (nnfs_view c.members.now)));
+  pairs_are = h.pairs_are;
+  told = subst (AllTold s.objects (objects_in p.state)) (sym (h.facts (name_in s.objects))) (all_told_none s.objects (objects_in p.state));
+  covered = λ v q given hold choices pairs_met. record {
+    choices_are = All-same (IsMet v q) p.choices.items [] h.choices_are (All-nil (IsMet v q));
+    pairs_are = open_met v q p.pairs.items h.open_still pairs_met;
+  };
+}
+
+-- only the ways of pairs are still to be taken
+pub start_most : (s : Scope) (pairs : List Pair) (p : SearchPath) → IsStart s pairs p → most_on s p ≡ most_of_each (ways_of pairs)
+start_most s pairs p h =
+    let a = ap (λ l. constants (rows_among l)) (h.facts (name_in s.objects)) in
+    let b = ap most_open h.choices_are in
+    let c = most_open-open p.pairs.items h.open_still in
+    let d = ap most_of_each h.pairs_are in omega (arith, a, b, c, d)

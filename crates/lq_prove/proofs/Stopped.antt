@@ -1,0 +1,222 @@
+-- The stops of a search are those of the implication.
+use Rattle.std.proofs.Common.{◌≡◌, inl, inr, ℕ, zero, suc, ◌+◌, ◌<◌, ◌≤◌, List, [], ◌∷◌, ◌++◌, All, true, false, Some, Result, Ok, Err, IfErr, get_or, length, map, slice_get, refl, sym, ap, subst, arith}
+use Rattle.std.proofs.lemmas.List.Elements.{All-head, All-tail, All-weaker, Contains-append_left, Contains-append_right}
+use Rattle.lq_case.specs.PathState.{HasStops}
+use Rattle.lq_case.specs.RowState.{AreDifferences}
+use Rattle.lq_combine.specs.Path.{AreReadings, Fact, nothing, taken}
+use Rattle.lq_combine.specs.Proves.{AreRowsOf, five_ways, rows_among}
+use Rattle.lq_linear.specs.Contradiction.{Tagged}
+use Rattle.lq_linear.specs.Difference.{IsDifference}
+use Rattle.lq_linear.specs.Row.{Row}
+use Rattle.lq_linear.specs.declared.engine.LinearStop.{LinearStop}
+use Rattle.lq_linear.specs.declared.engine.LinearStop.TheVariants as linear
+use Rattle.lq_literals.specs.Gathered.{CanBeGathered, sizes, sizes_of}
+use Rattle.lq_num.specs.declared.past.NumberPast.{NumberPast}
+use Rattle.lq_point.proofs.Literal.{Sub, goal_literal, hypothesis_literal, pair_literal}
+use Rattle.lq_pred.specs.ClosedImplication.{ClosedImplication, terms_in}
+use Rattle.lq_pred.specs.Comparison.{Comparison, IsRowOf}
+use Rattle.lq_pred.specs.Formula.{Formula}
+use Rattle.lq_pred.specs.Literals.{all_pairs, comparisons_of, each_literals, implication_literals, literals_of, negative, pair_rows, positive}
+use Rattle.lq_pred.specs.NnfView.{nnfs_view, readings_of}
+use Rattle.lq_pred.specs.PredView.{formula_of}
+use Rattle.lq_pred.specs.Reading.{Gathers, Reading, Readings, more, none, reading_of, row}
+use Rattle.lq_pred.specs.Sum.{Sum}
+use Rattle.lq_pred.specs.declared.pred.Pred.{Pred}
+use Rattle.lq_pred.specs.declared.pred.Stop.{Stop}
+use Rattle.lq_pred.specs.declared.pred.Stop.TheVariants.{Number, Gather, Pivots, Memory}
+use Rattle.lq_pruning.proofs.Taking as taking
+use Rattle.lq_search.specs.Pairs.{AreOrdered, AreWays, IsPair, application_at, reading_of_rows}
+use Rattle.lq_search.specs.SearchPath.{ways_of}
+use Rattle.lq_search.specs.Sizes.{most, most_of_all, row_size}
+use Rattle.lq_search.specs.Stopping.{AnyHasRow, HasRow, MayReach, MayTake, StopsSearch, of_choice, of_equation, of_fact, of_way}
+use Rattle.lq_search.specs.declared.pair.Pair.{Pair}
+use Rattle.lq_search.proofs.PairSizes.{condition_of, sizes-append}
+use Rattle.lq_search.proofs.Stops.{choice_has, fact_has}
+use Rattle.lq_prove.specs.Openings.{IsOpeningReading}
+use Rattle.lq_prove.specs.Stopping as stopping
+use Rattle.lq_prove.specs.Stopping.{AreItsFacts, IsDifferenceImplication, IsItsRow, IsPointStop, IsRowIn, IsSmallDifference, IsStopOf, StopsOnFacts, StopsProving, StopsSmall}
+use Rattle.lq_prove.proofs.Literals.{gathered_most, gathered_row, pair_among, row_in_more, under_sign}
+
+-- ---- the sizes of the opening reading
+
+each_most : (terms : List Sum) (ps : List Formula) (rs : List (Reading Row)) (g : Reading Row) → AreReadings terms ps rs
+    → most_of_all row_size (readings_of (rs ++ g ∷ [])) ≤ sizes (each_literals ps) + most row_size g
+each_most terms [] [] g a = omega arith
+each_most terms (p ∷ ps) (r ∷ rs) g a =
+    let k = each_most terms ps rs g a.1 in let e = gathered_most terms (reading_of true p) r a.0 in let h = under_sign true p in
+    let x = sizes-append (literals_of positive p) (each_literals ps) in omega (arith, k, e, h, x)
+each_most terms [] (r ∷ rs) g a = absurd a
+each_most terms (p ∷ ps) [] g a = absurd a
+
+pub opening_most : (terms : List Sum) (i : ClosedImplication) (reading : Reading Row) → IsOpeningReading terms i reading
+    → most row_size reading + sizes (all_pairs (terms_in i)) ≤ sizes_of i
+opening_most terms i reading o =
+    let a = ap (most row_size) o.is in
+    let b = each_most terms i.hypotheses o.hypotheses o.goal o.are_hypotheses in
+    let c = gathered_most terms (reading_of false i.goal) o.goal o.is_goal in
+    let d = under_sign false i.goal in
+    let e = sizes-append (each_literals i.hypotheses ++ literals_of negative i.goal) (all_pairs (terms_in i)) in
+    let f = sizes-append (each_literals i.hypotheses) (literals_of negative i.goal) in omega (arith, a, b, c, d, e, f)
+
+-- ---- the rows of the opening reading
+
+each_row : (terms : List Sum) (literals : List Comparison) (preds : List Pred) (rs : List (Reading Row)) (goal : Formula) (g : Reading Row) (r : Row)
+    → AreReadings terms (map formula_of preds) rs → Gathers terms (reading_of false goal) g
+    → ((k : ℕ) (d : Pred) → k < length preds → Sub (comparisons_of (reading_of true (formula_of (get_or preds k d)))) literals) → Sub (comparisons_of (reading_of false goal)) literals
+    → AnyHasRow r (readings_of (rs ++ g ∷ [])) → IsRowIn terms literals r
+each_row terms literals [] [] goal g r a i f h (inl m) = row_in_more terms (comparisons_of (reading_of false goal)) literals r h (gathered_row terms (reading_of false goal) g r i m)
+each_row terms literals [] [] goal g r a i f h (inr m) = absurd m
+each_row terms literals (p ∷ preds) (q ∷ rs) goal g r a i f h (inl m) =
+    row_in_more terms (comparisons_of (reading_of true (formula_of p))) literals r (f zero p (omega arith)) (gathered_row terms (reading_of true (formula_of p)) q r a.0 m)
+each_row terms literals (p ∷ preds) (q ∷ rs) goal g r a i f h (inr m) =
+    each_row terms literals preds rs goal g r a.1 i (λ k d l. f (suc k) d (omega (arith, l))) h m
+each_row terms literals [] (q ∷ rs) goal g r a i f h m = absurd a
+each_row terms literals (p ∷ preds) [] goal g r a i f h m = absurd a
+
+opening_row : (i : ClosedImplication) (preds : List Pred) (reading : Reading Row) (r : Row) → i.hypotheses ≡ map formula_of preds → IsOpeningReading (terms_in i) i reading → HasRow r reading
+    → IsRowIn (terms_in i) (implication_literals i) r
+opening_row i preds reading r e o m =
+    each_row (terms_in i) (implication_literals i) preds o.hypotheses i.goal o.goal r (subst (λ ps. AreReadings (terms_in i) ps o.hypotheses) e o.are_hypotheses) o.is_goal
+    (hypothesis_literal preds i e) (goal_literal i) (subst (HasRow r) o.is m)
+
+-- ---- the rows of pairs
+
+rows_of : (terms : List Sum) (cs : List Comparison) (rs : List Row) (r : Row) → AreRowsOf terms cs rs → AnyHasRow r (readings_of (map row rs)) → IsRowIn terms cs r
+rows_of terms [] [] r a m = absurd m
+rows_of terms (c ∷ cs) (q ∷ rs) r a (inl m) = record { literal = c; among = Contains-append_left (c ∷ []) cs c (0, omega arith, refl); is = subst (IsRowOf terms c) m a.0 }
+rows_of terms (c ∷ cs) (q ∷ rs) r a (inr m) = row_in_more terms cs (c ∷ cs) r (λ x h. Contains-append_right (c ∷ []) cs x h) (rows_of terms cs rs r a.1 m)
+rows_of terms [] (q ∷ rs) r a m = absurd a
+rows_of terms (c ∷ cs) [] r a m = absurd a
+
+one_of : (rs : List Row) (r : Row) → HasRow r (reading_of_rows rs) → AnyHasRow r (readings_of (map row rs))
+one_of [] r m = m
+one_of (q ∷ []) r m = inl m
+one_of (q ∷ p ∷ rs) r m = m
+
+-- the comparisons of some lists
+abbrev all_of_them : List (List Comparison) → List Comparison
+all_of_them [] = []
+all_of_them (cs ∷ css) = cs ++ all_of_them css
+
+ways_row : (terms : List Sum) (css : List (List Comparison)) (rs : Readings Row) (r : Row) → AreWays terms css rs → AnyHasRow r rs → IsRowIn terms (all_of_them css) r
+ways_row terms [] none r w m = absurd m
+ways_row terms (cs ∷ css) (more q rs) r w (inl m) =
+    row_in_more terms cs (cs ++ all_of_them css) r (λ x h. Contains-append_left cs (all_of_them css) x h)
+    (rows_of terms cs w.0.rows r w.0.are (one_of w.0.rows r (subst (HasRow r) w.0.is m)))
+ways_row terms (cs ∷ css) (more q rs) r w (inr m) =
+    row_in_more terms (all_of_them css) (cs ++ all_of_them css) r (λ x h. Contains-append_right cs (all_of_them css) x h) (ways_row terms css rs r w.1 m)
+ways_row terms [] (more q rs) r w m = absurd w
+ways_row terms (cs ∷ css) none r w m = absurd w
+
+pair_row : (terms : List Sum) (pair : Pair) (r : Row) → IsPair terms pair → pair.left < pair.right → AnyHasRow r (nnfs_view pair.ways) → IsRowIn terms (all_pairs terms) r
+pair_row terms pair r p l m = by pair.left pair.right l p.is_first p.is_second
+  where
+    rows : IsRowIn terms (pair_rows p.first p.second) r
+    rows =
+        subst (λ cs. IsRowIn terms cs r) (sym (condition_of p.first p.first_left p.first_right p.second p.second_left p.second_right p.apply))
+        (ways_row terms (five_ways p.first p.first_left p.first_right p.second p.second_left p.second_right) (nnfs_view pair.ways) r p.ways m)
+
+    by : (j k : ℕ) → j < k → application_at terms j p.first → application_at terms k p.second → IsRowIn terms (all_pairs terms) r
+    by zero k l e f = cc
+    by (suc j) zero l e f = cc
+    by (suc j) (suc k) l e f = row_in_more terms (pair_rows p.first p.second) (all_pairs terms) r (pair_among terms j k p.first p.second (omega (arith, l)) e f) rows
+
+way_row : (terms : List Sum) (pairs : List Pair) (k : ℕ) (members : Readings Row) (r : Row) → All (IsPair terms) pairs → AreOrdered pairs → slice_get (ways_of pairs) k ≡ Some members
+    → AnyHasRow r members → IsRowIn terms (all_pairs terms) r
+way_row terms [] k members r p o e m = cc
+way_row terms (x ∷ pairs) zero members r p o e m =
+    let same : nnfs_view x.ways ≡ members = cc in
+    pair_row terms x r (All-head (IsPair terms) x pairs p) (All-head (λ (y : Pair). y.left < y.right) x pairs o) (subst (AnyHasRow r) (sym same) m)
+way_row terms (x ∷ pairs) (suc k) members r p o e m = way_row terms pairs k members r (All-tail (IsPair terms) x pairs p) (All-tail (λ (y : Pair). y.left < y.right) x pairs o) e m
+
+-- ---- facts
+
+-- what is known of the reading and the pairs with which a search begins
+pub record Begins (i : ClosedImplication) (preds : List Pred) (reading : Reading Row) (pairs : List Pair) : Type 0 where
+  pub hypotheses : i.hypotheses ≡ map formula_of preds
+  pub opening : IsOpeningReading (terms_in i) i reading
+  pub each : All (IsPair (terms_in i)) pairs
+  pub ordered : AreOrdered pairs
+
+pub begins : (terms : List Sum) (i : ClosedImplication) (preds : List Pred) (reading : Reading Row) (pairs : List Pair) → terms ≡ terms_in i → i.hypotheses ≡ map formula_of preds
+    → IsOpeningReading terms i reading → All (IsPair terms) pairs → AreOrdered pairs → Begins i preds reading pairs
+begins terms i preds reading pairs e h o each ordered = record {
+  hypotheses = h;
+  opening = subst (λ ts. IsOpeningReading ts i reading) e o;
+  each = subst (λ ts. All (IsPair ts) pairs) e each;
+  ordered = ordered;
+}
+
+its_row : (i : ClosedImplication) (preds : List Pred) (reading : Reading Row) (pairs : List Pair) → Begins i preds reading pairs → (r : Row) → MayTake (taken nothing reading) (ways_of pairs) r
+    → IsItsRow i r
+its_row i preds reading pairs b r m = by (subst (λ p. MayTake p (ways_of pairs) r) (taking.taken_is nothing reading) m)
+  where
+    of_reading : HasRow r reading → IsItsRow i r
+    of_reading h = stopping.of_literal (opening_row i preds reading r b.hypotheses b.opening h)
+
+    by : MayTake (taking.path_with nothing (taking.facts_of reading) (taking.choices_of reading)) (ways_of pairs) r → IsItsRow i r
+    by (of_fact k e) = of_reading (fact_has reading k r e)
+    by (of_choice k members e h) = of_reading (choice_has reading k members r e h)
+    by (of_way k members e h) =
+        stopping.of_literal (row_in_more (terms_in i) (all_pairs (terms_in i)) (implication_literals i) r (pair_literal i) (way_row (terms_in i) pairs k members r b.each b.ordered e h))
+    by (of_equation terms e) = stopping.of_equation terms e
+
+pub its_facts : (i : ClosedImplication) (preds : List Pred) (reading : Reading Row) (pairs : List Pair) (n : ℕ) (facts : List Fact) → Begins i preds reading pairs
+    → n ≤ sizes (all_pairs (terms_in i)) → MayReach (taken nothing reading) (ways_of pairs) (n + most row_size reading) facts → AreItsFacts i facts
+its_facts i preds reading pairs n facts b le h = record {
+  each = All-weaker {X = ℕ × Row} (λ r. MayTake (taken nothing reading) (ways_of pairs) r.1) (λ r. IsItsRow i r.1) (λ r. its_row i preds reading pairs b r.1) (rows_among facts) h.each;
+  sizes = let w = h.sizes in let o = opening_most (terms_in i) i reading b.opening in omega (arith, w, o, le);
+}
+
+-- ---- stops
+
+pub search_stops : (limit : ℕ) (i : ClosedImplication) (preds : List Pred) (reading : Reading Row) (pairs : List Pair) (n : ℕ) (linear_stop : LinearStop) (stop : Stop) → CanBeGathered i
+    → Begins i preds reading pairs → n ≤ sizes (all_pairs (terms_in i)) → IsStopOf linear_stop stop
+    → StopsSearch limit (taken nothing reading) (ways_of pairs) (n + most row_size reading) linear_stop → StopsProving limit i stop
+search_stops limit i preds reading pairs n (linear.Number e) (Number f) g b le is h =
+    (g, inl (record { facts = h.facts; are = its_facts i preds reading pairs n h.facts b le h.reached; stops = subst (λ x. HasStops limit h.facts (linear.Number x)) is h.stops }))
+search_stops limit i preds reading pairs n (linear.Pivots k) (Pivots l) g b le is h =
+    (g, record { facts = h.facts; are = its_facts i preds reading pairs n h.facts b le h.reached; stops = subst (λ x. HasStops limit h.facts (linear.Pivots x)) is h.stops })
+search_stops limit i preds reading pairs n linear.Memory Memory g b le is h = tt
+search_stops limit i preds reading pairs n (linear.Number e) (Gather p) g b le is h = absurd is
+search_stops limit i preds reading pairs n (linear.Number e) (Pivots k) g b le is h = absurd is
+search_stops limit i preds reading pairs n (linear.Number e) Memory g b le is h = absurd is
+search_stops limit i preds reading pairs n (linear.Pivots k) (Number f) g b le is h = absurd is
+search_stops limit i preds reading pairs n (linear.Pivots k) (Gather p) g b le is h = absurd is
+search_stops limit i preds reading pairs n (linear.Pivots k) Memory g b le is h = absurd is
+search_stops limit i preds reading pairs n linear.Memory (Number f) g b le is h = absurd is
+search_stops limit i preds reading pairs n linear.Memory (Gather p) g b le is h = absurd is
+search_stops limit i preds reading pairs n linear.Memory (Pivots l) g b le is h = absurd is
+
+pub point_stops : (limit : ℕ) (i : ClosedImplication) (stop : Stop) → CanBeGathered i → IsPointStop i stop → StopsProving limit i stop
+point_stops limit i (Number e) g h = (g, inr h)
+point_stops limit i (Gather p) g h = absurd h
+point_stops limit i (Pivots k) g h = absurd h
+point_stops limit i Memory g h = tt
+
+-- ---- difference implications
+
+its_difference : (i : ClosedImplication) → IsDifferenceImplication i → (r : Row) → IsItsRow i r → IsDifference r.parts
+its_difference i d r (stopping.of_literal l) = d l.literal r l.among l.is
+its_difference i d r (stopping.of_equation terms e) = subst (λ (x : Row). IsDifference x.parts) (sym e) (inl (refl, refl))
+
+pub differences : (i : ClosedImplication) → IsDifferenceImplication i → (rows : Tagged) → All (λ (r : ℕ × Row). IsItsRow i r.1) rows → AreDifferences rows
+differences i d [] a = tt
+differences i d (r ∷ rows) a =
+    (its_difference i d r.1 (All-head (λ (x : ℕ × Row). IsItsRow i x.1) r rows a), differences i d rows (All-tail (λ (x : ℕ × Row). IsItsRow i x.1) r rows a))
+
+none_by_number : (limit : ℕ) (i : ClosedImplication) (e : NumberPast) → IsSmallDifference i → StopsOnFacts limit i (linear.Number e) → ⊥
+none_by_number limit i e s h =
+    let by = h.stops.differences (differences i s.difference (rows_among h.facts) h.are.each) in
+    let large = by.1 in let w = h.are.sizes in let l = s.small in omega (arith, large, w, l)
+
+pub small_stops : (limit : ℕ) (i : ClosedImplication) (stop : Stop) → StopsProving limit i stop → IsSmallDifference i → StopsSmall stop
+small_stops limit i (Number e) (g, inl h) s = absurd (none_by_number limit i e s h)
+small_stops limit i (Number e) (g, inr h) s = let large = h.large s.difference in let l = s.small in omega (arith, large, l)
+small_stops limit i (Gather p) h s = tt
+small_stops limit i (Pivots k) h s = h.1.stops.differences (differences i s.difference (rows_among h.1.facts) h.1.are.each)
+small_stops limit i Memory h s = tt
+
+pub if_small : {X : Type 0} (limit : ℕ) (i : ClosedImplication) (r : Result X Stop) → IfErr r (StopsProving limit i) → IfErr r (λ stop. IsSmallDifference i → StopsSmall stop)
+if_small {X} limit i (Ok x) h = tt
+if_small {X} limit i (Err stop) h = small_stops limit i stop h

@@ -1,0 +1,56 @@
+use Rattle.std.proofs.Common.{◌+◌, ◌≤◌, refl, subst}
+use Rattle.lq_combine.specs.Path.{taken}
+use Rattle.lq_combine.specs.Proves.{Proves}
+use Rattle.lq_combine.specs.TreeView.{tree_view}
+use Rattle.lq_equating.specs.Equating.{numbering_by}
+use Rattle.lq_literals.specs.Gathered.{sizes}
+use Rattle.lq_pred.specs.Literals.{all_pairs}
+use Rattle.lq_pred.specs.NnfView.{nnf_view}
+use Rattle.lq_pred.specs.PredView.{implication_of, pred_items}
+use Rattle.lq_search.specs.SearchPath.{EndsMet, facts_of, scope_of, ways_of}
+use Rattle.lq_search.specs.Sizes.{most, row_size}
+use Rattle.lq_search.specs.Stopping.{MayReach, StopsSearch, most_on}
+use Rattle.lq_prove.proofs.Ending.{proves_implication}
+use Rattle.lq_prove.proofs.Stopped.{begins, its_facts, search_stops}
+use Rattle.lq_prove.proofs.proving.prove_path.Goals as goal
+
+pub point_of-requires-clause-met : goal.point_of-requires-clause-met
+point_of-requires-clause-met c =
+    let s = scope_of c.args.givens.now in
+    let r = nnf_view c.args.reading.now in
+    subst (λ p. EndsMet s c.args.givens.now.pairs.now (taken p r) c.search_with.new.path) c.requires.nothing (rw c.in-Ok-None.field-0-is at c.in-Ok-None.ensures.met)
+
+pub returns-in-Ok-Some-clause-tree : goal.returns-in-Ok-Some-clause-tree
+returns-in-Ok-Some-clause-tree c =
+    let s = scope_of c.args.givens.now in
+    let i = implication_of c.args.implication.now in
+    let r = nnf_view c.args.reading.now in
+    proves_implication s.terms i r (tree_view c.in-Ok-Some.tree) c.requires.terms c.requires.opening
+    (subst (λ p. Proves (numbering_by s.terms) (taken p r) (tree_view c.in-Ok-Some.tree)) c.requires.nothing (rw c.in-Ok-Some.field-0-is at c.in-Ok-Some.ensures.tree))
+
+pub point_of-requires-clause-facts : goal.point_of-requires-clause-facts
+point_of-requires-clause-facts c =
+    let s = scope_of c.args.givens.now in
+    let i = implication_of c.args.implication.now in
+    let r = nnf_view c.args.reading.now in
+    let pairs = c.args.givens.now.pairs.now in
+    let n = most_on s c.args.path.now in
+    let preds = pred_items c.args.implication.now.hypotheses in
+    let le = subst (λ ts. n ≤ sizes (all_pairs ts)) c.requires.terms c.requires.sizes in
+    let facts = facts_of s c.search_with.new.path in
+    its_facts i preds r pairs n facts (begins s.terms i preds r pairs c.requires.terms refl c.requires.opening c.requires.given.each c.requires.ordered) le
+    (subst (λ p. MayReach (taken p r) (ways_of pairs) (n + most row_size r) facts) c.requires.nothing (rw c.in-Ok-None.field-0-is at c.in-Ok-None.ensures.reached))
+
+pub returns-in-Err-clause-stop : goal.returns-in-Err-clause-stop
+returns-in-Err-clause-stop c =
+    let s = scope_of c.args.givens.now in
+    let i = implication_of c.args.implication.now in
+    let r = nnf_view c.args.reading.now in
+    let pairs = c.args.givens.now.pairs.now in
+    let limit = c.args.path.now.state.rows.pivots in
+    let n = most_on s c.args.path.now in
+    let preds = pred_items c.args.implication.now.hypotheses in
+    let le = subst (λ ts. n ≤ sizes (all_pairs ts)) c.requires.terms c.requires.sizes in
+    search_stops limit i preds r pairs n c.in-Err.stop c.stop_of.result c.requires.gathers
+    (begins s.terms i preds r pairs c.requires.terms refl c.requires.opening c.requires.given.each c.requires.ordered) le c.stop_of.ensures
+    (subst (λ p. StopsSearch limit (taken p r) (ways_of pairs) (n + most row_size r) c.in-Err.stop) c.requires.nothing c.in-Err.ensures.stop)

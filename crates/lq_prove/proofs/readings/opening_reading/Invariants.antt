@@ -1,0 +1,12 @@
+use Rattle.std.proofs.Common.{◌≡◌, map, take}
+use Rattle.lq_combine.specs.Path.{AreReadings}
+use Rattle.lq_pred.specs.NnfView.{nnf_items, nnf_view}
+use Rattle.lq_pred.specs.PredView.{formula_of}
+use Rattle.lq_pred.specs.TableView.{terms_of}
+use Rattle.lq_prove.proofs.readings.opening_reading.Given as goal
+
+abbrev pub invariant-loop-pred : goal.invariant-loop-pred
+invariant-loop-pred l = record {
+  same : terms_of l.table ≡ terms_of l.fn.table;
+  readings : AreReadings (terms_of l.table) (map formula_of (take l.pred-index l.pred-items)) (map nnf_view (nnf_items l.readings));
+}

@@ -1,0 +1,4 @@
+pub mod Answers
+pub mod Openings
+pub mod Stopping
+pub mod Values

@@ -1,0 +1,104 @@
+-- When `valid` stops.
+use Rattle.std.specs.Prelude.{◌≡◌, ◌⊎◌, ◌≤◌, ◌<◌, ℕ, List, All, Contains}
+use Rattle.lq_case.specs.PathState.{HasStops}
+use Rattle.lq_combine.specs.Path.{Fact}
+use Rattle.lq_combine.specs.Proves.{rows_among}
+use Rattle.lq_diff.specs.Table.{constants}
+use Rattle.lq_equating.specs.Equating.{equation}
+use Rattle.lq_linear.specs.Difference.{IsDifference}
+use Rattle.lq_linear.specs.Row.{Row}
+use Rattle.lq_linear.specs.declared.engine.LinearStop.{LinearStop}
+use Rattle.lq_linear.specs.declared.engine.LinearStop.TheVariants as linear
+use Rattle.lq_linear.specs.declared.limits.TheConstants.{SUM_LIMIT}
+use Rattle.lq_literals.specs.Gathered.{CanBeGathered, IsFirstPast, sizes_of}
+use Rattle.lq_literals.specs.Sources.{sources_of}
+use Rattle.lq_num.specs.Past.{IsPast}
+use Rattle.lq_num.specs.declared.past.NumberPast.{NumberPast}
+use Rattle.lq_point.specs.Evaluation.{IsStepOf}
+use Rattle.lq_point.specs.Values.{numbers_of, point_of_values}
+use Rattle.lq_point.specs.declared.values.PointValues.{PointValues}
+use Rattle.lq_pred.specs.ClosedImplication.{ClosedImplication, terms_in}
+use Rattle.lq_pred.specs.Comparison.{Comparison, IsRowOf}
+use Rattle.lq_pred.specs.Literals.{implication_literals}
+use Rattle.lq_pred.specs.PredView.{formula_of}
+use Rattle.lq_pred.specs.Sum.{Sum}
+use Rattle.lq_pred.specs.declared.pred.Stop.{Stop}
+use Rattle.lq_pred.specs.declared.pred.Stop.TheVariants.{Number, Gather, Pivots, Memory}
+use Rattle.lq_prove.specs.Answers.{IsCounterexample}
+
+-- ---- difference implications
+
+-- each literal is a difference row
+abbrev pub IsDifferenceImplication : ClosedImplication → Type 0
+IsDifferenceImplication i = (c : Comparison) (r : Row) → Contains (implication_literals i) c → IsRowOf (terms_in i) c r → IsDifference r.parts
+
+-- so small that no sum of constants is past 128 bits
+pub record IsSmallDifference (i : ClosedImplication) : Type 0 where
+  pub difference : IsDifferenceImplication i
+  pub small : sizes_of i < SUM_LIMIT
+
+-- ---- stops of an engine
+
+-- the row of one of the comparisons, its terms numbered by the list
+pub record IsRowIn (terms : List Sum) (cs : List Comparison) (r : Row) : Type 0 where
+  pub literal : Comparison
+  pub among : Contains cs literal
+  pub is : IsRowOf terms literal r
+
+-- a row of the implication: that of one of its literals, or that two terms are equal, by their numbers
+pub data IsItsRow (i : ClosedImplication) (r : Row) : Type 0 where
+  of_literal : IsRowIn (terms_in i) (implication_literals i) r → IsItsRow i r
+  of_equation : (terms : ℕ × ℕ) → r ≡ equation terms → IsItsRow i r
+
+-- facts with such rows, whose constants' sizes sum to at most those of the implication's literals
+pub record AreItsFacts (i : ClosedImplication) (facts : List Fact) : Type 0 where
+  pub each : All (λ r. IsItsRow i r.1) (rows_among facts)
+  pub sizes : constants (rows_among facts) ≤ sizes_of i
+
+-- a stop of an engine on such facts, with this limit on pivots
+pub record StopsOnFacts (limit : ℕ) (i : ClosedImplication) (stop : LinearStop) : Type 0 where
+  pub facts : List Fact
+  pub are : AreItsFacts i facts
+  pub stops : HasStops limit facts stop
+
+-- ---- stops of an evaluation
+
+-- An operation without a form of 128 bits, by which a literal is evaluated at the numbers of a counterexample. Where each literal is a
+-- difference row, the sizes are large.
+pub record IsPastAtPoint (i : ClosedImplication) (e : NumberPast) : Type 0 where
+  pub past : IsPast e
+  pub values : PointValues
+  pub counterexample : IsCounterexample i (point_of_values values)
+  pub step : IsStepOf (implication_literals i) (terms_in i) (numbers_of values) e
+  pub large : IsDifferenceImplication i → SUM_LIMIT ≤ sizes_of i
+
+-- a stop of an evaluation, or want of memory
+abbrev pub IsPointStop : ClosedImplication → Stop → Type 0
+IsPointStop i (Number e) = IsPastAtPoint i e
+IsPointStop i (Gather p) = ⊥
+IsPointStop i (Pivots k) = ⊥
+IsPointStop i Memory = Unit {0}
+
+-- ---- all stops
+
+-- The first predicate with a literal that can't be gathered, exactly where there is one. Else a stop of an engine on the implication's
+-- rows, with this limit on pivots, or an evaluation's.
+abbrev pub StopsProving : ℕ → ClosedImplication → Stop → Type 0
+StopsProving limit i (Gather p) = IsFirstPast (sources_of i) (formula_of p)
+StopsProving limit i (Number e) = CanBeGathered i × (StopsOnFacts limit i (linear.Number e) ⊎ IsPastAtPoint i e)
+StopsProving limit i (Pivots k) = CanBeGathered i × StopsOnFacts limit i (linear.Pivots k)
+StopsProving limit i Memory = Unit {0}
+
+-- a stop of an engine is that of a proof
+abbrev pub IsStopOf : LinearStop → Stop → Type 0
+IsStopOf (linear.Number e) (Number f) = e ≡ f
+IsStopOf (linear.Pivots k) (Pivots l) = k ≡ l
+IsStopOf linear.Memory Memory = Unit {0}
+IsStopOf _ _ = ⊥
+
+-- what is left where each literal is a difference row and the sizes are small
+abbrev pub StopsSmall : Stop → Type 0
+StopsSmall (Number e) = ⊥
+StopsSmall (Gather p) = Unit {0}
+StopsSmall (Pivots k) = ⊥
+StopsSmall Memory = Unit {0}

@@ -1,0 +1,11 @@
+//! Whether an implication is valid: with a tree that proves it, or with a point at which it fails.
+#![tactic(auto)]
+
+mod answer;
+mod names;
+mod point;
+mod proving;
+mod readings;
+
+pub use answer::Answer;
+pub use proving::{prove, valid};

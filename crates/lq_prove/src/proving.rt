@@ -1,0 +1,218 @@
+// Proving an implication, or finding a point at which it fails.
+ghost use Rattle.std.specs.Prelude.{◌≡◌, ◌≤◌, IfErr, IfOk, IsTrue, OnOk, [], ℕ, length};
+ghost use Rattle.lq_case.specs.PathState.{facts_in};
+ghost use Rattle.lq_case.specs.RowState.{terms_of as row_terms};
+ghost use Rattle.lq_combine.specs.Path.{nothing};
+ghost use Rattle.lq_combine.specs.TreeView.{tree_view};
+ghost use Rattle.lq_literals.specs.Gathered.{CanBeGathered, sizes};
+ghost use Rattle.lq_point.specs.Values.{as_point};
+ghost use Rattle.lq_pred.specs.ClosedImplication.{IsValid, terms_in};
+ghost use Rattle.lq_pred.specs.Literals.{all_pairs as pair_literals};
+ghost use Rattle.lq_pred.specs.NnfView.{nnf_view};
+ghost use Rattle.lq_pred.specs.PredView.{implication_of};
+ghost use Rattle.lq_pred.specs.Sum.{Sum};
+ghost use Rattle.lq_pred.specs.Table.{all_differ};
+ghost use Rattle.lq_pred.specs.TableView.{terms_of};
+ghost use Rattle.lq_prove.specs.Answers.{IfFails, IfValid, IsCounterexample, IsReadable, ProvesImplication};
+ghost use Rattle.lq_prove.specs.Openings.{IsOpeningReading};
+ghost use Rattle.lq_prove.specs.Stopping.{IsSmallDifference, IsStopOf, StopsProving, StopsSmall};
+ghost use Rattle.lq_search.specs.Pairs.{AreAllPairs, AreOrdered};
+ghost use Rattle.lq_search.specs.Scope.{IsWithin};
+ghost use Rattle.lq_search.specs.SearchPath.{AreGiven, IsReadyFor, path_of, scope_of, ways_of};
+ghost use Rattle.lq_search.specs.Sizes.{most_of_each};
+ghost use Rattle.lq_search.specs.Stopping.{most_on};
+
+use crate::answer::Answer;
+use crate::names::object_table;
+use crate::point::point_of;
+use crate::readings::opening_reading;
+use lq_case::PathState;
+use lq_combine::proved_implications_are_valid;
+use lq_linear::LinearStop;
+use lq_literals::{first_past, flags, objects, sources_have_the_literals};
+use lq_pred::{Closed, Nnf, Stop, TermTable, rows_say_what_comparisons_say};
+use lq_search::{Givens, SearchPath, all_pairs, search_with};
+use std::alloc::{AllocError, Global};
+
+/// The stop of an engine.
+fn stop_of(stop: LinearStop) -> Stop
+    ensures { IsStopOf stop result }
+{
+    match stop {
+        LinearStop::Number(past) => Stop::Number(past),
+        LinearStop::Pivots(count) => Stop::Pivots(count),
+        LinearStop::Memory => Stop::Memory,
+    }
+}
+
+/// A state without facts.
+fn state_of(alloc: Global, givens: &Givens<'_>, limit: u64) -> Result<PathState, AllocError>
+    ensures facts { IfOk result (λ s. (name : ℕ → Sum) → facts_in name s ≡ []) }
+    ensures terms { IfOk result (λ s. row_terms s.rows ≡ length (scope_of givens.now).terms) }
+    ensures count { IfOk result (λ s. s.objects.count ≡ length (scope_of givens.now).objects) }
+    ensures limit { IfOk result (λ s. s.rows.pivots ≡ limit) }
+{
+    let Ok(count) = u32::try_from(givens.objects.len()) else {
+        return Err(AllocError);
+    };
+    PathState::new(alloc, givens.terms.len(), limit, count)
+}
+
+/// Whether an implication is valid, by its reading and what the reading speaks of, on a path without facts and choices.
+fn prove_path<'a>(
+    alloc: Global,
+    implication: &Closed,
+    reading: &'a Nnf,
+    givens: &Givens<'a>,
+    path: &mut SearchPath<'a>,
+) -> Result<Answer, Stop>
+    requires gathers { CanBeGathered (implication_of implication.now) }
+    requires terms { (scope_of givens.now).terms ≡ terms_in (implication_of implication.now) }
+    requires opening { IsOpeningReading (scope_of givens.now).terms (implication_of implication.now) (nnf_view reading.now) }
+    requires within { IsWithin (scope_of givens.now) (nnf_view reading.now) }
+    requires given { AreGiven (scope_of givens.now) givens.now.pairs.now }
+    requires all { AreAllPairs (scope_of givens.now).terms givens.now.pairs.now }
+    requires ready { IsReadyFor (nnf_view reading.now) (scope_of givens.now) givens.now.pairs.now path.old }
+    requires nothing { path_of (scope_of givens.now) path.old ≡ nothing }
+    requires ordered { AreOrdered givens.now.pairs.now }
+    requires sizes { most_on (scope_of givens.now) path.old ≤ sizes (pair_literals (scope_of givens.now).terms) }
+    ensures tree { IfOk result (λ answer. IfValid answer (λ t. ProvesImplication (implication_of implication.now)
+        (tree_view t))) }
+    ensures point { IfOk result (λ answer. IfFails answer (λ p. IsCounterexample (implication_of implication.now)
+        (as_point p))) }
+    ensures readable { IfOk result (λ answer. IfFails answer (IsReadable (implication_of implication.now))) }
+    ensures stop { IfErr result (StopsProving path.old.state.rows.pivots (implication_of implication.now)) }
+{
+    match search_with(alloc, givens, path, reading) {
+        Ok(Some(tree)) => Ok(Answer::Valid(tree)),
+        Ok(None) => match point_of(alloc, implication, reading, givens, path) {
+            Ok(point) => Ok(Answer::Fails(point)),
+            Err(stop) => Err(stop),
+        },
+        Err(stop) => Err(stop_of(stop)),
+    }
+}
+
+/// The same on a path that is made here. A check makes at most `limit` pivots.
+fn prove_given<'a>(
+    alloc: Global,
+    implication: &Closed,
+    reading: &'a Nnf,
+    givens: &Givens<'a>,
+    limit: u64,
+) -> Result<Answer, Stop>
+    requires gathers { CanBeGathered (implication_of implication.now) }
+    requires terms { (scope_of givens.now).terms ≡ terms_in (implication_of implication.now) }
+    requires opening { IsOpeningReading (scope_of givens.now).terms (implication_of implication.now) (nnf_view reading.now) }
+    requires within { IsWithin (scope_of givens.now) (nnf_view reading.now) }
+    requires given { AreGiven (scope_of givens.now) givens.now.pairs.now }
+    requires all { AreAllPairs (scope_of givens.now).terms givens.now.pairs.now }
+    requires ordered { AreOrdered givens.now.pairs.now }
+    requires sizes { most_of_each (ways_of givens.now.pairs.now) ≤ sizes (pair_literals (scope_of givens.now).terms) }
+    ensures tree { IfOk result (λ answer. IfValid answer (λ t. ProvesImplication (implication_of implication.now)
+        (tree_view t))) }
+    ensures point { IfOk result (λ answer. IfFails answer (λ p. IsCounterexample (implication_of implication.now)
+        (as_point p))) }
+    ensures readable { IfOk result (λ answer. IfFails answer (IsReadable (implication_of implication.now))) }
+    ensures stop { IfErr result (StopsProving limit (implication_of implication.now)) }
+{
+    let Ok(state) = state_of(alloc, givens, limit) else {
+        return Err(Stop::Memory);
+    };
+    let Ok(mut path) = SearchPath::new(alloc, state, givens.pairs) else {
+        return Err(Stop::Memory);
+    };
+    prove_path(alloc, implication, reading, givens, &mut path)
+}
+
+/// Whether an implication is valid, by the reading of its hypotheses and its negated goal: all of them in order, whose rows are over the
+/// terms of the implication. Both tables have these terms, and keep them.
+pub fn prove(
+    alloc: Global,
+    implication: &Closed,
+    reading: &Nnf,
+    table: &TermTable,
+    copied: &mut TermTable,
+    limit: u64,
+) -> Result<Answer, Stop>
+    requires gathers { CanBeGathered (implication_of implication.now) }
+    requires terms { terms_of table.now ≡ terms_in (implication_of implication.now) }
+    requires copied { terms_of copied.old ≡ terms_in (implication_of implication.now) }
+    requires opening { IsOpeningReading (terms_of table.now) (implication_of implication.now) (nnf_view reading.now) }
+    ensures tree { IfOk result (λ answer. IfValid answer (λ t. ProvesImplication (implication_of implication.now)
+        (tree_view t))) }
+    ensures point { IfOk result (λ answer. IfFails answer (λ p. IsCounterexample (implication_of implication.now)
+        (as_point p))) }
+    ensures readable { IfOk result (λ answer. IfFails answer (IsReadable (implication_of implication.now))) }
+    ensures copied { OnOk result (terms_of copied.new ≡ terms_in (implication_of implication.now)) }
+    ensures stop { IfErr result (StopsProving limit (implication_of implication.now)) }
+    ensures small { IfErr result (λ stop. IsSmallDifference (implication_of implication.now) → StopsSmall stop) }
+{
+    rows_say_what_comparisons_say();
+    let Ok(named) = objects(alloc, implication) else {
+        return Err(Stop::Memory);
+    };
+    let Ok(objects) = object_table(alloc, &named, table) else {
+        return Err(Stop::Memory);
+    };
+    let Ok(flags) = flags(alloc, implication) else {
+        return Err(Stop::Memory);
+    };
+    let Ok(pairs) = all_pairs(alloc, table, copied) else {
+        return Err(Stop::Memory);
+    };
+    let givens = Givens {
+        terms: table,
+        objects: &objects,
+        flags: &flags,
+        pairs: &pairs,
+    };
+    prove_given(alloc, implication, reading, &givens, limit)
+}
+
+/// The same by the implication alone, each literal of which can be gathered. No term has two numbers.
+fn prove_gathered(alloc: Global, implication: &Closed, limit: u64) -> Result<Answer, Stop>
+    requires gathers { CanBeGathered (implication_of implication.now) }
+    ensures tree { IfOk result (λ answer. IfValid answer (λ t. ProvesImplication (implication_of implication.now)
+        (tree_view t))) }
+    ensures point { IfOk result (λ answer. IfFails answer (λ p. IsCounterexample (implication_of implication.now)
+        (as_point p))) }
+    ensures readable { IfOk result (λ answer. IfFails answer (IsReadable (implication_of implication.now))) }
+    ensures distinct { OnOk result (IsTrue (all_differ (terms_in (implication_of implication.now)))) }
+    ensures stop { IfErr result (StopsProving limit (implication_of implication.now)) }
+{
+    let Ok(table) = implication.terms(alloc) else {
+        return Err(Stop::Memory);
+    };
+    let _count = table.len();
+    let Ok(mut copied) = implication.terms(alloc) else {
+        return Err(Stop::Memory);
+    };
+    let Ok(reading) = opening_reading(alloc, implication, &mut copied) else {
+        return Err(Stop::Memory);
+    };
+    prove(alloc, implication, &reading, &table, &mut copied, limit)
+}
+
+/// Whether an implication is valid: with a tree that proves it, or with a point that meets its hypotheses and its negated goal. Where a
+/// literal can't be gathered, the first such comparison is the answer. A check makes at most `limit` pivots.
+pub fn valid(alloc: Global, implication: &Closed, limit: u64) -> Result<Answer, Stop>
+    ensures tree { IfOk result (λ answer. IfValid answer (λ t. ProvesImplication (implication_of implication.now)
+        (tree_view t))) }
+    ensures valid { IfOk result (λ answer. IfValid answer (λ _. IsValid (implication_of implication.now))) }
+    ensures point { IfOk result (λ answer. IfFails answer (λ p. IsCounterexample (implication_of implication.now)
+        (as_point p))) }
+    ensures readable { IfOk result (λ answer. IfFails answer (IsReadable (implication_of implication.now))) }
+    ensures fails { IfOk result (λ answer. IfFails answer (λ _. IsValid (implication_of implication.now) → ⊥)) }
+    ensures gathered { OnOk result (CanBeGathered (implication_of implication.now)) }
+    ensures stop { IfErr result (StopsProving limit (implication_of implication.now)) }
+    ensures small { IfErr result (λ stop. IsSmallDifference (implication_of implication.now) → StopsSmall stop) }
+{
+    proved_implications_are_valid();
+    sources_have_the_literals();
+    match first_past(alloc, implication) {
+        Ok(Some(pred)) => Err(Stop::Gather(pred)),
+        Ok(None) => prove_gathered(alloc, implication, limit),
+        Err(AllocError) => Err(Stop::Memory),
+    }
+}

@@ -1,0 +1,2 @@
+pub mod Pures
+pub mod Values

@@ -1,0 +1,6 @@
+mod Picking
+mod Joining
+mod Unknowns
+mod Adding
+mod Leaving
+mod Covering

@@ -1,0 +1,2 @@
+-- Quotients and remainders: definitions.
+pub mod Quotients

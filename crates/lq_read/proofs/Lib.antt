@@ -1,0 +1,6 @@
+mod Pures
+mod Blocks
+mod Numbered
+mod Named
+mod Typing
+mod Typed

@@ -1,0 +1,274 @@
+-- What is done to types, one level down.
+use Rattle.std.proofs.Common.{◌≡◌, ℕ, zero, suc, ◌<◌, All, List, [], ◌∷◌, ◌++◌, map, slice_get, Option, Some, None, refl, sym, ap, subst, ◌∙◌}
+use Rattle.std.specs.declared.alloc.Global.{Global}
+use Rattle.std.specs.declared.vec.Vec.{Vec}
+use Rattle.lq_parts.specs.Part.{Parts, Scopes}
+use Rattle.lq_parts.specs.Substitution.{Subst}
+use Rattle.lq_refined.specs.Operations.{type_by, twin, instantiated}
+use Rattle.lq_refined.specs.Refined.{Matrix, Refined, int_with, bool_with, unit_type, function, tuple_of, array_with, data_with, map_with, type_variable, Refineds, more, kind, strengthened, type_at, with_top}
+use Rattle.lq_substitution.specs.Views.{subst_view}
+use Rattle.lq_refinements.specs.declared.changes.Change.{Change}
+use Rattle.lq_refinements.specs.declared.changes.Change.TheVariants.{Put, Twin, Instantiated}
+use Rattle.lq_refinements.specs.Changes.{changed, all_changed, parts_changed, change_rows, variable_of, number_in, replaced}
+use Rattle.lq_refinements.specs.declared.forms.Form.{Form}
+use Rattle.lq_refinements.specs.declared.forms.Form.TheVariants as form
+use Rattle.lq_refinements.specs.declared.table.Row.{Row}
+use Rattle.lq_refinements.specs.declared.table.Row.TheVariants.{Delayed}
+use Rattle.lq_refinements.specs.Forms.{at, each, form_type, row_of}
+use Rattle.lq_refinements.specs.Rows.{row_rows, row_type}
+use Rattle.lq_refinements.proofs.Entries.{number-in}
+use Rattle.std.proofs.lemmas.List.Elements.{All-tail}
+
+-- ---- kinds and variables
+
+module _ (scopes : Scopes) (θ : Subst) where
+  pub kind-put : (t : Refined) → kind (type_by scopes θ t) ≡ kind t
+  kind-put (int_with p) = refl
+  kind-put (bool_with p) = refl
+  kind-put unit_type = refl
+  kind-put (function x a b) = refl
+  kind-put (tuple_of ts) = refl
+  kind-put (array_with e p) = refl
+  kind-put (data_with d ts m p) = refl
+  kind-put (map_with e p) = refl
+  kind-put (type_variable i) = refl
+
+  pub variable-put : (t : Refined) → variable_of (type_by scopes θ t) ≡ variable_of t
+  variable-put (int_with p) = refl
+  variable-put (bool_with p) = refl
+  variable-put unit_type = refl
+  variable-put (function x a b) = refl
+  variable-put (tuple_of ts) = refl
+  variable-put (array_with e p) = refl
+  variable-put (data_with d ts m p) = refl
+  variable-put (map_with e p) = refl
+  variable-put (type_variable i) = refl
+
+module _ (scopes : Scopes) where
+  pub kind-twin : (t : Refined) → kind (twin scopes t) ≡ kind t
+  kind-twin (int_with p) = refl
+  kind-twin (bool_with p) = refl
+  kind-twin unit_type = refl
+  kind-twin (function x a b) = refl
+  kind-twin (tuple_of ts) = refl
+  kind-twin (array_with e p) = refl
+  kind-twin (data_with d ts m p) = refl
+  kind-twin (map_with e p) = refl
+  kind-twin (type_variable i) = refl
+
+  pub variable-twin : (t : Refined) → variable_of (twin scopes t) ≡ variable_of t
+  variable-twin (int_with p) = refl
+  variable-twin (bool_with p) = refl
+  variable-twin unit_type = refl
+  variable-twin (function x a b) = refl
+  variable-twin (tuple_of ts) = refl
+  variable-twin (array_with e p) = refl
+  variable-twin (data_with d ts m p) = refl
+  variable-twin (map_with e p) = refl
+  variable-twin (type_variable i) = refl
+
+module _ (by : Refineds) where
+  pub kind-instantiated : (t : Refined) → variable_of t ≡ None → kind (instantiated by t) ≡ kind t
+  kind-instantiated (int_with p) h = refl
+  kind-instantiated (bool_with p) h = refl
+  kind-instantiated unit_type h = refl
+  kind-instantiated (function x a b) h = refl
+  kind-instantiated (tuple_of ts) h = refl
+  kind-instantiated (array_with e p) h = refl
+  kind-instantiated (data_with d ts m p) h = refl
+  kind-instantiated (map_with e p) h = refl
+  kind-instantiated (type_variable i) h = cc
+
+  pub variable-instantiated : (t : Refined) → variable_of t ≡ None → variable_of (instantiated by t) ≡ None
+  variable-instantiated (int_with p) h = refl
+  variable-instantiated (bool_with p) h = refl
+  variable-instantiated unit_type h = refl
+  variable-instantiated (function x a b) h = refl
+  variable-instantiated (tuple_of ts) h = refl
+  variable-instantiated (array_with e p) h = refl
+  variable-instantiated (data_with d ts m p) h = refl
+  variable-instantiated (map_with e p) h = refl
+  variable-instantiated (type_variable i) h = cc
+
+pub is-variable : (t : Refined) (i : ℕ) → variable_of t ≡ Some i → t ≡ type_variable i
+is-variable (int_with p) j h = cc
+is-variable (bool_with p) j h = cc
+is-variable unit_type j h = cc
+is-variable (function x a b) j h = cc
+is-variable (tuple_of ts) j h = cc
+is-variable (array_with e p) j h = cc
+is-variable (data_with d ts m p) j h = cc
+is-variable (map_with e p) j h = cc
+is-variable (type_variable i) j h = cc
+
+-- a type that is a variable becomes what is put for it
+pub at-variable : (by : Refineds) (t : Refined) (i : ℕ) → variable_of t ≡ Some i → instantiated by t ≡ type_at by i
+at-variable by t i h = ap (instantiated by) (is-variable t i h)
+
+pub type_at-some : (all : List Refined) (is : List ℕ) (i r : ℕ) → slice_get is i ≡ Some r → type_at (each all is) i ≡ at all r
+type_at-some all [] i r h = cc
+type_at-some all (x ∷ is) zero r h = let same : x ≡ r = cc in ap (at all) same
+type_at-some all (x ∷ is) (suc i) r h = type_at-some all is i r h
+
+pub type_at-none : (all : List Refined) (is : List ℕ) (i : ℕ) → slice_get is i ≡ None → type_at (each all is) i ≡ unit_type
+type_at-none all [] i h = refl
+type_at-none all (x ∷ is) zero h = cc
+type_at-none all (x ∷ is) (suc i) h = type_at-none all is i h
+
+-- ---- one level
+
+module _ (scopes : Scopes) (all : List Refined) where
+  pub replaced-some : (c : Change) (t : Refined) (r : ℕ) → replaced c t ≡ Some r → changed scopes all c t ≡ at all r
+  replaced-some (Put θ) t r h = cc
+  replaced-some Twin t r h = cc
+  replaced-some (Instantiated by) t r h = chosen (variable_of t) refl h
+    where
+      chosen : (v : Option ℕ) → variable_of t ≡ v → number_in by.items v ≡ Some r → instantiated (each all by.items) t ≡ at all r
+      chosen None e k = cc
+      chosen (Some i) e k = at-variable (each all by.items) t i e ∙ type_at-some all by.items i r k
+
+  pub changed-int : (c : Change) (p : Parts) → int_with (parts_changed scopes c p) ≡ changed scopes all c (int_with p)
+  changed-int (Put θ) p = refl
+  changed-int Twin p = refl
+  changed-int (Instantiated by) p = refl
+
+  pub changed-bool : (c : Change) (p : Parts) → bool_with (parts_changed scopes c p) ≡ changed scopes all c (bool_with p)
+  changed-bool (Put θ) p = refl
+  changed-bool Twin p = refl
+  changed-bool (Instantiated by) p = refl
+
+  pub changed-unit : (c : Change) → unit_type ≡ changed scopes all c unit_type
+  changed-unit (Put θ) = refl
+  changed-unit Twin = refl
+  changed-unit (Instantiated by) = refl
+
+  pub changed-array : (c : Change) (e : Refined) (p : Parts) → array_with (changed scopes all c e) (parts_changed scopes c p) ≡ changed scopes all c (array_with e p)
+  changed-array (Put θ) e p = refl
+  changed-array Twin e p = refl
+  changed-array (Instantiated by) e p = refl
+
+  pub changed-map : (c : Change) (e : Refined) (p : Parts) → map_with (changed scopes all c e) (parts_changed scopes c p) ≡ changed scopes all c (map_with e p)
+  changed-map (Put θ) e p = refl
+  changed-map Twin e p = refl
+  changed-map (Instantiated by) e p = refl
+
+  all_changed-row : (c : Change) (ts : List Refined) → all_changed scopes all c (row_of ts) ≡ row_of (map (changed scopes all c) ts)
+  all_changed-row (Put θ) [] = refl
+  all_changed-row Twin [] = refl
+  all_changed-row (Instantiated by) [] = refl
+  all_changed-row (Put θ) (t ∷ ts) = ap (more (type_by scopes (subst_view θ) t)) (all_changed-row (Put θ) ts)
+  all_changed-row Twin (t ∷ ts) = ap (more (twin scopes t)) (all_changed-row Twin ts)
+  all_changed-row (Instantiated by) (t ∷ ts) = ap (more (instantiated (each all by.items) t)) (all_changed-row (Instantiated by) ts)
+
+  changed-tuple : (c : Change) (ts : Refineds) → tuple_of (all_changed scopes all c ts) ≡ changed scopes all c (tuple_of ts)
+  changed-tuple (Put θ) ts = refl
+  changed-tuple Twin ts = refl
+  changed-tuple (Instantiated by) ts = refl
+
+  changed-data : (c : Change) (d : ℕ) (ts : Refineds) (m : Matrix) (p : Parts)
+      → data_with d (all_changed scopes all c ts) m (parts_changed scopes c p) ≡ changed scopes all c (data_with d ts m p)
+  changed-data (Put θ) d ts m p = refl
+  changed-data Twin d ts m p = refl
+  changed-data (Instantiated by) d ts m p = refl
+
+  -- rows of types, each changed
+  changed-each : (c : Change) (new : List Refined) (made is : List ℕ) → map (at new) made ≡ map (λ p. changed scopes all c (at all p)) is
+      → each new made ≡ all_changed scopes all c (each all is)
+  changed-each c new made is h = ap row_of (h ∙ sym (twice is)) ∙ sym (all_changed-row c (map (at all) is))
+    where
+      twice : (xs : List ℕ) → map (changed scopes all c) (map (at all) xs) ≡ map (λ p. changed scopes all c (at all p)) xs
+      twice [] = refl
+      twice (x ∷ xs) = ap (λ ys. changed scopes all c (at all x) ∷ ys) (twice xs)
+
+  pub changed-tuples : (c : Change) (new : List Refined) (made is : List ℕ) → map (at new) made ≡ map (λ p. changed scopes all c (at all p)) is
+      → tuple_of (each new made) ≡ changed scopes all c (tuple_of (each all is))
+  changed-tuples c new made is h = ap tuple_of (changed-each c new made is h) ∙ changed-tuple c (each all is)
+
+  pub changed-datas : (c : Change) (new : List Refined) (made is : List ℕ) (d : ℕ) (m : Matrix) (p : Parts)
+      → map (at new) made ≡ map (λ p. changed scopes all c (at all p)) is
+      → data_with d (each new made) m (parts_changed scopes c p) ≡ changed scopes all c (data_with d (each all is) m p)
+  changed-datas c new made is d m p h =
+      ap (λ us. data_with d us m (parts_changed scopes c p)) (changed-each c new made is h) ∙ changed-data c d (each all is) m p
+
+  -- a variable for which there is no type
+  pub changed-outside : (c : Change) (v : ℕ) (by : Vec ℕ Global) → c ≡ Instantiated by → replaced c (type_variable v) ≡ None
+      → unit_type ≡ changed scopes all c (type_variable v)
+  changed-outside c v by e h =
+      sym (type_at-none all by.items v (ap (λ d. replaced d (type_variable v)) (sym e) ∙ h)) ∙ ap (λ d. changed scopes all d (type_variable v)) (sym e)
+
+-- ---- other parts at the top
+
+pub with_top-form : (all : List Refined) (f : Form) (p q : Parts) → with_top q (form_type all f p) ≡ form_type all f q
+with_top-form all form.Int p q = refl
+with_top-form all form.Bool p q = refl
+with_top-form all form.Unit p q = refl
+with_top-form all (form.Function x a b) p q = refl
+with_top-form all (form.Tuple ts) p q = refl
+with_top-form all (form.Array e) p q = refl
+with_top-form all (form.Data d ts m) p q = refl
+with_top-form all (form.Map e) p q = refl
+with_top-form all (form.Variable i) p q = refl
+
+pub strengthened-form : (all : List Refined) (f : Form) (p q : Parts) → strengthened q (form_type all f p) ≡ form_type all f (p ++ q)
+strengthened-form all form.Int p q = refl
+strengthened-form all form.Bool p q = refl
+strengthened-form all form.Unit p q = refl
+strengthened-form all (form.Function x a b) p q = refl
+strengthened-form all (form.Tuple ts) p q = refl
+strengthened-form all (form.Array e) p q = refl
+strengthened-form all (form.Data d ts m) p q = refl
+strengthened-form all (form.Map e) p q = refl
+strengthened-form all (form.Variable i) p q = refl
+
+-- ---- what a row that puts types for variables makes of a variable
+
+pub chosen-earlier : (r : Row) (n inner v chosen : ℕ) (types : Vec ℕ Global) → r ≡ Delayed (Instantiated types) inner → All (λ p. p < n) (row_rows r)
+    → Some chosen ≡ slice_get types.items v → chosen < n
+chosen-earlier r n inner v chosen types e h s =
+    number-in (λ p. p < n) types.items v chosen s
+    (All-tail (λ p. p < n) inner types.items (subst (λ x. All (λ p. p < n) (row_rows x)) e h))
+
+pub chosen-type : (scopes : Scopes) (all : List Refined) (t : Refined) (r : Row) (inner v chosen : ℕ) (types : Vec ℕ Global) → t ≡ row_type scopes all r
+    → r ≡ Delayed (Instantiated types) inner → Some v ≡ variable_of (at all inner) → Some chosen ≡ slice_get types.items v → t ≡ at all chosen
+chosen-type scopes all t r inner v chosen types h e k s =
+    h ∙ ap (row_type scopes all) e ∙ at-variable (each all types.items) (at all inner) v (sym k) ∙ type_at-some all types.items v chosen (sym s)
+
+pub missing-type : (scopes : Scopes) (all : List Refined) (t : Refined) (r : Row) (inner v : ℕ) (types : Vec ℕ Global) → t ≡ row_type scopes all r
+    → r ≡ Delayed (Instantiated types) inner → Some v ≡ variable_of (at all inner) → None ≡ slice_get types.items v → t ≡ unit_type
+missing-type scopes all t r inner v types h e k s =
+    h ∙ ap (row_type scopes all) e ∙ at-variable (each all types.items) (at all inner) v (sym k) ∙ type_at-none all types.items v (sym s)
+
+pub replaced-earlier : (c : Change) (t : Refined) (r n : ℕ) → replaced c t ≡ Some r → All (λ p. p < n) (change_rows c) → r < n
+replaced-earlier (Put θ) t r n e h = absurd (none e)
+  where
+    none : None ≡ Some r → ⊥
+    none k = cc
+replaced-earlier Twin t r n e h = absurd (none e)
+  where
+    none : None ≡ Some r → ⊥
+    none k = cc
+replaced-earlier (Instantiated by) t r n e h = chosen (variable_of t) e
+  where
+    chosen : (v : Option ℕ) → number_in by.items v ≡ Some r → r < n
+    chosen None k = absurd (none k)
+      where
+        none : None ≡ Some r → ⊥
+        none k = cc
+    chosen (Some i) k = number-in (λ p. p < n) by.items i r (sym k) h
+
+-- whether a type is a variable that is put for is told by its form
+variable-form : (all bll : List Refined) (f : Form) (p q : Parts) → variable_of (form_type all f p) ≡ variable_of (form_type bll f q)
+variable-form all bll form.Int p q = refl
+variable-form all bll form.Bool p q = refl
+variable-form all bll form.Unit p q = refl
+variable-form all bll (form.Function x a b) p q = refl
+variable-form all bll (form.Tuple ts) p q = refl
+variable-form all bll (form.Array e) p q = refl
+variable-form all bll (form.Data d ts m) p q = refl
+variable-form all bll (form.Map e) p q = refl
+variable-form all bll (form.Variable i) p q = refl
+
+pub replaced-form : (c : Change) (all bll : List Refined) (f : Form) (p q : Parts) → replaced c (form_type all f p) ≡ replaced c (form_type bll f q)
+replaced-form (Put θ) all bll f p q = refl
+replaced-form Twin all bll f p q = refl
+replaced-form (Instantiated by) all bll f p q = ap (number_in by.items) (variable-form all bll f p q)

@@ -1,0 +1,35 @@
+use Rattle.std.proofs.Common.{[], map, sym, ap, ◌∙◌}
+use Rattle.lq_parts.specs.Part.{Scopes}
+use Rattle.lq_refinements.specs.Changes.{changed, replaced}
+use Rattle.lq_refinements.specs.Forms.{form_type, matrix_view}
+use Rattle.lq_refinements.specs.Whole.{refined_at, types_of}
+use Rattle.lq_refinements.proofs.Changing.{changed-tuples, changed-datas}
+use Rattle.lq_refinements.proofs.table.RefinedTypes.changed_form.Goals as goal
+
+nowhere : Scopes
+nowhere u = []
+
+pub changed_variable-requires : goal.changed_variable-requires
+changed_variable-requires c =
+    ap (λ f. replaced c.args.change.now (form_type (types_of nowhere c.args.self.now) f [])) (sym c.in-Variable.is) ∙ c.requires.outside nowhere []
+
+pub returns-in_ok-changed_all-in-Tuple-clause-refined : goal.returns-in_ok-changed_all-in-Tuple-clause-refined
+returns-in_ok-changed_all-in-Tuple-clause-refined c =
+    let old = c.args.self.now in
+    let change = c.args.change.now in
+    λ scopes p.
+    changed-tuples scopes (types_of scopes old) change (types_of scopes c.changed_all.new.self) c.in_ok-changed_all-in-Tuple.field-0.items c.in-Tuple.types.items
+    (c.in_ok-changed_all-in-Tuple.ensures.refined scopes
+    ∙ ap (map (λ i. changed scopes (types_of scopes old) change (refined_at scopes old i))) c.deref.ensures.value)
+    ∙ ap (λ f. changed scopes (types_of scopes old) change (form_type (types_of scopes old) f p)) (sym c.in-Tuple.is)
+
+pub returns-in_ok-changed_all-in-Data-clause-refined : goal.returns-in_ok-changed_all-in-Data-clause-refined
+returns-in_ok-changed_all-in-Data-clause-refined c =
+    let old = c.args.self.now in
+    let change = c.args.change.now in
+    λ scopes p.
+    changed-datas scopes (types_of scopes old) change (types_of scopes c.changed_all-in-Data.new.self) c.in_ok-changed_all-in-Data.field-0.items
+    c.in-Data.types.items c.in-Data.name.0 (matrix_view c.in-Data.matrix) p
+    (c.in_ok-changed_all-in-Data.ensures.refined scopes
+    ∙ ap (map (λ i. changed scopes (types_of scopes old) change (refined_at scopes old i))) c.deref-in-Data.ensures.value)
+    ∙ ap (λ f. changed scopes (types_of scopes old) change (form_type (types_of scopes old) f p)) (sym c.in-Data.is)

@@ -1,0 +1,52 @@
+-- What is done to a refined type.
+use Rattle.std.specs.Prelude.{ℕ, List, [], slice_get, Option, Some, None}
+use Rattle.lq_parts.specs.Part.{Parts, Scopes, parts_by}
+use Rattle.lq_refined.specs.Operations.{type_by, types_by, twin, twins, instantiated, all_instantiated}
+use Rattle.lq_refined.specs.Refined.{Refined, int_with, bool_with, unit_type, function, tuple_of, array_with, data_with, map_with, type_variable, Refineds}
+use Rattle.lq_substitution.specs.Views.{subst_view}
+use Rattle.lq_refinements.specs.declared.changes.Change.{Change}
+use Rattle.lq_refinements.specs.declared.changes.Change.TheVariants.{Put, Twin, Instantiated}
+use Rattle.lq_refinements.specs.Forms.{each}
+
+abbrev pub changed : Scopes → List Refined → Change → Refined → Refined
+changed scopes all (Put θ) t = type_by scopes (subst_view θ) t
+changed scopes all Twin t = twin scopes t
+changed scopes all (Instantiated by) t = instantiated (each all by.items) t
+
+abbrev pub all_changed : Scopes → List Refined → Change → Refineds → Refineds
+all_changed scopes all (Put θ) ts = types_by scopes (subst_view θ) ts
+all_changed scopes all Twin ts = twins scopes ts
+all_changed scopes all (Instantiated by) ts = all_instantiated (each all by.items) ts
+
+-- to the parts at the top
+abbrev pub parts_changed : Scopes → Change → Parts → Parts
+parts_changed scopes (Put θ) p = parts_by scopes (subst_view θ) p
+parts_changed scopes Twin p = p
+parts_changed scopes (Instantiated by) p = p
+
+abbrev pub change_rows : Change → List ℕ
+change_rows (Put θ) = []
+change_rows Twin = []
+change_rows (Instantiated by) = by.items
+
+-- the variable that a type is
+abbrev pub variable_of : Refined → Option ℕ
+variable_of (int_with p) = None
+variable_of (bool_with p) = None
+variable_of unit_type = None
+variable_of (function x a b) = None
+variable_of (tuple_of ts) = None
+variable_of (array_with e p) = None
+variable_of (data_with d ts m p) = None
+variable_of (map_with e p) = None
+variable_of (type_variable i) = Some i
+
+abbrev pub number_in : List ℕ → Option ℕ → Option ℕ
+number_in by None = None
+number_in by (Some i) = slice_get by i
+
+-- the number of the type that is put for a type that is a variable
+abbrev pub replaced : Change → Refined → Option ℕ
+replaced (Put θ) t = None
+replaced Twin t = None
+replaced (Instantiated by) t = number_in by.items (variable_of t)

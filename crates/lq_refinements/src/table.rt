@@ -1,0 +1,137 @@
+// The table of refined types.
+ghost use Rattle.lq_refinements.specs.Rows.{AreEarlier};
+
+use crate::changes::Change;
+use crate::forms::{Form, RefinedNode};
+use lq_substitution::Parts;
+use std::alloc::{AllocError, Global};
+
+/// One level of a type, or something that is done to a type.
+#[derive(Drop)]
+pub(crate) enum Row {
+    Node(RefinedNode),
+    Delayed(Change, usize),
+}
+
+/// What is done to which type.
+#[derive(Drop)]
+pub(crate) struct Delay {
+    pub(crate) change: Change,
+    pub(crate) at: usize,
+}
+
+/// Refined types, numbered from 0. Each names earlier ones alone, and what is there stays.
+#[derive(Drop)]
+pub struct RefinedTypes {
+    pub(crate) rows: Vec<Row>,
+    ghost earlier: { AreEarlier rows.items },
+}
+
+impl RefinedTypes {
+    ghost use Rattle.std.specs.Prelude.{◌≡◌, ◌<◌, [], ◌∷◌, ◌++◌, true, min, All, IfOk, IfSome, MatchOption};
+    ghost use Rattle.lq_parts.specs.Part.{Scopes as ScopeLists};
+    ghost use Rattle.lq_refinements.specs.Changes.{changed, change_rows};
+    ghost use Rattle.lq_refinements.specs.Forms.{form_rows, form_type, node_type};
+    ghost use Rattle.lq_refinements.specs.Rows.{is_node, row_rows, row_type};
+    ghost use Rattle.lq_refinements.specs.Whole.{count_of, refined_at, types_of, Grows, IsNode};
+    ghost use Rattle.lq_substitution.specs.Views.{parts_view};
+
+    /// No types.
+    pub fn new(alloc: Global) -> RefinedTypes
+        ensures { count_of result ≡ 0 }
+    {
+        RefinedTypes {
+            rows: Vec::new(alloc),
+        }
+    }
+
+    /// How many types there are.
+    pub fn len(&self) -> usize
+        ensures { result ≡ count_of self.now }
+    {
+        self.rows.len()
+    }
+
+    // One row more, and its number.
+    fn add(&mut self, row: Row) -> Result<usize, AllocError>
+        requires { All (λ p. p < count_of self.old) (row_rows row) }
+        ensures added { IfOk result (λ n. (n ≡ count_of self.old) × (self.new.rows.items ≡ self.old.rows.items ++ row ∷ [])) }
+        ensures grows { Grows self.old self.new }
+    {
+        let number = self.rows.len();
+        self.rows.push(row)?;
+        Ok(number)
+    }
+
+    /// Adds the type of this form over earlier types, with these parts at its top, and answers its number.
+    pub fn push(&mut self, form: Form, top: Parts) -> Result<usize, AllocError>
+        requires { All (λ p. p < count_of self.old) (form_rows form) }
+        ensures refined { IfOk result (λ n. (scopes : ScopeLists)
+            → refined_at scopes self.new n ≡ form_type (types_of scopes self.old) form (parts_view top)) }
+        ensures node { IfOk result (λ n. IsNode self.new n) }
+        ensures there { IfOk result (λ n. n < count_of self.new) }
+        ensures grows { Grows self.old self.new }
+    {
+        self.add(Row::Node(RefinedNode { form, top }))
+    }
+
+    /// Adds an earlier type with something done to it, and answers its number. It is done where the type is looked at.
+    pub fn delay(&mut self, change: Change, at: usize) -> Result<usize, AllocError>
+        requires there { at < count_of self.old }
+        requires types { All (λ p. p < count_of self.old) (change_rows change) }
+        ensures refined { IfOk result (λ n. (scopes : ScopeLists) → refined_at scopes self.new n
+            ≡ changed scopes (types_of scopes self.old) change (refined_at scopes self.old at)) }
+        ensures there { IfOk result (λ n. n < count_of self.new) }
+        ensures grows { Grows self.old self.new }
+    {
+        self.add(Row::Delayed(change, at))
+    }
+
+    /// Lets the types from this number on go; those before it stay.
+    pub fn truncate(&mut self, len: usize)
+        ensures kept { Grows self.new self.old }
+        ensures count { count_of self.new ≡ min len (count_of self.old) }
+    {
+        self.rows.truncate(len);
+    }
+
+    // The row of a number.
+    pub(crate) fn row(&self, at: usize) -> &Row
+        requires { at < count_of self.now }
+        ensures refined { (scopes : ScopeLists) → refined_at scopes self.now at ≡ row_type scopes (types_of scopes self.now) result.now }
+        ensures earlier { All (λ p. p < at) (row_rows result.now) }
+        ensures node { IsNode self.now at → is_node result.now ≡ true }
+        ensures whether { is_node result.now ≡ true → IsNode self.now at }
+    {
+        &self.rows[at]
+    }
+
+    /// One level of a type that stands so. The types inside are earlier ones.
+    pub fn node(&self, at: usize) -> &RefinedNode
+        requires there { at < count_of self.now }
+        requires node { IsNode self.now at }
+        ensures refined { (scopes : ScopeLists) → refined_at scopes self.now at ≡ node_type (types_of scopes self.now) result.now }
+        ensures earlier { All (λ p. p < at) (form_rows result.now.form) }
+    {
+        match self.row(at) {
+            Row::Node(node) => node,
+            Row::Delayed(_, _) => unreachable!(),
+        }
+    }
+
+    // What is done to which type, where one stands so.
+    pub(crate) fn delayed(&self, alloc: Global, at: usize) -> Result<Option<Delay>, AllocError>
+        requires { at < count_of self.now }
+        ensures refined { IfOk result (λ found. MatchOption found (IsNode self.now at) (λ d. (scopes : ScopeLists)
+            → refined_at scopes self.now at ≡ changed scopes (types_of scopes self.now) d.change (refined_at scopes self.now d.at))) }
+        ensures earlier { IfOk result (λ found. IfSome found (λ d. All (λ p. p < at) (d.at ∷ change_rows d.change))) }
+    {
+        match self.row(at) {
+            Row::Node(_) => Ok(None),
+            Row::Delayed(change, inner) => Ok(Some(Delay {
+                change: change.copy(alloc)?,
+                at: *inner,
+            })),
+        }
+    }
+}

@@ -1,0 +1,4 @@
+pub mod Standing
+pub mod Leaving
+pub mod Widening
+pub mod Twins

@@ -1,0 +1,3 @@
+-- Twins of types: definitions.
+pub mod Names
+pub mod Laws

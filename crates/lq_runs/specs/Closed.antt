@@ -1,0 +1,59 @@
+-- Environments whose types and guards speak of earlier names alone.
+use Rattle.std.specs.Prelude.{◌≡◌, ℕ, true, false, List, [], ◌∷◌}
+use Rattle.lq_pred.specs.declared.symbol.Symbol.TheVariants as symbol
+use Rattle.lq_pred.specs.Sum.{same_symbol}
+use Rattle.lq_pred.specs.Formula.{Formula, truth, falsity, flag, compare, objects, negation, conjunction, disjunction, equivalence}
+use Rattle.lq_parts.specs.Assignment.{Assignment, parts_under}
+use Rattle.lq_parts.specs.Part.{Parts}
+use Rattle.lq_refined.specs.Context.{Context, name, guard, IsNew}
+use Rattle.lq_refined.specs.Operations.{symbol_of}
+use Rattle.lq_refined.specs.Refined.{Refined, Kind, number, truth_value, object, other, kind, top}
+use Rattle.lq_inhabits.specs.Truth.{Scene}
+use Rattle.lq_included.specs.Symbols.{Symbols, with_symbol, SumOn, PartsOn, TypeOn}
+
+-- a variable of the program with its type
+abbrev pub bound : ℕ → Refined → Context → Context
+bound x t Γ = name (symbol_of x) t ∷ Γ
+
+-- the names of an environment
+abbrev pub names_in : Context → Symbols
+names_in [] y = false
+names_in (name x t ∷ Γ) y = with_symbol (names_in Γ) x y
+names_in (guard p ∷ Γ) y = names_in Γ y
+
+-- the terms in it speak of these symbols, and its flags are these
+abbrev pub SortedOn : Symbols → Symbols → Formula → Type 0
+SortedOn P Q truth = Unit {0}
+SortedOn P Q falsity = Unit {0}
+SortedOn P Q (flag x) = Q x ≡ true
+SortedOn P Q (compare o a b) = SumOn P a × SumOn P b
+SortedOn P Q (objects a b) = SumOn P a × SumOn P b
+SortedOn P Q (negation p) = SortedOn P Q p
+SortedOn P Q (conjunction p q) = SortedOn P Q p × SortedOn P Q q
+SortedOn P Q (disjunction p q) = SortedOn P Q p × SortedOn P Q q
+SortedOn P Q (equivalence p q) = SortedOn P Q p × SortedOn P Q q
+
+abbrev pub EachSorted : Symbols → Symbols → List Formula → Type 0
+EachSorted P Q [] = Unit {0}
+EachSorted P Q (p ∷ ps) = SortedOn P Q p × EachSorted P Q ps
+
+-- these and v
+abbrev pub with_value : Symbols → Symbols
+with_value P = with_symbol P symbol.Value
+
+-- parts of a type of the kind, under an assignment: they speak of these symbols, and of v at the kind's sort alone
+abbrev pub PartsSorted : Assignment → Kind → Symbols → Parts → Type 0
+PartsSorted A number P ps = EachSorted (with_value P) P (parts_under A ps)
+PartsSorted A truth_value P ps = EachSorted P (with_value P) (parts_under A ps)
+PartsSorted A object P ps = EachSorted (with_value P) P (parts_under A ps)
+PartsSorted A other P ps = EachSorted (with_value P) P (parts_under A ps)
+
+-- the type speaks of these symbols, and the parts of its top of v at the kind's sort
+abbrev pub IsTypeOver : Scene → Symbols → Refined → Type 0
+IsTypeOver S P t = TypeOn S.assignment t P × PartsSorted S.assignment (kind t) P (top t)
+
+-- each name is new, and each type and each guard speaks of the names before it
+abbrev pub IsClosed : Scene → Context → Type 0
+IsClosed S [] = Unit {0}
+IsClosed S (name x t ∷ Γ) = (same_symbol x symbol.Value ≡ false) × IsNew x Γ × IsTypeOver S (names_in Γ) t × IsClosed S Γ
+IsClosed S (guard p ∷ Γ) = PartsOn S.assignment (names_in Γ) (p ∷ []) × IsClosed S Γ

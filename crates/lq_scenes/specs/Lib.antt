@@ -1,0 +1,2 @@
+-- Numbers of objects for a program: definitions.
+pub mod Scenes

@@ -1,0 +1,149 @@
+-- Where a search stops or ends from one path, it does so from the path before.
+use Rattle.std.proofs.Common.{◌≡◌, ◌∙◌, ℕ, ◌+◌, ◌<◌, ◌≤◌, List, ◌++◌, true, false, Option, Some, None, Result, Ok, Err, IfErr, IfNone, IfOk, get_or, length, set, slice_get, sym, ap, subst, arith}
+use Rattle.lq_case.specs.PathState.{HasStops, PathState, facts_in}
+use Rattle.lq_combine.specs.Path.{Fact, Path, taken}
+use Rattle.lq_combine.specs.Proves.{rows_among}
+use Rattle.lq_diff.specs.Stops.{StopsBy}
+use Rattle.lq_diff.specs.Table.{constants}
+use Rattle.lq_equating.specs.Equating.{AddsEquations}
+use Rattle.lq_equating.specs.Naming.{name_in}
+use Rattle.lq_linear.specs.Row.{Row}
+use Rattle.lq_linear.specs.declared.engine.LinearStop.{LinearStop}
+use Rattle.lq_path.specs.SearchPath.{choices_of}
+use Rattle.lq_path.specs.declared.choice.Choice.{Choice}
+use Rattle.lq_pred.specs.NnfView.{nnf_items, nnf_view, nnfs_view}
+use Rattle.lq_pred.specs.Reading.{Reading, Readings, any_of, yes}
+use Rattle.lq_pred.specs.declared.nnf.Nnf.{Nnf}
+use Rattle.lq_pred.specs.declared.nnf.Nnfs.{Nnfs}
+use Rattle.lq_pruning.proofs.Taking as taking
+use Rattle.lq_search.specs.Scope.{Scope}
+use Rattle.lq_search.specs.SearchPath.{IsBack, facts_of, path_of, ways_of}
+use Rattle.lq_search.specs.Sizes.{most, row_size}
+use Rattle.lq_search.specs.Stopping.{MayReach, ReachesFrom, StopsFrom, StopsSearch, most_on, most_open}
+use Rattle.lq_search.specs.declared.pair.Pair.{Pair}
+use Rattle.lq_search.specs.declared.search_path.SearchPath.{SearchPath}
+use Rattle.lq_search.proofs.Ready.{IsTakenFrom, marked_members, taken_path}
+use Rattle.lq_search.proofs.Sizes.{added_sizes, fact_sizes-append, member_most, most_back, most_equated, most_open-marked, most_taken, on_is, sizes_among}
+use Rattle.lq_search.proofs.Steps.{members_at, path_back}
+use Rattle.lq_search.proofs.Stops.{TakesNoMore, choice_takes, equations_take, may_stop, member_takes, reached_before, reached_here, stops_before, stops_here, way_takes}
+use Rattle.lq_search.proofs.Weights.{with_done}
+
+-- from the path p with the reading t the search goes on from q with r
+pub record IsStep (s : Scope) (pairs : List Pair) (t : Reading Row) (p : SearchPath) (r : Reading Row) (q : SearchPath) : Type 0 where
+  pub takes : TakesNoMore (ways_of pairs) (taken (path_of s q) r) (taken (path_of s p) t)
+  pub sizes : most_on s q + most row_size r ≤ most_on s p + most row_size t
+  pub limit : q.state.rows.pivots ≡ p.state.rows.pivots
+
+pub stops_step : (s : Scope) (pairs : List Pair) (t : Reading Row) (p : SearchPath) (r : Reading Row) (q : SearchPath) (stop : LinearStop) → IsStep s pairs t p r q
+    → StopsFrom r s pairs q stop → StopsFrom t s pairs p stop
+stops_step s pairs t p r q stop i h =
+    stops_before q.state.rows.pivots p.state.rows.pivots (ways_of pairs) (taken (path_of s q) r) (taken (path_of s p) t) (most_on s q + most row_size r) (most_on s p + most row_size t) stop
+    i.limit i.takes i.sizes h
+
+pub reached_step : (s : Scope) (pairs : List Pair) (t : Reading Row) (p : SearchPath) (r : Reading Row) (q x : SearchPath) → IsStep s pairs t p r q
+    → ReachesFrom r s pairs q x → ReachesFrom t s pairs p x
+reached_step s pairs t p r q x i h =
+    reached_before (ways_of pairs) (taken (path_of s q) r) (taken (path_of s p) t) (most_on s q + most row_size r) (most_on s p + most row_size t) (facts_of s x) i.takes i.sizes h
+
+-- ---- steps
+
+same_path : (ways : List (Readings Row)) (p q : Path) → p ≡ q → TakesNoMore ways p q
+same_path ways p q e = subst (TakesNoMore ways p) e (λ r m. m)
+
+pub step_equated : (s : Scope) (pairs : List Pair) (p q : SearchPath) → AddsEquations (facts_of s p) (facts_of s q) → q.choices.items ≡ p.choices.items → q.pairs.items ≡ p.pairs.items
+    → q.state.rows.pivots ≡ p.state.rows.pivots → IsStep s pairs yes p yes q
+step_equated s pairs p q a c d l = record {
+  takes = equations_take (ways_of pairs) (path_of s p) (path_of s q) a (ap choices_of c);
+  sizes = let m = most_equated s p q a c d in omega (arith, m);
+  limit = l;
+}
+
+pub step_back : (s : Scope) (pairs : List Pair) (p q : SearchPath) → IsBack p q → IsStep s pairs yes p yes q
+step_back s pairs p q b = record {
+  takes = same_path (ways_of pairs) (path_of s q) (path_of s p) (path_back s p q b);
+  sizes = let m = most_back s p q b in omega (arith, m);
+  limit = b.limits.1;
+}
+
+pub step_taken : (s : Scope) (pairs : List Pair) (r : Reading Row) (p q : SearchPath) → IsTakenFrom s r p q → IsStep s pairs r p yes q
+step_taken s pairs r p q t = record {
+  takes = same_path (ways_of pairs) (path_of s q) (taken (path_of s p) r) (taken_path s r p q t);
+  sizes = let m = most_taken s r p q t in omega (arith, m);
+  limit = t.limits.1;
+}
+
+pub step_member : (s : Scope) (pairs : List Pair) (p q : SearchPath) (members : Nnfs) (items : List Nnf) (i : ℕ) (n : Nnf) → items ≡ nnf_items members → i < length items
+    → n ≡ get_or items i n → IsBack p q → IsStep s pairs (any_of (nnfs_view members)) p (nnf_view n) q
+step_member s pairs p q members items i n e l is b = record {
+  takes = subst (λ x. TakesNoMore (ways_of pairs) (taken x (nnf_view n)) (taken (path_of s p) (any_of (nnfs_view members)))) (sym (path_back s p q b))
+      (member_takes (ways_of pairs) (path_of s p) members items i n e l is);
+  sizes = let m = most_back s p q b in let k = member_most members items i n e l is in omega (arith, m, k);
+  limit = b.limits.1;
+}
+
+same_facts : (s : Scope) (p q : SearchPath) → q.state ≡ p.state → constants (rows_among (facts_of s q)) ≡ constants (rows_among (facts_of s p))
+same_facts s p q e = ap (λ x. constants (rows_among (facts_in (name_in s.objects) x))) e
+
+pub step_marked : (s : Scope) (pairs : List Pair) (p q : SearchPath) (at : ℕ) (c : Choice) → q.state ≡ p.state → slice_get p.choices.items at ≡ Some c → c.is_done ≡ false
+    → q.choices.items ≡ set p.choices.items at (with_done c true) → q.pairs.items ≡ p.pairs.items → IsStep s pairs yes p (any_of (nnfs_view c.members.now)) q
+step_marked s pairs p q at c st here is_open is same = record {
+  takes = subst (λ x. TakesNoMore (ways_of pairs) (taken x (any_of (nnfs_view c.members.now))) (path_of s p)) (sym path)
+      (choice_takes (ways_of pairs) (path_of s p) at (nnfs_view c.members.now) (members_at p.choices.items at c here));
+  sizes = let f = same_facts s p q st in let m = most_open-marked p.choices.items at c here is_open in let k = ap most_open is in let d = ap most_open same in omega (arith, f, m, k, d);
+  limit = ap (λ (x : PathState). x.rows.pivots) st;
+}
+  where
+    path : path_of s q ≡ path_of s p
+    path = ap (λ x. record { facts = facts_in (name_in s.objects) x; choices = choices_of q.choices.items }) st
+        ∙ ap (λ c. record { facts = facts_of s p; choices = c }) (ap choices_of is ∙ marked_members p.choices.items at c true here)
+
+pub step_pair_marked : (s : Scope) (pairs : List Pair) (p q : SearchPath) (at : ℕ) (c : Choice) (members : Readings Row) → choices_of p.pairs.items ≡ ways_of pairs
+    → nnfs_view c.members.now ≡ members → q.state ≡ p.state → slice_get p.pairs.items at ≡ Some c → c.is_done ≡ false
+    → q.pairs.items ≡ set p.pairs.items at (with_done c true) → q.choices.items ≡ p.choices.items → IsStep s pairs yes p (any_of members) q
+step_pair_marked s pairs p q at c members ways e st here is_open is same = subst (λ rs. IsStep s pairs yes p (any_of rs) q) e (record {
+  takes = subst (λ x. TakesNoMore (ways_of pairs) (taken x (any_of (nnfs_view c.members.now))) (path_of s p)) (sym path)
+      (way_takes (ways_of pairs) (path_of s p) at (nnfs_view c.members.now) (ap (λ l. slice_get l at) (sym ways) ∙ members_at p.pairs.items at c here));
+  sizes = let f = same_facts s p q st in let m = most_open-marked p.pairs.items at c here is_open in let k = ap most_open is in let d = ap most_open same in omega (arith, f, m, k, d);
+  limit = ap (λ (x : PathState). x.rows.pivots) st;
+})
+  where
+    path : path_of s q ≡ path_of s p
+    path = ap (λ x. record { facts = facts_in (name_in s.objects) x; choices = choices_of q.choices.items }) st
+        ∙ ap (λ l. record { facts = facts_of s p; choices = choices_of l }) same
+
+-- ---- where a stop comes from
+
+-- a check, and equations
+pub check_stops : (s : Scope) (pairs : List Pair) (p : SearchPath) (stop : LinearStop) → HasStops p.state.rows.pivots (facts_of s p) stop → StopsFrom yes s pairs p stop
+check_stops s pairs p stop h = stops_here p.state.rows.pivots (path_of s p) (ways_of pairs) (most_on s p + most row_size yes) stop (omega arith) h
+
+pub equating_stops : (s : Scope) (pairs : List Pair) (p : SearchPath) (stop : LinearStop) → StopsBy (constants (rows_among (facts_of s p))) stop → StopsFrom yes s pairs p stop
+equating_stops s pairs p stop h = check_stops s pairs p stop (may_stop p.state.rows.pivots (rows_among (facts_of s p)) stop h)
+
+pub checked_reaches : (s : Scope) (pairs : List Pair) (p q : SearchPath) → facts_of s q ≡ facts_of s p → ReachesFrom yes s pairs p q
+checked_reaches s pairs p q e =
+    subst (λ f. MayReach (path_of s p) (ways_of pairs) (most_on s p + most row_size yes) f) (sym e) (reached_here (path_of s p) (ways_of pairs) (most_on s p + most row_size yes) (omega arith))
+
+-- literals that are taken
+pub taking_stops : (s : Scope) (pairs : List Pair) (r : Reading Row) (p : SearchPath) (fs : List Fact) (stop : LinearStop) → fs ≡ taking.facts_of r
+    → StopsBy (constants (rows_among (facts_of s p ++ fs))) stop → StopsFrom r s pairs p stop
+taking_stops s pairs r p fs stop e h =
+    subst (λ x. StopsSearch p.state.rows.pivots x (ways_of pairs) (most_on s p + most row_size r) stop) (sym (taking.taken_is (path_of s p) r))
+    (stops_here p.state.rows.pivots (taking.path_with (path_of s p) (taking.facts_of r) (taking.choices_of r)) (ways_of pairs) (most_on s p + most row_size r) stop le
+    (may_stop p.state.rows.pivots (rows_among (facts_of s p ++ taking.facts_of r)) stop (subst (λ l. StopsBy (constants (rows_among (facts_of s p ++ l))) stop) e h)))
+  where
+    le : constants (rows_among (facts_of s p ++ taking.facts_of r)) ≤ most_on s p + most row_size r
+    le =
+        let a = sizes_among (facts_of s p ++ taking.facts_of r) in let b = fact_sizes-append (facts_of s p) (taking.facts_of r) in
+        let c = on_is s p in let d = added_sizes r in omega (arith, a, b, c, d)
+
+-- ---- results
+
+pub if_err_more : {X E : Type 0} {P Q : E → Type 0} (r : Result X E) → ((e : E) → P e → Q e) → IfErr r P → IfErr r Q
+if_err_more {X} {E} {P} {Q} (Ok x) f h = tt
+if_err_more {X} {E} {P} {Q} (Err e) f h = f e h
+
+pub if_ok_none : {X E : Type 0} {P Q : Type 0} (r : Result (Option X) E) → (P → Q) → IfOk r (λ found. IfNone found P) → IfOk r (λ found. IfNone found Q)
+if_ok_none {X} {E} {P} {Q} (Ok (Some x)) f h = tt
+if_ok_none {X} {E} {P} {Q} (Ok None) f h = f h
+if_ok_none {X} {E} {P} {Q} (Err e) f h = tt

@@ -1,0 +1,36 @@
+use Rattle.std.proofs.Common.{◌+◌, ◌*◌, take}
+use Rattle.lq_combine.specs.Proves.{ProvesEach}
+use Rattle.lq_combine.specs.TreeView.{trees_view}
+use Rattle.lq_equating.specs.Equating.{numbering_by}
+use Rattle.lq_path.proofs.Readings.{row_of}
+use Rattle.lq_pred.specs.NnfView.{nnf_view, nnfs_view}
+use Rattle.lq_search.specs.SearchPath.{IsBack, path_of, scope_of}
+use Rattle.lq_search.proofs.Weights.{left, weight, weights}
+use Rattle.lq_search.proofs.searching.+search.Given as goal
+
+abbrev pub decreases-search : goal.decreases-search
+decreases-search l = 8 * left l.path.now + 3
+
+abbrev pub decreases-search_on : goal.decreases-search_on
+decreases-search_on l = 8 * left l.path.now + 2
+
+abbrev pub decreases-split_choice : goal.decreases-split_choice
+decreases-split_choice l = 8 * left l.path.now + 1
+
+abbrev pub decreases-split_pair : goal.decreases-split_pair
+decreases-split_pair l = 8 * left l.path.now + 1
+
+abbrev pub decreases-refute_each : goal.decreases-refute_each
+decreases-refute_each l = 8 * (left l.path.now + weights (nnfs_view l.members.now)) + 7
+
+abbrev pub decreases-refute_with : goal.decreases-refute_with
+decreases-refute_with l = 8 * (left l.path.now + weight (nnf_view l.member.now)) + 6
+
+abbrev pub decreases-search_with : goal.decreases-search_with
+decreases-search_with l = 8 * (left l.path.now + weight (nnf_view l.reading.now)) + 5
+
+abbrev pub invariant-refute_each-loop-member : goal.invariant-refute_each-loop-member
+invariant-refute_each-loop-member l = record {
+  back : IsBack l.fn.path l.path;
+  proves : ProvesEach (numbering_by (scope_of l.givens).terms) (path_of (scope_of l.givens) l.fn.path) (row_of (take l.member-index l.member-items)) (trees_view l.trees);
+}

@@ -1,0 +1,80 @@
+// The path of a search.
+ghost use Rattle.std.specs.Prelude.{◌≡◌, ◌<◌, ◌≤◌, ℕ, [], All, IfOk, false, length, take};
+ghost use Rattle.lq_case.specs.PathState.{facts_in};
+ghost use Rattle.lq_path.specs.SearchPath.{SameLimits, choices_of};
+ghost use Rattle.lq_pred.specs.Sum.{Sum};
+ghost use Rattle.lq_search.specs.SearchPath.{SetsDone, ways_of};
+
+use crate::counting::Counts;
+use crate::pair::Pair;
+use lq_case::PathState;
+use lq_linear::Mark;
+use lq_path::Choice;
+use std::alloc::{AllocError, Global};
+
+/// The facts of a path with what is known of them, its choices, and the pairs of applications, whose ways are the members of a choice each.
+#[derive(Drop)]
+pub struct SearchPath<'a> {
+    pub state: PathState,
+    pub choices: Vec<Choice<'a>>,
+    pub pairs: Vec<Choice<'a>>,
+}
+
+impl<'a> SearchPath<'a> {
+    /// No choices, and no way of a pair was taken.
+    pub fn new(
+        alloc: Global,
+        state: PathState,
+        pairs: &'a [Pair],
+    ) -> Result<SearchPath<'a>, AllocError>
+        ensures state { IfOk result (λ path. path.state ≡ state) }
+        ensures choices { IfOk result (λ path. path.choices.items ≡ []) }
+        ensures pairs { IfOk result (λ path. choices_of path.pairs.items ≡ ways_of pairs.now) }
+        ensures open_still { IfOk result (λ path. All (λ c. c.is_done ≡ false) path.pairs.items) }
+    {
+        let mut ways = Vec::new(alloc);
+        for pair in pairs {
+            ways.push(Choice {
+                members: &pair.ways,
+                is_done: false,
+            })?;
+        }
+        Ok(SearchPath {
+            state,
+            choices: Vec::new(alloc),
+            pairs: ways,
+        })
+    }
+
+    /// How many facts and choices there are.
+    pub(crate) fn counts(&self) -> Counts
+        ensures facts { (name : ℕ → Sum) → result.facts ≡ length (facts_in name self.now.state) }
+        ensures choices { result.choices ≡ length self.now.choices.items }
+    {
+        Counts {
+            facts: self.state.mark().0,
+            choices: self.choices.len() as u64,
+        }
+    }
+
+    /// Keeps so many of the first facts and choices.
+    pub(crate) fn back_to(&mut self, counts: Counts)
+        requires { (name : ℕ → Sum) → counts.facts ≤ length (facts_in name self.old.state) }
+        ensures facts { (name : ℕ → Sum) → facts_in name self.new.state ≡ take counts.facts (facts_in name self.old.state) }
+        ensures limits { SameLimits self.new.state self.old.state }
+        ensures choices { self.new.choices.items ≡ take counts.choices self.old.choices.items }
+        ensures pairs { self.new.pairs.items ≡ self.old.pairs.items }
+    {
+        self.state.back_to(Mark(counts.facts));
+        self.choices.truncate(counts.choices as usize);
+    }
+}
+
+/// Says of a choice whether a member of it was taken.
+pub(crate) fn set_done(choices: &mut Vec<Choice<'_>>, at: usize, is_done: bool)
+    requires { at < length choices.old.items }
+    ensures { SetsDone choices.old.items at is_done choices.new.items }
+{
+    let members = choices[at].members;
+    choices[at] = Choice { members, is_done };
+}

@@ -1,0 +1,258 @@
+// The search for a point of a path, or for a tree that proves it.
+ghost use Rattle.std.specs.Prelude.{◌≡◌, ◌<◌, IfErr, IfNone, IfOk, IfSome, OnSome, length, true};
+ghost use Rattle.lq_case.specs.PathState.{objects_in};
+ghost use Rattle.lq_combine.specs.Path.{taken};
+ghost use Rattle.lq_combine.specs.Proves.{Proves};
+ghost use Rattle.lq_combine.specs.TreeView.{tree_view};
+ghost use Rattle.lq_equating.specs.Equating.{AreEquated, numbering_by};
+ghost use Rattle.lq_pred.specs.NnfView.{nnf_view, nnfs_view};
+ghost use Rattle.lq_pred.specs.Reading.{any_of, yes};
+ghost use Rattle.lq_search.specs.Branches.{BranchProves, SplitProves};
+ghost use Rattle.lq_search.specs.Scope.{AreWithin, IsWithin};
+ghost use Rattle.lq_search.specs.SearchPath.{AreGiven, EndsMet, IsBack, IsLonger, IsReady, IsReadyFor, IsReadyForAny, facts_of, path_of, scope_of};
+ghost use Rattle.lq_search.specs.Splits.{IsOpen};
+ghost use Rattle.lq_search.specs.Stopping.{ReachesFrom, StopsFrom};
+
+use crate::branch::{Branch, Split, any_tree, apart_tree, branch_of, leaf_around, tree_around};
+use crate::counting::Counts;
+use crate::givens::Givens;
+use crate::open::{Open, next_open};
+use crate::parts::add_parts;
+use crate::search_path::{SearchPath, set_done};
+use crate::taking::take_parts;
+use lq_combine::{ProofTree, Trees, proved_paths_have_no_point};
+use lq_equating::equate_all;
+use lq_linear::LinearStop;
+use lq_pred::{Nnf, Nnfs};
+use std::alloc::{AllocError, Global};
+
+/// A tree that proves a path, which is then as before. Where there is none, nothing is left to split: of each choice and of each pair a
+/// member was taken or is met, and values are known.
+#[cycle(search)]
+pub fn search<'a>(
+    alloc: Global,
+    givens: &Givens<'a>,
+    path: &mut SearchPath<'a>,
+) -> Result<Option<ProofTree>, LinearStop>
+    requires given { AreGiven (scope_of givens.now) givens.now.pairs.now }
+    requires ready { IsReady (scope_of givens.now) givens.now.pairs.now path.old }
+    ensures tree { IfOk result (λ found. IfSome found (λ t. Proves (numbering_by (scope_of givens.now).terms)
+        (path_of (scope_of givens.now) path.old) (tree_view t))) }
+    ensures back { IfOk result (λ found. OnSome found (IsBack path.old path.new)) }
+    ensures met { IfOk result (λ found. IfNone found (EndsMet (scope_of givens.now) givens.now.pairs.now
+        (path_of (scope_of givens.now) path.old) path.new)) }
+    ensures reached { IfOk result (λ found. IfNone found (ReachesFrom yes (scope_of givens.now)
+        givens.now.pairs.now path.old path.new)) }
+    ensures stop { IfErr result (StopsFrom yes (scope_of givens.now)
+        givens.now.pairs.now path.old) }
+{
+    let before = path.counts();
+    let (joints, clash) = equate_all(alloc, &mut path.state, givens.objects, givens.terms)?;
+    if let Some(clash) = clash {
+        path.back_to(before);
+        return Ok(Some(leaf_around(alloc, joints, clash)?));
+    }
+    match search_on(alloc, givens, path)? {
+        Some(tree) => {
+            path.back_to(before);
+            Ok(Some(tree_around(alloc, joints, tree)?))
+        }
+        None => Ok(None),
+    }
+}
+
+/// The same where lengths and measures of one object are equal.
+#[cycle(search)]
+fn search_on<'a>(
+    alloc: Global,
+    givens: &Givens<'a>,
+    path: &mut SearchPath<'a>,
+) -> Result<Option<ProofTree>, LinearStop>
+    requires given { AreGiven (scope_of givens.now) givens.now.pairs.now }
+    requires ready { IsReady (scope_of givens.now) givens.now.pairs.now path.old }
+    requires equated { AreEquated (scope_of givens.now).objects (scope_of givens.now).terms (objects_in path.old.state)
+        (facts_of (scope_of givens.now) path.old) }
+    ensures tree { IfOk result (λ found. IfSome found (λ t. Proves (numbering_by (scope_of givens.now).terms)
+        (path_of (scope_of givens.now) path.old) (tree_view t))) }
+    ensures back { IfOk result (λ found. OnSome found (IsBack path.old path.new)) }
+    ensures met { IfOk result (λ found. IfNone found (EndsMet (scope_of givens.now) givens.now.pairs.now
+        (path_of (scope_of givens.now) path.old) path.new)) }
+    ensures reached { IfOk result (λ found. IfNone found (ReachesFrom yes (scope_of givens.now)
+        givens.now.pairs.now path.old path.new)) }
+    ensures stop { IfErr result (StopsFrom yes (scope_of givens.now)
+        givens.now.pairs.now path.old) }
+{
+    if let Some(clash) = path.state.check()? {
+        return Ok(Some(ProofTree::Leaf(clash)));
+    }
+    match next_open(givens, path) {
+        Some(Open::Choice(at)) => split_choice(alloc, givens, path, at),
+        Some(Open::Pair(at)) => split_pair(alloc, givens, path, at),
+        None => Ok(None),
+    }
+}
+
+/// Splits a choice of which no member was taken.
+#[cycle(search)]
+fn split_choice<'a>(
+    alloc: Global,
+    givens: &Givens<'a>,
+    path: &mut SearchPath<'a>,
+    at: usize,
+) -> Result<Option<ProofTree>, LinearStop>
+    requires given { AreGiven (scope_of givens.now) givens.now.pairs.now }
+    requires ready { IsReady (scope_of givens.now) givens.now.pairs.now path.old }
+    requires is_open { IsOpen path.old.choices.items at }
+    ensures tree { IfOk result (λ found. IfSome found (λ t. Proves (numbering_by (scope_of givens.now).terms)
+        (path_of (scope_of givens.now) path.old) (tree_view t))) }
+    ensures back { IfOk result (λ found. OnSome found (IsBack path.old path.new)) }
+    ensures met { IfOk result (λ found. IfNone found (EndsMet (scope_of givens.now) givens.now.pairs.now
+        (path_of (scope_of givens.now) path.old) path.new)) }
+    ensures reached { IfOk result (λ found. IfNone found (ReachesFrom yes (scope_of givens.now)
+        givens.now.pairs.now path.old path.new)) }
+    ensures stop { IfErr result (StopsFrom yes (scope_of givens.now)
+        givens.now.pairs.now path.old) }
+{
+    let members = path.choices[at].members;
+    set_done(&mut path.choices, at, true);
+    match refute_each(alloc, givens, path, members)? {
+        Some(split) => {
+            set_done(&mut path.choices, at, false);
+            Ok(Some(any_tree(at, split)))
+        }
+        None => Ok(None),
+    }
+}
+
+/// Splits a pair of which no way was taken.
+#[cycle(search)]
+fn split_pair<'a>(
+    alloc: Global,
+    givens: &Givens<'a>,
+    path: &mut SearchPath<'a>,
+    at: usize,
+) -> Result<Option<ProofTree>, LinearStop>
+    requires given { AreGiven (scope_of givens.now) givens.now.pairs.now }
+    requires ready { IsReady (scope_of givens.now) givens.now.pairs.now path.old }
+    requires is_open { IsOpen path.old.pairs.items at }
+    ensures tree { IfOk result (λ found. IfSome found (λ t. Proves (numbering_by (scope_of givens.now).terms)
+        (path_of (scope_of givens.now) path.old) (tree_view t))) }
+    ensures back { IfOk result (λ found. OnSome found (IsBack path.old path.new)) }
+    ensures met { IfOk result (λ found. IfNone found (EndsMet (scope_of givens.now) givens.now.pairs.now
+        (path_of (scope_of givens.now) path.old) path.new)) }
+    ensures reached { IfOk result (λ found. IfNone found (ReachesFrom yes (scope_of givens.now)
+        givens.now.pairs.now path.old path.new)) }
+    ensures stop { IfErr result (StopsFrom yes (scope_of givens.now)
+        givens.now.pairs.now path.old) }
+{
+    let pair = &givens.pairs[at];
+    set_done(&mut path.pairs, at, true);
+    match refute_each(alloc, givens, path, &pair.ways)? {
+        Some(split) => {
+            set_done(&mut path.pairs, at, false);
+            Ok(Some(apart_tree(pair, split)))
+        }
+        None => Ok(None),
+    }
+}
+
+/// Trees of a path by the members of a split, or one that proves it.
+#[cycle(search)]
+fn refute_each<'a>(
+    alloc: Global,
+    givens: &Givens<'a>,
+    path: &mut SearchPath<'a>,
+    members: &'a Nnfs,
+) -> Result<Option<Split>, LinearStop>
+    requires given { AreGiven (scope_of givens.now) givens.now.pairs.now }
+    requires within { AreWithin (scope_of givens.now) (nnfs_view members.now) }
+    requires ready { IsReadyForAny (nnfs_view members.now) (scope_of givens.now) givens.now.pairs.now path.old }
+    ensures split { IfOk result (λ found. IfSome found (SplitProves (numbering_by (scope_of givens.now).terms)
+        (path_of (scope_of givens.now) path.old) (nnfs_view members.now))) }
+    ensures back { IfOk result (λ found. OnSome found (IsBack path.old path.new)) }
+    ensures met { IfOk result (λ found. IfNone found (EndsMet (scope_of givens.now) givens.now.pairs.now
+        (path_of (scope_of givens.now) path.old) path.new)) }
+    ensures reached { IfOk result (λ found. IfNone found (ReachesFrom (any_of (nnfs_view members.now)) (scope_of givens.now)
+        givens.now.pairs.now path.old path.new)) }
+    ensures stop { IfErr result (StopsFrom (any_of (nnfs_view members.now)) (scope_of givens.now)
+        givens.now.pairs.now path.old) }
+{
+    let Ok(mut trees) = Trees::new(alloc) else {
+        return Err(LinearStop::Memory);
+    };
+    for member in members.as_slice() {
+        match refute_with(alloc, givens, path, member)? {
+            None => return Ok(None),
+            Some(Branch::Whole(tree)) => return Ok(Some(Split::Whole(tree))),
+            Some(Branch::Own(tree)) => {
+                let Ok(()) = trees.push(tree) else {
+                    return Err(LinearStop::Memory);
+                };
+            }
+        }
+    }
+    Ok(Some(Split::Each(trees)))
+}
+
+/// A tree of a path with a member taken, or of the path. The path is then as before.
+#[cycle(search)]
+fn refute_with<'a>(
+    alloc: Global,
+    givens: &Givens<'a>,
+    path: &mut SearchPath<'a>,
+    member: &'a Nnf,
+) -> Result<Option<Branch>, LinearStop>
+    requires given { AreGiven (scope_of givens.now) givens.now.pairs.now }
+    requires within { IsWithin (scope_of givens.now) (nnf_view member.now) }
+    requires ready { IsReadyFor (nnf_view member.now) (scope_of givens.now) givens.now.pairs.now path.old }
+    ensures branch { IfOk result (λ found. IfSome found (BranchProves (numbering_by (scope_of givens.now).terms)
+        (path_of (scope_of givens.now) path.old) (nnf_view member.now))) }
+    ensures back { IfOk result (λ found. OnSome found (IsBack path.old path.new)) }
+    ensures met { IfOk result (λ found. IfNone found (EndsMet (scope_of givens.now) givens.now.pairs.now
+        (path_of (scope_of givens.now) path.old) path.new)) }
+    ensures reached { IfOk result (λ found. IfNone found (ReachesFrom (nnf_view member.now) (scope_of givens.now)
+        givens.now.pairs.now path.old path.new)) }
+    ensures stop { IfErr result (StopsFrom (nnf_view member.now) (scope_of givens.now)
+        givens.now.pairs.now path.old) }
+{
+    let before = path.counts();
+    match search_with(alloc, givens, path, member)? {
+        Some(tree) => {
+            path.back_to(before);
+            Ok(Some(branch_of(alloc, tree, before, member)?))
+        }
+        None => Ok(None),
+    }
+}
+
+/// Takes a reading and searches. Where a tree is found, the path may have more facts and choices than before.
+#[cycle(search)]
+pub fn search_with<'a>(
+    alloc: Global,
+    givens: &Givens<'a>,
+    path: &mut SearchPath<'a>,
+    reading: &'a Nnf,
+) -> Result<Option<ProofTree>, LinearStop>
+    requires given { AreGiven (scope_of givens.now) givens.now.pairs.now }
+    requires within { IsWithin (scope_of givens.now) (nnf_view reading.now) }
+    requires ready { IsReadyFor (nnf_view reading.now) (scope_of givens.now) givens.now.pairs.now path.old }
+    ensures tree { IfOk result (λ found. IfSome found (λ t. Proves (numbering_by (scope_of givens.now).terms)
+        (taken (path_of (scope_of givens.now) path.old) (nnf_view reading.now)) (tree_view t))) }
+    ensures longer { IfOk result (λ found. OnSome found (IsLonger path.old path.new)) }
+    ensures met { IfOk result (λ found. IfNone found (EndsMet (scope_of givens.now) givens.now.pairs.now
+        (taken (path_of (scope_of givens.now) path.old) (nnf_view reading.now)) path.new)) }
+    ensures reached { IfOk result (λ found. IfNone found (ReachesFrom (nnf_view reading.now) (scope_of givens.now)
+        givens.now.pairs.now path.old path.new)) }
+    ensures stop { IfErr result (StopsFrom (nnf_view reading.now) (scope_of givens.now)
+        givens.now.pairs.now path.old) }
+{
+    proved_paths_have_no_point();
+    let mut parts = Vec::new(alloc);
+    let Ok(()) = add_parts(reading, &mut parts, &mut path.choices) else {
+        return Err(LinearStop::Memory);
+    };
+    if let Some(leaf) = take_parts(&mut path.state, givens.objects, &parts)? {
+        return Ok(Some(leaf));
+    }
+    search(alloc, givens, path)
+}

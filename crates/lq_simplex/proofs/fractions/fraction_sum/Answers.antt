@@ -1,0 +1,18 @@
+use Rattle.std.proofs.Common.{sym, subst}
+use Rattle.lq_num.specs.Value.{value_of}
+use Rattle.lq_simplex.proofs.Merging.{Merged, merge_step, merge_falls, merge_start}
+use Rattle.lq_simplex.proofs.fractions.fraction_sum.Goals as goal
+
+pub loop-i-init : goal.loop-i-init
+loop-i-init c = subst (λ es. Merged c.args.left.now c.args.right.now (value_of c.args.times.now) 0 0 es) (sym c.new-entries.ensures.items) (merge_start c.args.left.now c.args.right.now (value_of c.args.times.now))
+
+pub loop-i-preserved : goal.loop-i-preserved
+loop-i-preserved c =
+    merge_step c.args.left.now c.args.right.now (value_of c.args.times.now) c.loop-i.i c.loop-i.j c.least-variable.result c.head-first.result.next c.head-second.result.next
+    c.loop-i.entries.items c.put.new.entries.items c.head-first.result.factor c.head-second.result.factor c.in_ok-factor.factor c.loop-i.invariant c.requires.left c.requires.right
+    c.least-variable.ensures.one c.least-variable.ensures.left c.least-variable.ensures.right c.head-first.ensures c.head-second.ensures c.in_ok-factor.ensures.exact c.in_ok-put.ensures.put
+
+pub loop-i-smaller : goal.loop-i-smaller
+loop-i-smaller c =
+    merge_falls c.args.left.now c.args.right.now (value_of c.args.times.now) c.loop-i.i c.loop-i.j c.least-variable.result c.head-first.result.next c.head-second.result.next
+    c.loop-i.entries.items c.head-first.result.factor c.head-second.result.factor c.loop-i.invariant c.least-variable.ensures.one c.head-first.ensures c.head-second.ensures

@@ -1,0 +1,4 @@
+-- Replacements, parts and scopes: what the code's stand for.
+pub mod Numbered
+pub mod Composing
+pub mod Views

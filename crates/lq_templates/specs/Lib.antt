@@ -1,0 +1,5 @@
+pub mod Scopes
+pub mod Cells
+pub mod Fresh
+pub mod Laws
+pub mod Examples

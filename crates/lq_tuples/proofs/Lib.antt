@@ -1,0 +1,5 @@
+pub mod Rows
+pub mod Tupling
+pub mod Binding
+pub mod Arms
+pub mod Matching

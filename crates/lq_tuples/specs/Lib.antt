@@ -1,0 +1,2 @@
+-- Tuples: definitions.
+pub mod Tuples

@@ -1,0 +1,9 @@
+mod Turning
+mod Terms
+mod Fewer
+mod Whole
+mod Counting
+mod Conjuncts
+mod Those
+mod Below
+mod Stopping

@@ -1,0 +1,123 @@
+-- What answers of other calls say of an implication by its number.
+use Rattle.std.proofs.Common.{◌≡◌, inl, inr, ℕ, zero, suc, ◌+◌, ◌<◌, ◌≤◌, List, [], ◌∷◌, length, Option, Some, None, Result, Ok, Err, IfOk, IfSome, IfNone, slice_get, refl, sym, ap, subst, ◌∙◌, arith}
+use Rattle.std.proofs.lemmas.Option.{slice_get_within}
+use Rattle.lq_literals.proofs.Fits.{sources_gathered}
+use Rattle.lq_literals.proofs.Leading.{first_not}
+use Rattle.lq_literals.specs.Gathered.{CanBeGathered, IsFirstPast}
+use Rattle.lq_literals.specs.Sources.{sources_of}
+use Rattle.lq_parts.specs.Constraint.{Constraint}
+use Rattle.lq_parts.specs.Flowing.{Selection, assigned}
+use Rattle.lq_parts.specs.Assignment.{goal_under}
+use Rattle.lq_parts.specs.Part.{Part}
+use Rattle.lq_point.specs.Values.{as_point}
+use Rattle.lq_pred.specs.ClosedImplication.{ClosedImplication, IsValid}
+use Rattle.lq_pred.specs.Formula.{Formula}
+use Rattle.lq_pred.specs.PredView.{formula_of}
+use Rattle.lq_pred.specs.declared.pred.Pred.{Pred}
+use Rattle.lq_pred.specs.declared.pred.Stop.{Stop}
+use Rattle.lq_pred.specs.declared.pred.Stop.TheVariants.{Number, Gather, Pivots, Memory}
+use Rattle.lq_prove.specs.Answers.{IsCounterexample}
+use Rattle.lq_prove.specs.Stopping.{StopsProving}
+use Rattle.lq_questions.specs.Assigned.{closed_under}
+use Rattle.lq_weakening.specs.Judging.{AreRefuted, FailsThere, HoldsThere, IfUnknown, Instances}
+use Rattle.lq_weakening.specs.declared.judge.Failure.{Failure}
+use Rattle.lq_weaken.proofs.Fewer.{some_gather}
+use Rattle.lq_weaken.proofs.Those.{last_or}
+use Rattle.lq_weaken.proofs.Whole.{closed_all}
+use Rattle.lq_weaken.specs.Gathering.{AreGathered, HasAll, IsFirstUngathered, IsGatheredAt, IsPastAt}
+use Rattle.lq_weaken.specs.Stops.{MayStop, StopsAsking, StopsUnder}
+
+-- ---- the implication of a number
+
+pub record IsThere (cs : List Constraint) (at : ℕ) : Type 0 where
+  pub constraint : Constraint
+  pub here : slice_get cs at ≡ Some constraint
+
+pub there : (cs : List Constraint) (at : ℕ) → at < length cs → IsThere cs at
+there [] at w = absurd (omega (arith, w))
+there (k ∷ cs) zero w = record { constraint = k; here = refl }
+there (k ∷ cs) (suc at) w = let r = there cs at (omega (arith, w)) in record { constraint = r.constraint; here = r.here }
+
+-- its closed implication is this one
+abbrev pub IsClosedAs : Instances → List Constraint → ℕ → ClosedImplication → Type 0
+IsClosedAs I cs at i = IfSome (slice_get cs at) (λ k. i ≡ closed_under I k)
+
+pub closed_as : (I : Instances) (cs : List Constraint) (at : ℕ) (i : ClosedImplication) (k : Constraint) → IsClosedAs I cs at i → slice_get cs at ≡ Some k → i ≡ closed_under I k
+closed_as I cs at i k h e = subst (λ o. IfSome o (λ k. i ≡ closed_under I k)) e h
+
+pub whole_as : (I : Instances) (c : Selection) (i : ClosedImplication) (o : Option Constraint) → HasAll I c → IfSome o (λ k. i ≡ closed_under (assigned I c) k)
+    → IfSome o (λ k. i ≡ closed_under I k)
+whole_as I c i None h e = tt
+whole_as I c i (Some k) h e = subst (λ x. i ≡ x) (closed_all I c h k) e
+
+-- ---- the first that can't be gathered
+
+pub past_there : {E : Type 0} (I : Instances) (cs : List Constraint) (at : ℕ) (i : ClosedImplication) (r : Result (Option Pred) E) → IsClosedAs I cs at i
+    → IfOk r (λ o. IfSome o (λ p. IsFirstPast (sources_of i) (formula_of p))) → IfOk r (λ o. IfSome o (λ p. IsPastAt I cs at (formula_of p)))
+past_there I cs at i (Ok (Some p)) h f = λ k e. subst (λ x. IsFirstPast (sources_of x) (formula_of p)) (closed_as I cs at i k h e) f
+past_there I cs at i (Ok None) h f = tt
+past_there I cs at i (Err x) h f = tt
+
+pub gathered_there : {E : Type 0} (I : Instances) (cs : List Constraint) (at : ℕ) (i : ClosedImplication) (r : Result (Option Pred) E) → IsClosedAs I cs at i
+    → IfOk r (λ o. IfNone o (CanBeGathered i)) → IfOk r (λ o. IfNone o (IsGatheredAt I cs at))
+gathered_there I cs at i (Ok (Some p)) h g = tt
+gathered_there I cs at i (Ok None) h g = λ k e. subst CanBeGathered (closed_as I cs at i k h e) g
+gathered_there I cs at i (Err x) h g = tt
+
+abbrev pub AreGatheredBefore : Instances → List Constraint → ℕ → Type 0
+AreGatheredBefore I cs n = (i : ℕ) → i < n → IsGatheredAt I cs i
+
+pub gathered_next : (I : Instances) (cs : List Constraint) (n : ℕ) → AreGatheredBefore I cs n → IsGatheredAt I cs n → AreGatheredBefore I cs (n + 1)
+gathered_next I cs n h g i w k e = elim (last_or n i w) [ inl v ↦ h i v k e | inr q ↦ g k (subst (λ j. slice_get cs j ≡ Some k) (sym q) e) ]
+
+pub gathered_all : (I : Instances) (cs : List Constraint) (n : ℕ) → length cs ≤ n → AreGatheredBefore I cs n → AreGathered I cs
+gathered_all I cs n l h at k e = h at (let w = slice_get_within cs at k e in omega (arith, w, l)) k e
+
+pub first_found : (I : Instances) (cs : List Constraint) (at : ℕ) (p : Formula) → at < length cs → IsPastAt I cs at p → AreGatheredBefore I cs at → IsFirstUngathered I cs at p
+first_found I cs at p w f h =
+    let t = there cs at w in record { constraint = t.constraint; here = t.here; past = f t.constraint t.here; before = h }
+
+-- ---- stops of the prover
+
+pub may_stop : (limit : ℕ) (I : Instances) (c : Selection) (cs : List Constraint) (at : ℕ) (i : ClosedImplication) (stop : Stop) → at < length cs → IsClosedAs (assigned I c) cs at i
+    → StopsProving limit i stop → MayStop limit I cs at stop
+may_stop limit I c cs at i stop w h s g = by stop s
+  where
+    t : IsThere cs at
+    t = there cs at w
+
+    is : i ≡ closed_under (assigned I c) t.constraint
+    is = closed_as (assigned I c) cs at i t.constraint h t.here
+
+    under : (s : Stop) → StopsProving limit i s → StopsUnder limit I cs at s
+    under s p = record { selection = c; constraint = t.constraint; here = t.here; stops = subst (λ x. StopsProving limit x s) is p }
+
+    fits : CanBeGathered i
+    fits = subst CanBeGathered (sym is) (some_gather I c t.constraint (g at t.constraint t.here))
+
+    by : (s : Stop) → StopsProving limit i s → StopsAsking limit I cs at s
+    by (Gather p) f = first_not (sources_of i) (formula_of p) f ((sources_gathered i).1 fits)
+    by (Number e) f = under (Number e) f
+    by (Pivots n) f = under (Pivots n) f
+    by Memory f = tt
+
+-- ---- answers of the prover
+
+pub holds_there : (I : Instances) (c : Selection) (cs : List Constraint) (at : ℕ) (i : ClosedImplication) → IsClosedAs (assigned I c) cs at i → IsValid i → HoldsThere I cs c at
+holds_there I c cs at i h v k e = subst IsValid (closed_as (assigned I c) cs at i k h e) v
+
+pub goal_closed : (I : Instances) (c : Selection) (cs : List Constraint) (at : ℕ) (i : ClosedImplication) (q : Part) → at < length cs → IsClosedAs (assigned I c) cs at i
+    → ((k : Constraint) → slice_get cs at ≡ Some k → k.goal ≡ q) → i.goal ≡ goal_under (assigned I c) q
+goal_closed I c cs at i q w h g =
+    let t = there cs at w in
+    ap (λ (x : ClosedImplication). x.goal) (closed_as (assigned I c) cs at i t.constraint h t.here) ∙ ap (goal_under (assigned I c)) (g t.constraint t.here)
+
+pub failure_there : (I : Instances) (c : Selection) (cs : List Constraint) (at : ℕ) (i : ClosedImplication) (q : Part) (f : Failure) → IsClosedAs (assigned I c) cs at i
+    → IsCounterexample i (as_point f.point) → ((k : Constraint) → slice_get cs at ≡ Some k → k.goal ≡ q)
+    → IfUnknown q (λ u σ. AreRefuted (c u) (as_point f.point) σ (I u) f.refuted.items) → FailsThere I cs c at f
+failure_there I c cs at i q f h p g r k e =
+    let x : IsCounterexample (closed_under (assigned I c) k) (as_point f.point) = subst (λ j. IsCounterexample j (as_point f.point)) (closed_as (assigned I c) cs at i k h e) p in
+    record {
+      fails = record { point = x.is_point; meets = x.hypotheses; against = x.goal };
+      refuted = subst (λ j. IfUnknown j (λ u σ. AreRefuted (c u) (as_point f.point) σ (I u) f.refuted.items)) (sym (g k e)) r;
+    }

@@ -1,0 +1,8 @@
+use Rattle.lq_weaken.proofs.Fewer.{first_is_not, some_gather}
+use Rattle.lq_weaken.proofs.laws.some_instances_gather.Goals as goal
+
+pub returns-clause-fewer : goal.returns-clause-fewer
+returns-clause-fewer c = some_gather
+
+pub returns-clause-first : goal.returns-clause-first
+returns-clause-first c = first_is_not

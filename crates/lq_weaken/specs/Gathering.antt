@@ -1,0 +1,39 @@
+-- Which implications can be gathered with all instances in place, and the first that can't.
+use Rattle.std.specs.Prelude.{◌≡◌, ℕ, ◌<◌, true, List, length, Some, slice_get}
+use Rattle.lq_literals.specs.Gathered.{CanBeGathered, IsFirstPast}
+use Rattle.lq_literals.specs.Sources.{sources_of}
+use Rattle.lq_parts.specs.Constraint.{Constraint}
+use Rattle.lq_parts.specs.Flowing.{Selection, assigned}
+use Rattle.lq_pred.specs.Formula.{Formula}
+use Rattle.lq_questions.specs.Assigned.{closed_under}
+use Rattle.lq_weakening.specs.Judging.{Instances}
+
+-- each instance is chosen
+abbrev pub HasAll : Instances → Selection → Type 0
+HasAll I c = (u k : ℕ) → k < length (I u) → c u k ≡ true
+
+-- the implication of this number can be gathered
+abbrev pub IsGatheredAt : Instances → List Constraint → ℕ → Type 0
+IsGatheredAt I cs at = (k : Constraint) → slice_get cs at ≡ Some k → CanBeGathered (closed_under I k)
+
+-- the first predicate of the implication of this number with a literal that can't be gathered
+abbrev pub IsPastAt : Instances → List Constraint → ℕ → Formula → Type 0
+IsPastAt I cs at p = (k : Constraint) → slice_get cs at ≡ Some k → IsFirstPast (sources_of (closed_under I k)) p
+
+abbrev pub AreGathered : Instances → List Constraint → Type 0
+AreGathered I cs = (at : ℕ) → IsGatheredAt I cs at
+
+-- the first implication with a literal that can't be gathered, and its first predicate with such a literal
+pub record IsFirstUngathered (I : Instances) (cs : List Constraint) (at : ℕ) (p : Formula) : Type 0 where
+  pub constraint : Constraint
+  pub here : slice_get cs at ≡ Some constraint
+  pub past : IsFirstPast (sources_of (closed_under I constraint)) p
+  pub before : (i : ℕ) → i < at → IsGatheredAt I cs i
+
+-- what can be gathered with all instances in place can be gathered with some of them
+abbrev pub SomeGather : Type 0
+SomeGather = (I : Instances) (c : Selection) (k : Constraint) → CanBeGathered (closed_under I k) → CanBeGathered (closed_under (assigned I c) k)
+
+-- where one is the first that can't be gathered, not all can
+abbrev pub FirstIsNot : Type 0
+FirstIsNot = (I : Instances) (cs : List Constraint) (at : ℕ) (p : Formula) → IsFirstUngathered I cs at p → AreGathered I cs → ⊥

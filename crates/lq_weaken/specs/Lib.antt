@@ -1,0 +1,4 @@
+pub mod Gathering
+pub mod Unknowns
+pub mod Refuting
+pub mod Stops

@@ -1,0 +1,156 @@
+// The prover as who says which implications are valid.
+ghost use Rattle.std.specs.Prelude.{◌≡◌, ◌<◌, length, slice_get, IfOk, IfErr, IfSome};
+ghost use Rattle.lq_literals.specs.Gathered.{CanBeGathered};
+ghost use Rattle.lq_parts.specs.Assignment.{goal_under};
+ghost use Rattle.lq_point.specs.Values.{as_point};
+ghost use Rattle.lq_pred.specs.PredView.{implication_of};
+ghost use Rattle.lq_prove.specs.Answers.{IsCounterexample, IsReadable};
+ghost use Rattle.lq_questions.specs.Assigned.{assignment_of, closed_under, constraints_of, instances_in};
+ghost use Rattle.lq_substitution.specs.Views.{part_view};
+ghost use Rattle.lq_weakening.specs.Chosen.{chosen_in};
+ghost use Rattle.lq_weakening.specs.Judging.{AreRefuted, FailsThere, HoldsThere, IfFails, IfHolds, IfUnknown};
+ghost use Rattle.lq_weaken.specs.Stops.{MayStop};
+
+use crate::laws::some_instances_gather;
+use crate::refuting::refuted;
+use lq_implications::Implications;
+use lq_instances::Instances;
+use lq_literals::sources_have_the_literals;
+use lq_point::Point;
+use lq_pred::{Closed, Stop};
+use lq_prove::{Answer, valid};
+use lq_questions::closed_implication;
+use lq_substitution::Part;
+use lq_weakening::{Asked, Chosen, Failure, Judge};
+use std::alloc::{AllocError, Global};
+
+/// The chosen instances of a goal that are refuted at a point of its closed implication; of a demand none.
+fn refuted_of(
+    alloc: Global,
+    goal: &Part,
+    instances: &Instances,
+    chosen: &Chosen,
+    closed: &Closed,
+    point: &Point,
+) -> Result<Vec<u64>, AllocError>
+    requires goal { (implication_of closed.now).goal
+        ≡ goal_under (assignment_of instances.now chosen.now) (part_view goal.now) }
+    requires gathers { CanBeGathered (implication_of closed.now) }
+    requires readable { IsReadable (implication_of closed.now) point.now }
+    ensures { IfOk result (λ numbers. IfUnknown (part_view goal.now) (λ u σ. AreRefuted (chosen_in chosen.now u)
+        (as_point point.now) σ (instances_in instances.now u) numbers.items)) }
+{
+    let Part::Unknown(unknown, by) = goal else {
+        return Ok(Vec::new(alloc));
+    };
+    match instances.get(*unknown as usize) {
+        Some(list) => {
+            let mut table = closed.terms(alloc)?;
+            refuted(alloc, *unknown, by, list, chosen, point, &mut table)
+        }
+        None => {
+            let none = Vec::new(alloc);
+            Ok(none)
+        }
+    }
+}
+
+/// Implications with the instances of their unknowns and a limit on pivots.
+#[derive(Drop)]
+pub(crate) struct Questions<'a> {
+    pub(crate) alloc: Global,
+    pub(crate) implications: &'a Implications,
+    pub(crate) instances: &'a Instances,
+    pub(crate) limit: u64,
+}
+
+impl Questions<'_> {
+    /// The closed implication of a number under the chosen instances.
+    fn closed(&self, at: u64, chosen: &Chosen) -> Result<Closed, AllocError>
+        requires { at < length (constraints_of self.now.implications.now) }
+        ensures { IfOk result (λ closed. IfSome (slice_get (constraints_of self.now.implications.now) at)
+            (λ k. implication_of closed ≡ closed_under (assignment_of self.now.instances.now chosen.now) k)) }
+    {
+        let count = self.implications.len();
+        prove!(count <= 262144);
+        match closed_implication(
+            self.alloc,
+            self.implications,
+            at as u32,
+            self.instances,
+            chosen,
+        ) {
+            Ok(Some(closed)) => Ok(closed),
+            Ok(None) => unreachable!(),
+            Err(AllocError) => Err(AllocError),
+        }
+    }
+
+    /// What a point at which an implication fails refutes.
+    fn failure(
+        &self,
+        at: u64,
+        chosen: &Chosen,
+        closed: &Closed,
+        point: Point,
+    ) -> Result<Failure, AllocError>
+        requires there { at < length (constraints_of self.now.implications.now) }
+        requires closed { IfSome (slice_get (constraints_of self.now.implications.now) at)
+            (λ k. implication_of closed.now ≡ closed_under (assignment_of self.now.instances.now chosen.now) k) }
+        requires gathers { CanBeGathered (implication_of closed.now) }
+        requires point { IsCounterexample (implication_of closed.now) (as_point point) }
+        requires readable { IsReadable (implication_of closed.now) point }
+        ensures { IfOk result (FailsThere (instances_in self.now.instances.now)
+            (constraints_of self.now.implications.now) (chosen_in chosen.now) at) }
+    {
+        let Some(implication) = self.implications.get(at as usize) else {
+            unreachable!()
+        };
+        let refuted = refuted_of(
+            self.alloc,
+            &implication.goal,
+            self.instances,
+            chosen,
+            closed,
+            &point,
+        )?;
+        Ok(Failure { point, refuted })
+    }
+
+    /// Whether an implication is valid under the chosen instances.
+    fn judged(&self, at: u64, chosen: &Chosen) -> Result<Asked, Stop>
+        requires { at < length (constraints_of self.now.implications.now) }
+        ensures holds { IfOk result (λ asked. IfHolds asked (HoldsThere (instances_in self.now.instances.now)
+            (constraints_of self.now.implications.now) (chosen_in chosen.now) at)) }
+        ensures fails { IfOk result (λ asked. IfFails asked (FailsThere (instances_in self.now.instances.now)
+            (constraints_of self.now.implications.now) (chosen_in chosen.now) at)) }
+        ensures stop { IfErr result (MayStop self.now.limit (instances_in self.now.instances.now)
+            (constraints_of self.now.implications.now) at) }
+    {
+        some_instances_gather();
+        sources_have_the_literals();
+        let Ok(closed) = self.closed(at, chosen) else {
+            return Err(Stop::Memory);
+        };
+        match valid(self.alloc, &closed, self.limit) {
+            Ok(Answer::Valid(_tree)) => Ok(Asked::Holds),
+            Ok(Answer::Fails(point)) => match self.failure(at, chosen, &closed, point) {
+                Ok(failure) => Ok(Asked::Fails(failure)),
+                Err(AllocError) => Err(Stop::Memory),
+            },
+            Err(stop) => Err(stop),
+        }
+    }
+}
+
+impl Judge for Questions<'_> {
+    ghost instances = { λ q. instances_in q.instances.now };
+
+    ghost constraints = { λ q. constraints_of q.implications.now };
+
+    ghost may_stop = { λ q. MayStop q.limit (instances_in q.instances.now) (constraints_of q.implications.now) };
+
+    fn ask(&mut self, at: u64, chosen: &Chosen) -> Result<Asked, Stop> {
+        self.judged(at, chosen)
+    }
+}

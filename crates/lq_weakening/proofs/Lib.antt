@@ -1,0 +1,7 @@
+mod Setting
+mod Counting
+mod Rows
+mod Members
+mod Inserting
+mod Weakening
+mod Looping

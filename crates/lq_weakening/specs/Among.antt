@@ -1,0 +1,6 @@
+-- What is among a list.
+use Rattle.std.specs.Prelude.{◌≡◌, ◌⊎◌, List, [], ◌∷◌}
+
+abbrev pub IsAmong : {X : Type 0} → List X → X → Type 0
+IsAmong [] x = ⊥
+IsAmong (y ∷ ys) x = (y ≡ x) ⊎ IsAmong ys x

@@ -1,0 +1,56 @@
+-- What is answered of an implication whose unknowns stand for chosen instances.
+use Rattle.std.specs.Prelude.{◌≡◌, ℕ, Bool, true, List, Some, slice_get}
+use Rattle.lq_parts.specs.Constraint.{Constraint, IsMet}
+use Rattle.lq_parts.specs.Flowing.{Selection, assigned}
+use Rattle.lq_parts.specs.Part.{Part, known, unknown}
+use Rattle.lq_parts.specs.Refuting.{FailsAt, IsRefuted}
+use Rattle.lq_parts.specs.Substitution.{Subst}
+use Rattle.lq_point.specs.Values.{as_point}
+use Rattle.lq_pred.specs.Formula.{Formula}
+use Rattle.lq_pred.specs.Points.{Point}
+use Rattle.lq_weakening.specs.Among.{IsAmong}
+use Rattle.lq_pred.specs.declared.pred.Stop.{Stop}
+use Rattle.lq_weakening.specs.declared.error.SolveError.{SolveError}
+use Rattle.lq_weakening.specs.declared.error.SolveError.TheVariants.{At, Memory}
+use Rattle.lq_weakening.specs.declared.judge.Asked.{Asked}
+use Rattle.lq_weakening.specs.declared.judge.Asked.TheVariants.{Holds, Fails}
+use Rattle.lq_weakening.specs.declared.judge.Failure.{Failure}
+
+-- for each unknown its instances
+abbrev pub Instances : Type 0
+Instances = ℕ → List Formula
+
+-- these are the chosen instances that are refuted at the point
+pub record AreRefuted (chosen : ℕ → Bool) (p : Point) (σ : Subst) (instances : List Formula) (numbers : List ℕ) : Type 0 where
+  pub chosen_each : (k : ℕ) → IsAmong numbers k → chosen k ≡ true
+  pub each : (k : ℕ) → IsAmong numbers k → IsRefuted p σ instances k
+  pub all : (k : ℕ) → chosen k ≡ true → IsRefuted p σ instances k → IsAmong numbers k
+
+abbrev pub IfUnknown : Part → (ℕ → Subst → Type 0) → Type 0
+IfUnknown (known p) R = Unit {0}
+IfUnknown (unknown u σ) R = R u σ
+
+-- the implication fails at the point, which refutes these instances of its goal
+pub record IsFailure (I : Instances) (c : Selection) (k : Constraint) (f : Failure) : Type 0 where
+  pub fails : FailsAt (assigned I c) k (as_point f.point)
+  pub refuted : IfUnknown k.goal (λ u σ. AreRefuted (c u) (as_point f.point) σ (I u) f.refuted.items)
+
+-- of the implication of this number
+abbrev pub HoldsThere : Instances → List Constraint → Selection → ℕ → Type 0
+HoldsThere I cs c at = (k : Constraint) → slice_get cs at ≡ Some k → IsMet (assigned I c) k
+
+abbrev pub FailsThere : Instances → List Constraint → Selection → ℕ → Failure → Type 0
+FailsThere I cs c at f = (k : Constraint) → slice_get cs at ≡ Some k → IsFailure I c k f
+
+abbrev pub IfHolds : Asked → Type 0 → Type 0
+IfHolds Holds X = X
+IfHolds (Fails f) X = Unit {0}
+
+abbrev pub IfFails : Asked → (Failure → Type 0) → Type 0
+IfFails Holds P = Unit {0}
+IfFails (Fails f) P = P f
+
+-- a stop comes of the implication that it names
+abbrev pub StopsAt : (ℕ → Stop → Type 0) → SolveError → Type 0
+StopsAt M (At i stop) = M i stop
+StopsAt M Memory = Unit {0}

@@ -1,0 +1,49 @@
+// Who says which implications are valid.
+ghost use Rattle.std.specs.Prelude.{◌≡◌, ◌<◌, ℕ, List, length, IfOk, IfErr};
+ghost use Rattle.lq_parts.specs.Constraint.{Constraint};
+ghost use Rattle.lq_pred.specs.Formula.{Formula};
+ghost use Rattle.lq_pred.specs.declared.pred.Stop.{Stop};
+ghost use Rattle.lq_weakening.specs.Chosen.{chosen_in};
+ghost use Rattle.lq_weakening.specs.Judging.{FailsThere, HoldsThere, IfFails, IfHolds};
+
+use crate::chosen::Chosen;
+use lq_point::Point;
+use lq_pred::Stop;
+
+/// A point at which an implication fails, and which chosen instances of its goal it refutes; of a demand none.
+#[derive(Drop)]
+pub struct Failure {
+    pub point: Point,
+    pub refuted: Vec<u64>,
+}
+
+/// Whether an implication is valid.
+#[derive(Drop)]
+pub enum Asked {
+    Holds,
+    Fails(Failure),
+}
+
+/// What is asked of implications whose unknowns stand for instances: a prover with what it keeps between questions.
+pub trait Judge {
+    // the instances of each unknown
+    ghost instances: { Self → ℕ → List Formula };
+
+    // the implications
+    ghost constraints: { Self → List Constraint };
+
+    // with which stops an implication may be left undecided
+    ghost may_stop: { Self → ℕ → Stop → Type 0 };
+
+    /// Whether an implication is valid under the chosen instances.
+    fn ask(&mut self, at: u64, chosen: &Chosen) -> Result<Asked, Stop>
+        requires { at < length (constraints self.old) }
+        ensures holds { IfOk result (λ asked. IfHolds asked (HoldsThere (instances self.old)
+            (constraints self.old) (chosen_in chosen.now) at)) }
+        ensures fails { IfOk result (λ asked. IfFails asked (FailsThere (instances self.old)
+            (constraints self.old) (chosen_in chosen.now) at)) }
+        ensures stop { IfErr result (may_stop self.old at) }
+        ensures instances { instances self.new ≡ instances self.old }
+        ensures constraints { constraints self.new ≡ constraints self.old }
+        ensures stops { (i : ℕ) (stop : Stop) → may_stop self.new i stop → may_stop self.old i stop };
+}

@@ -1,0 +1,115 @@
+// A flow is asked, and what a point refutes is taken out.
+ghost use Rattle.std.specs.Prelude.{◌≡◌, ◌<◌, ◌⊎◌, ◌∷◌, ℕ, List, Some, All, IfErr, OnOk, slice_get};
+ghost use Rattle.std.specs.List.Sorted.{IsStrictlySortedBy};
+ghost use Rattle.std.specs.Ordering.{nat_cmp};
+ghost use Rattle.lq_parts.specs.Constraint.{Constraint};
+ghost use Rattle.lq_weakening.specs.Chosen.{chosen_in, total};
+ghost use Rattle.lq_weakening.specs.Index.{AreCovered, AreGoals, spans_at};
+ghost use Rattle.lq_weakening.specs.Judging.{FailsThere, Instances, StopsAt};
+ghost use Rattle.lq_weakening.specs.Waking.{IsFlowAt};
+ghost use Rattle.lq_weakening.specs.Weakening.{IsWeakening};
+ghost use Rattle.lq_pred.specs.declared.pred.Stop.{Stop};
+
+use crate::chosen::Chosen;
+use crate::error::SolveError;
+use crate::judge::{Asked, Failure, Judge};
+use crate::removing::remove_all;
+use crate::span::Span;
+use crate::waking::wake_all;
+use lq_parts::refuted_instances;
+use lq_pred::Stop;
+use std::alloc::AllocError;
+use std::collections::BTreeSet;
+
+/// A stop at an implication.
+pub(crate) fn stopped(at: u64, stop: Stop) -> SolveError
+    ensures { StopsAt (λ i s. (i ≡ at) × (s ≡ stop)) result }
+{
+    match stop {
+        Stop::Memory => SolveError::Memory,
+        Stop::Number(past) => SolveError::At(at, Stop::Number(past)),
+        Stop::Gather(pred) => SolveError::At(at, Stop::Gather(pred)),
+        Stop::Pivots(count) => SolveError::At(at, Stop::Pivots(count)),
+    }
+}
+
+/// The unknown of a flow's goal.
+fn unknown_of(goals: &[Option<u64>], at: u64) -> u64
+    requires { IsFlowAt goals.now at }
+    ensures { slice_get goals.now at ≡ Some (Some result) }
+{
+    match goals[at as usize] {
+        Some(unknown) => unknown,
+        None => unreachable!(),
+    }
+}
+
+/// The runs of an unknown.
+fn spans_of(spans: &[Vec<Span>], unknown: u64) -> &[Span]
+    ensures { result.now ≡ spans_at spans.now unknown }
+{
+    match spans.get(unknown as usize) {
+        Some(row) => row.as_slice(),
+        None => &[],
+    }
+}
+
+/// Takes the instances of a flow's goal that a point refutes out, and lets the flows that speak of its unknown wait.
+fn weaken(
+    goals: &[Option<u64>],
+    spans: &[Vec<Span>],
+    at: u64,
+    failure: &Failure,
+    chosen: &mut Chosen,
+    waiting: &mut BTreeSet<u64>,
+) -> Result<(), AllocError>
+    requires { IsFlowAt goals.now at }
+    ensures weakening { OnOk result ((I : Instances) (cs : List Constraint) → AreGoals cs goals.now → AreCovered cs spans.now
+        → FailsThere I cs (chosen_in chosen.old) at failure.now
+        → IsWeakening I cs (chosen_in chosen.old) (at ∷ waiting.old.keys)
+        → IsWeakening I cs (chosen_in chosen.new) waiting.new.keys) }
+    ensures falls { OnOk result ((I : Instances) (cs : List Constraint) → AreGoals cs goals.now
+        → FailsThere I cs (chosen_in chosen.old) at failure.now → total chosen.new < total chosen.old) }
+    ensures flows { OnOk result (All (IsFlowAt goals.now) waiting.old.keys → All (IsFlowAt goals.now) waiting.new.keys) }
+    ensures sorted { OnOk result (IsStrictlySortedBy nat_cmp waiting.old.keys → IsStrictlySortedBy nat_cmp waiting.new.keys) }
+{
+    refuted_instances();
+    let unknown = unknown_of(goals, at);
+    remove_all(chosen, unknown, &failure.refuted);
+    wake_all(goals, spans_of(spans, unknown), waiting)?;
+    Ok(())
+}
+
+/// Asks a flow. Where it fails, fewer instances are chosen; else nothing changes.
+pub(crate) fn step<J: Judge>(
+    judge: &mut J,
+    goals: &[Option<u64>],
+    spans: &[Vec<Span>],
+    at: u64,
+    chosen: &mut Chosen,
+    waiting: &mut BTreeSet<u64>,
+) -> Result<(), SolveError>
+    requires goals { AreGoals (J.constraints judge.old) goals.now }
+    requires covered { AreCovered (J.constraints judge.old) spans.now }
+    requires flow { IsFlowAt goals.now at }
+    ensures weakening { OnOk result (IsWeakening (J.instances judge.old) (J.constraints judge.old) (chosen_in chosen.old)
+        (at ∷ waiting.old.keys) → IsWeakening (J.instances judge.old) (J.constraints judge.old) (chosen_in chosen.new)
+        waiting.new.keys) }
+    ensures falls { OnOk result ((total chosen.new < total chosen.old)
+        ⊎ ((total chosen.new ≡ total chosen.old) × (waiting.new.keys ≡ waiting.old.keys))) }
+    ensures flows { OnOk result (All (IsFlowAt goals.now) waiting.old.keys → All (IsFlowAt goals.now) waiting.new.keys) }
+    ensures sorted { OnOk result (IsStrictlySortedBy nat_cmp waiting.old.keys → IsStrictlySortedBy nat_cmp waiting.new.keys) }
+    ensures stop { IfErr result (StopsAt (J.may_stop judge.old)) }
+    ensures instances { J.instances judge.new ≡ J.instances judge.old }
+    ensures constraints { J.constraints judge.new ≡ J.constraints judge.old }
+    ensures stops { (i : ℕ) (stop : Stop) → J.may_stop judge.new i stop → J.may_stop judge.old i stop }
+{
+    match judge.ask(at, chosen) {
+        Ok(Asked::Holds) => Ok(()),
+        Ok(Asked::Fails(failure)) => match weaken(goals, spans, at, &failure, chosen, waiting) {
+            Ok(()) => Ok(()),
+            Err(AllocError) => Err(SolveError::Memory),
+        },
+        Err(stop) => Err(stopped(at, stop)),
+    }
+}
