@@ -1,6 +1,7 @@
 pub mod TermForms
 pub mod Keys
 pub mod Merging
+pub mod FormulaSizes
 pub mod Forms
 pub mod RowParts
 pub mod Readings

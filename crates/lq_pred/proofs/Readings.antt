@@ -4,9 +4,9 @@ use Rattle.lq_linear.specs.Row.{Row}
 use Rattle.lq_pred.specs.Sum.{Sum}
 use Rattle.lq_pred.specs.Table.{has_term, index_of, Extends}
 use Rattle.lq_pred.specs.Comparison.{Comparison, entry, row_coefficient, IsRowOf}
-use Rattle.lq_pred.specs.Formula.{Formula, truth, falsity, flag, objects, conjunction, disjunction, equivalence}
+use Rattle.lq_pred.specs.Formula.{Formula, truth, falsity, flag, objects, equivalence}
 use Rattle.lq_pred.specs.declared.symbol.Symbol.{Symbol}
-use Rattle.lq_pred.specs.Reading.{Reading, Readings, flag_is, objects_are, all_of, any_of, none, more, pair_of, reading_of, Gathers, AllGather, gathers_yes, gathers_no, gathers_row, gathers_flag, gathers_objects, gathers_all, gathers_any, gather_none, gather_more, AllFitIn}
+use Rattle.lq_pred.specs.Reading.{Reading, Readings, flag_is, objects_are, all_of, any_of, none, more, pair_of, reading_of, Gathers, AllGather, gathers_yes, gathers_no, gathers_row, gathers_flag, gathers_objects, gathers_all, gathers_any, gather_none, gather_more}
 use Rattle.lq_pred.specs.NnfView.{joined_reading, constant_reading}
 use Rattle.lq_pred.specs.Numbering.{index_of-append_present, index_of-append_absent, index_of-absent}
 
@@ -54,50 +54,16 @@ pub gathers_either : (terms : List Sum) (a b : Reading Comparison) (v w : Readin
     → Gathers terms (any_of (pair_of a b)) (joined_reading false v w)
 gathers_either terms a b v w p q = gathers_any (pair_of a b) (pair_of v w) (gathers_pair terms a b v w p q)
 
-pub conjunction_gathers : (sign : Bool) (terms : List Sum) (p q : Formula) (v w : Reading Row) → Gathers terms (reading_of sign p) v → Gathers terms (reading_of sign q) w
-    → Gathers terms (reading_of sign (conjunction p q)) (joined_reading sign v w)
-conjunction_gathers true terms p q v w h k = gathers_both terms (reading_of true p) (reading_of true q) v w h k
-conjunction_gathers false terms p q v w h k = gathers_either terms (reading_of false p) (reading_of false q) v w h k
+pub joined_gathers : (all : Bool) (terms : List Sum) (a b : Reading Comparison) (v w : Reading Row) → Gathers terms a v → Gathers terms b w
+    → Gathers terms (joined_reading all a b) (joined_reading all v w)
+joined_gathers true terms a b v w p q = gathers_both terms a b v w p q
+joined_gathers false terms a b v w p q = gathers_either terms a b v w p q
 
-pub disjunction_gathers : (sign : Bool) (terms : List Sum) (p q : Formula) (v w : Reading Row) → Gathers terms (reading_of sign p) v → Gathers terms (reading_of sign q) w
-    → Gathers terms (reading_of sign (disjunction p q)) (joined_reading (not sign) v w)
-disjunction_gathers true terms p q v w h k = gathers_either terms (reading_of true p) (reading_of true q) v w h k
-disjunction_gathers false terms p q v w h k = gathers_both terms (reading_of false p) (reading_of false q) v w h k
-
-pub equivalence_gathers : (sign : Bool) (terms : List Sum) (p q : Formula) (v w x y : Reading Row)
-    → Gathers terms (reading_of true p) v → Gathers terms (reading_of false p) w → Gathers terms (reading_of sign q) x → Gathers terms (reading_of (not sign) q) y
-    → Gathers terms (reading_of sign (equivalence p q)) (joined_reading false (joined_reading true v x) (joined_reading true w y))
-equivalence_gathers true terms p q v w x y a b c d =
-    gathers_either terms _ _ _ _ (gathers_both terms (reading_of true p) (reading_of true q) v x a c) (gathers_both terms (reading_of false p) (reading_of false q) w y b d)
-equivalence_gathers false terms p q v w x y a b c d =
-    gathers_either terms _ _ _ _ (gathers_both terms (reading_of true p) (reading_of false q) v x a c) (gathers_both terms (reading_of false p) (reading_of true q) w y b d)
-
--- what fits in a whole and in its parts
-pub conjunction_fits : (sign : Bool) (p q : Formula) → AllFitIn (reading_of sign p) → AllFitIn (reading_of sign q) → AllFitIn (reading_of sign (conjunction p q))
-conjunction_fits true p q a b = (a, (b, tt))
-conjunction_fits false p q a b = (a, (b, tt))
-
-pub disjunction_fits : (sign : Bool) (p q : Formula) → AllFitIn (reading_of sign p) → AllFitIn (reading_of sign q) → AllFitIn (reading_of sign (disjunction p q))
-disjunction_fits true p q a b = (a, (b, tt))
-disjunction_fits false p q a b = (a, (b, tt))
-
-pub conjunction_parts : (sign : Bool) (p q : Formula) → AllFitIn (reading_of sign (conjunction p q)) → AllFitIn (reading_of sign p) × AllFitIn (reading_of sign q)
-conjunction_parts true p q h = (h.0, h.1.0)
-conjunction_parts false p q h = (h.0, h.1.0)
-
-pub disjunction_parts : (sign : Bool) (p q : Formula) → AllFitIn (reading_of sign (disjunction p q)) → AllFitIn (reading_of sign p) × AllFitIn (reading_of sign q)
-disjunction_parts true p q h = (h.0, h.1.0)
-disjunction_parts false p q h = (h.0, h.1.0)
-
-pub equivalence_fits : (sign : Bool) (p q : Formula) → AllFitIn (reading_of true p) → AllFitIn (reading_of false p) → AllFitIn (reading_of sign q) → AllFitIn (reading_of (not sign) q)
-    → AllFitIn (reading_of sign (equivalence p q))
-equivalence_fits true p q a b c d = ((a, (c, tt)), ((b, (d, tt)), tt))
-equivalence_fits false p q a b c d = ((a, (c, tt)), ((b, (d, tt)), tt))
-
-pub equivalence_parts : (sign : Bool) (p q : Formula) → AllFitIn (reading_of sign (equivalence p q))
-    → AllFitIn (reading_of true p) × AllFitIn (reading_of false p) × AllFitIn (reading_of sign q) × AllFitIn (reading_of (not sign) q)
-equivalence_parts true p q h = (h.0.0, h.1.0.0, h.0.1.0, h.1.0.1.0)
-equivalence_parts false p q h = (h.0.0, h.1.0.0, h.0.1.0, h.1.0.1.0)
+pub equivalence_gathers : (sign : Bool) (terms : List Sum) (p q : Formula) (v w : Reading Row)
+    → Gathers terms (joined_reading true (reading_of true p) (reading_of sign q)) v → Gathers terms (joined_reading true (reading_of false p) (reading_of (not sign) q)) w
+    → Gathers terms (reading_of sign (equivalence p q)) (joined_reading false v w)
+equivalence_gathers true terms p q v w h k = gathers_either terms _ _ v w h k
+equivalence_gathers false terms p q v w h k = gathers_either terms _ _ v w h k
 
 pub truth_gathers : (sign : Bool) (terms : List Sum) → Gathers terms (reading_of sign truth) (constant_reading sign)
 truth_gathers true terms = gathers_yes

@@ -40,6 +40,6 @@ constant_reading true = yes
 constant_reading false = no
 
 -- all or any of two readings
-abbrev pub joined_reading : Bool → Reading Row → Reading Row → Reading Row
+abbrev pub joined_reading : {L : Type 0} → Bool → Reading L → Reading L → Reading L
 joined_reading true a b = all_of (pair_of a b)
 joined_reading false a b = any_of (pair_of a b)

@@ -24,6 +24,7 @@ use std::alloc::{AllocError, Global};
 /// "both or neither". Terms that the table lacks are added to it in the order of the predicate's
 /// text. (The reading of integer comparisons over the rationals that Rondon, Kawaguchi and Jhala
 /// leave to their prover, 2008.)
+#[cycle(tighten)]
 #[tactic(auto, using(crate::specs::Growing::growing))]
 pub fn tighten(
     alloc: Global,
@@ -52,25 +53,46 @@ pub fn tighten(
         }
         Pred::Not(inner) => tighten(alloc, inner, !positive, table),
         Pred::And(left, right) => {
-            let first = tighten(alloc, left, positive, table)?;
-            let second = tighten(alloc, right, positive, table)?;
-            Ok(joined(alloc, positive, first, second)?)
+            tighten_both(alloc, positive, left, positive, right, positive, table)
         }
         Pred::Or(left, right) => {
-            let first = tighten(alloc, left, positive, table)?;
-            let second = tighten(alloc, right, positive, table)?;
-            Ok(joined(alloc, !positive, first, second)?)
+            tighten_both(alloc, !positive, left, positive, right, positive, table)
         }
         Pred::Iff(left, right) => {
-            let yes = tighten(alloc, left, true, table)?;
-            let no = tighten(alloc, left, false, table)?;
-            let same = tighten(alloc, right, positive, table)?;
-            let other = tighten(alloc, right, !positive, table)?;
-            let both = joined(alloc, true, yes, same)?;
-            let neither = joined(alloc, true, no, other)?;
+            let both = tighten_both(alloc, true, left, true, right, positive, table)?;
+            let neither = tighten_both(alloc, true, left, false, right, !positive, table)?;
             Ok(joined(alloc, false, both, neither)?)
         }
     }
+}
+
+// All or any of the readings of two predicates, each with its own sign.
+#[cycle(tighten)]
+#[inline(never)]
+#[tactic(auto, using(crate::specs::Growing::growing))]
+fn tighten_both(
+    alloc: Global,
+    all: bool,
+    left: &Pred,
+    left_positive: bool,
+    right: &Pred,
+    right_positive: bool,
+    table: &mut TermTable,
+) -> Result<Nnf, GatherError>
+    ensures numbered { OnOk result (terms_of table.new ≡ formula_numbered (formula_numbered (terms_of table.old)
+        (formula_of left.now)) (formula_of right.now)) }
+    ensures reading { IfOk result (λ nnf. Gathers (terms_of table.new) (joined_reading all
+        (reading_of left_positive (formula_of left.now)) (reading_of right_positive (formula_of right.now)))
+        (nnf_view nnf)) }
+    ensures fits { OnOk result (AllFitIn (reading_of left_positive (formula_of left.now))
+        × AllFitIn (reading_of right_positive (formula_of right.now))) }
+    ensures past { IsErrOf result GatherError.Past → AllFitIn (reading_of left_positive (formula_of left.now))
+        → AllFitIn (reading_of right_positive (formula_of right.now)) → ⊥ }
+    ensures grows { Extends (terms_of table.old) (terms_of table.new) }
+{
+    let first = tighten(alloc, left, left_positive, table)?;
+    let second = tighten(alloc, right, right_positive, table)?;
+    Ok(joined(alloc, all, first, second)?)
 }
 
 // What always or never holds.
@@ -80,7 +102,9 @@ fn constant(holds: bool) -> Nnf
     if holds { Nnf::Yes } else { Nnf::No }
 }
 
-// All or any of two readings.
+// All or any of two readings. It stands apart, as what reads a comparison does, so that each connective inside another
+// takes little stack.
+#[inline(never)]
 fn joined(alloc: Global, all: bool, first: Nnf, second: Nnf) -> Result<Nnf, AllocError>
     ensures { IfOk result (λ nnf. nnf_view nnf ≡ joined_reading all (nnf_view first) (nnf_view second)) }
 {
@@ -131,6 +155,7 @@ fn asked_relation(op: CompareOp, positive: bool) -> Relation
 }
 
 // The reading of a comparison or of its negation.
+#[inline(never)]
 #[tactic(auto, using(crate::specs::Growing::growing))]
 fn compare(
     alloc: Global,
