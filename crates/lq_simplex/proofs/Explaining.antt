@@ -21,7 +21,7 @@ use Rattle.lq_simplex.specs.Lines.{combine, AscendsFrom, IsLine}
 use Rattle.lq_linear.specs.Forms.{Parts}
 use Rattle.lq_simplex.specs.Systems.{form_at, form_values}
 use Rattle.lq_simplex.specs.Standing.{standing_of, multiplier_of, multipliers_of, scale_of, ReadsAs, ReadsBy, Reads, AllRead, HasNoTag, TagsApart}
-use Rattle.lq_simplex.specs.Bounds.{other, Within, IsOn, Tightest, limit_at, bound_value, IsLimit, blocking_of}
+use Rattle.lq_simplex.specs.Bounds.{other, Within, IsOn, Limits, limit_at, bound_value, IsLimit, blocking_of}
 use Rattle.lq_simplex.specs.Conflicts.{toward, AllGiven, Names, IsKept}
 use Rattle.lq_simplex.proofs.Combinations.{combine-more, entry_above}
 use Rattle.lq_simplex.proofs.Limiting.{blocked_at}
@@ -127,7 +127,7 @@ abbrev pub AllOf : List Standing → List Entry → ℕ → List (ℕ × Frac) �
 AllOf rows line i [] = Unit {0}
 AllOf rows line i (m ∷ ms) = ((k : ℕ) × (e : Entry) × (l : Limit) × (k < i) × (slice_get line k ≡ Some e) × Names rows m.0 l × (l.bound.variable ≡ e.variable)) × AllOf rows line i ms
 
-pub record Explained (rows : List Standing) (limits : Tightest) (broken : Broken) (line : List Entry) (kept : IsKept rows limits broken line) (i : ℕ) (found : List (ℕ × Frac)) : Type 0 where
+pub record Explained (rows : List Standing) (limits : Limits) (broken : Broken) (line : List Entry) (kept : IsKept rows limits broken line) (i : ℕ) (found : List (ℕ × Frac)) : Type 0 where
   pub own : ℕ × Frac
   pub rest : List (ℕ × Frac)
   pub is : found ≡ own ∷ rest
@@ -140,10 +140,10 @@ pub record Explained (rows : List Standing) (limits : Tightest) (broken : Broken
   pub fair : AllFair (standing_of rows) (multipliers_of found)
   pub once : NamesOnce (multipliers_of found)
 
-pub given_some : (rows : List Standing) (limits : Tightest) (side : Side) (k : ℕ) (l : Limit) → AllGiven rows limits → limit_at limits side k ≡ Some l → IsLimit rows side k l
+pub given_some : (rows : List Standing) (limits : Limits) (side : Side) (k : ℕ) (l : Limit) → AllGiven rows limits → limit_at limits side k ≡ Some l → IsLimit rows side k l
 given_some rows limits side k l a e = let h = subst (λ o. IfSome o (IsLimit rows side k)) e (a side k) in h
 
-pub explained_start : (rows : List Standing) (limits : Tightest) (broken : Broken) (line : List Entry) (kept : IsKept rows limits broken line) (one m : Frac) (tag : ℕ)
+pub explained_start : (rows : List Standing) (limits : Limits) (broken : Broken) (line : List Entry) (kept : IsKept rows limits broken line) (one m : Frac) (tag : ℕ)
     → Names rows tag broken.limit → value_of one ≡ whole (pos 1) → value_of m *ℚ scale_of broken.limit.bound ≡ toward (other broken.side) (value_of one)
     → Explained rows limits broken line kept 0 ((tag, m) ∷ [])
 explained_start rows limits broken line kept one m tag names o e =
@@ -194,7 +194,7 @@ rest_apart rows line i e l tag (m ∷ rest) apart il g n b a = (
   rest_apart rows line i e l tag rest apart il g n b a.1,
 )
 
-own_apart : (rows : List Standing) (limits : Tightest) (broken : Broken) (line : List Entry) (kept : IsKept rows limits broken line) (i : ℕ) (e : Entry) (l : Limit) (tag own : ℕ)
+own_apart : (rows : List Standing) (limits : Limits) (broken : Broken) (line : List Entry) (kept : IsKept rows limits broken line) (i : ℕ) (e : Entry) (l : Limit) (tag own : ℕ)
     → slice_get line i ≡ Some e → Names rows tag l → l.bound.variable ≡ e.variable → Within (other (blocking_of broken.side (value_of e.factor))) (kept.values e.variable) (bound_value l)
     → Names rows own broken.limit → tag ≢ own
 own_apart rows limits broken line kept i e l tag own g n b w k q =
@@ -215,7 +215,7 @@ all_of_push rows line i e l m [] g n b a = ((i, e, l, omega arith, g, n, b), tt)
 all_of_push rows line i e l m (k ∷ rest) g n b a =
     let p = a.0 in ((p.0, p.1, p.2, (let h = p.3 in omega arith), p.4, p.5, p.6), all_of_push rows line i e l m rest g n b a.1)
 
-pub explained_step : (rows : List Standing) (limits : Tightest) (broken : Broken) (line : List Entry) (kept : IsKept rows limits broken line) (i : ℕ) (found : List (ℕ × Frac)) (e : Entry) (l : Limit)
+pub explained_step : (rows : List Standing) (limits : Limits) (broken : Broken) (line : List Entry) (kept : IsKept rows limits broken line) (i : ℕ) (found : List (ℕ × Frac)) (e : Entry) (l : Limit)
     (m : Frac) (tag : ℕ) → Explained rows limits broken line kept i found → slice_get line i ≡ Some e → limit_at limits (blocking_of broken.side (value_of e.factor)) e.variable ≡ Some l
     → Names rows tag l → value_of m *ℚ scale_of l.bound ≡ toward broken.side (value_of e.factor) → Explained rows limits broken line kept (i + 1) (found ++ (tag, m) ∷ [])
 explained_step rows limits broken line kept i found e l m tag x g at names q =
@@ -252,7 +252,7 @@ explained_step rows limits broken line kept i found e l m tag x g at names q =
           ));
     }
 
-pub explained_end : (rows : List Standing) (limits : Tightest) (broken : Broken) (line : List Entry) (kept : IsKept rows limits broken line) (i : ℕ) (found : List (ℕ × Frac)) → length line ≤ i
+pub explained_end : (rows : List Standing) (limits : Limits) (broken : Broken) (line : List Entry) (kept : IsKept rows limits broken line) (i : ℕ) (found : List (ℕ × Frac)) → length line ≤ i
     → Explained rows limits broken line kept i found → IsContradiction (standing_of rows) (multipliers_of found)
 explained_end rows limits broken line kept i found h x =
     let all : take i line ≡ line = take_all i line h in
@@ -275,5 +275,5 @@ limit_names rows on j l g = record { standing = g.standing; stands = g.stands; g
 pub limit_divides : (rows : List Standing) (forms : List Parts) (on : Side) (j : ℕ) (l : Limit) → AllRead forms rows → IsLimit rows on j l → pos 0 <ℤ l.bound.divisor
 limit_divides rows forms on j l r g = (limit_read rows forms on j l r g).divides
 
-pub own_limit : (rows : List Standing) (limits : Tightest) (broken : Broken) (line : List Entry) → IsKept rows limits broken line → IsLimit rows broken.side broken.variable broken.limit
+pub own_limit : (rows : List Standing) (limits : Limits) (broken : Broken) (line : List Entry) → IsKept rows limits broken line → IsLimit rows broken.side broken.variable broken.limit
 own_limit rows limits broken line kept = given_some rows limits broken.side broken.variable broken.limit kept.given kept.breaks.limit

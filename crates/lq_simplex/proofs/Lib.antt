@@ -8,6 +8,7 @@ pub mod Systems
 pub mod Values
 pub mod Forms
 pub mod Limiting
+pub mod Histories
 pub mod Signs
 pub mod Explaining
 pub mod Readings

@@ -15,7 +15,7 @@ use Rattle.lq_simplex.specs.Lines.{combine}
 use Rattle.lq_linear.specs.Forms.{Parts}
 use Rattle.lq_simplex.specs.Systems.{System, form_at, line_at, Meets, IsFree, AreLines, IsSystem, IsShifted, GoesOn}
 use Rattle.lq_simplex.specs.Standing.{AllRead}
-use Rattle.lq_simplex.specs.Bounds.{Tightest, limit_at, bound_value, IsLimit, Breaks}
+use Rattle.lq_simplex.specs.Bounds.{Limits, limit_at, bound_value, IsLimit, Breaks}
 use Rattle.lq_simplex.specs.Conflicts.{AllGiven}
 use Rattle.lq_simplex.specs.Configurations.{IsConfiguration, IsGiven, Rests, AllAmong, AllStay, Brings, IsAtLimit, Settles}
 use Rattle.lq_simplex.proofs.Combinations.{eq_or, combine-same, unit_here, unit_elsewhere, own_combination}
@@ -50,7 +50,7 @@ configured s i = record {
 }
 
 -- ---- changes that follow one another
-settle_more : (limits : Tightest) (a b c : System) → Settles limits a b → Settles limits b c → Settles limits a c
+settle_more : (limits : Limits) (a b c : System) → Settles limits a b → Settles limits b c → Settles limits a c
 settle_more limits a b c first next j f =
     elim (next j f) [
       | inl at ↦ inl at
@@ -60,7 +60,7 @@ settle_more limits a b c first next j f =
       ]
     ]
 
-pub settle_step : (limits : Tightest) (a b c : System) (k : ℕ) (x : ℚ) (broken : Broken) → Settles limits a b → broken.variable ≡ k → Breaks limits x broken
+pub settle_step : (limits : Limits) (a b c : System) (k : ℕ) (x : ℚ) (broken : Broken) → Settles limits a b → broken.variable ≡ k → Breaks limits x broken
     → Brings b c k (bound_value broken.limit) → Settles limits a c
 settle_step limits a b c k x broken before e breaks brings =
     settle_more limits a b c before (λ j f.
@@ -117,7 +117,7 @@ all_at P [] k x a h = absurd (cc)
 all_at P (y ∷ ys) zero x a h = let q : y ≡ x = cc in subst P q (All-head P y ys a)
 all_at P (y ∷ ys) (suc k) x a h = all_at P ys k x (All-tail P y ys a) h
 
-at_limit_given : (rows : List Row) (standing : List Standing) (limits : Tightest) (forms : List Parts) (j : ℕ) (x : ℚ) → AllRead forms standing → AllGiven standing limits
+at_limit_given : (rows : List Row) (standing : List Standing) (limits : Limits) (forms : List Parts) (j : ℕ) (x : ℚ) → AllRead forms standing → AllGiven standing limits
     → AllAmong rows standing → IsAtLimit limits j x → IsGiven rows forms j x
 at_limit_given rows standing limits forms j x read given among at =
     let g : IsLimit standing at.side j at.limit = subst (λ o. IfSome o (IsLimit standing at.side j)) at.is (given at.side j) in
@@ -127,7 +127,7 @@ at_limit_given rows standing limits forms j x read given among at =
       gives = record { bound = at.limit.bound; reads = limit_read standing forms at.side j at.limit read g; bounds = g.bounds; is = sym at.at };
     }
 
-pub rests_settled : (rows : List Row) (standing : List Standing) (limits : Tightest) (old new : System) → AllRead old.forms standing → AllGiven standing limits
+pub rests_settled : (rows : List Row) (standing : List Standing) (limits : Limits) (old new : System) → AllRead old.forms standing → AllGiven standing limits
     → new.forms ≡ old.forms → Settles limits old new → AllAmong rows standing → Rests rows old → Rests rows new
 rests_settled rows standing limits old new read given same settles among r j f =
     elim (settles j f) [

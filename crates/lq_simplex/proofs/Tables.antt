@@ -27,8 +27,8 @@ use Rattle.lq_simplex.specs.declared.limits.Broken.{Broken}
 use Rattle.lq_simplex.specs.Lines.{combine, factor_of, VariablesBelow}
 use Rattle.lq_linear.specs.Forms.{Parts, AreMultiples}
 use Rattle.lq_simplex.specs.Systems.{System, form_at, line_at, Fits, IsSystem, GoesOn}
-use Rattle.lq_simplex.specs.Standing.{standing_of, multipliers_of, signed, scale_of, ReadsAs, ReadsBy, Reads, AllRead, HasNoTag, TagsApart, BareHolds, AllBare, BoundBelow, BoundsBelow}
-use Rattle.lq_simplex.specs.Bounds.{other, Within, IsOn, Tightest, limit_at, bound_value, Covers, Keeps, AreTightest, Breaks, blocking_of, AllBlocked}
+use Rattle.lq_simplex.specs.Standing.{standing_of, multipliers_of, signed, scale_of, ReadsAs, ReadsBy, Reads, AllRead, HasNoTag, TagsApart, BareHolds, AllBare, BoundBelow}
+use Rattle.lq_simplex.specs.Bounds.{other, Within, IsOn, Limits, interval_at, limit_at, bound_value, Covers, Keeps, AreTightest, Breaks, blocking_of, AllBlocked}
 use Rattle.lq_simplex.specs.Conflicts.{AllGiven, AllKeep, IsKept}
 use Rattle.lq_simplex.proofs.Combinations.{entry_is, unit_here, one_apart}
 use Rattle.lq_simplex.proofs.Systems.{entry_free}
@@ -110,13 +110,9 @@ apart_push (r ∷ rows) s a f =
     let h = fresh_head (r.tag, r.row) (standing_of rows) s.tag f in
     (no_tag_push r.tag rows s a.0 (λ e. h.0 (sym e)), apart_push rows s a.1 h.1)
 
-bound_by : (forms : List Parts) (row : Row) (o : Option Bound) → ReadsBy forms row o → BoundBelow (length forms) o
+pub bound_by : (forms : List Parts) (row : Row) (o : Option Bound) → ReadsBy forms row o → BoundBelow (length forms) o
 bound_by forms row None r = tt
 bound_by forms row (Some b) r = r.inside
-
-pub bounds_below : (forms : List Parts) (rows : List Standing) → AllRead forms rows → BoundsBelow (length forms) rows
-bounds_below forms [] r = tt
-bounds_below forms (s ∷ rows) r = (bound_by forms s.row s.bound r.0, bounds_below forms rows r.1)
 
 -- ---- values that keep to the bounds solve the rows
 keeps_within : (side : Side) (v b : ℚ) (o : Option Limit) → Keeps side v o → Covers side o b → Within side v b
@@ -168,28 +164,14 @@ solved_by forms x [] f r h w = tt
 solved_by forms x (s ∷ rows) f r h w =
     (one_solved forms x s.row s.bound f r.0 h.0 (λ b e. w 0 s b refl e), solved_by forms x rows f r.1 h.1 (λ j t b g e. w (suc j) t b g e))
 
--- the tightest bounds on both sides
-pub record BothTight (rows : List Standing) (limits : Tightest) : Type 0 where
-  pub lower : AreTightest rows Lower limits.lower
-  pub upper : AreTightest rows Upper limits.upper
-
-both_at : (rows : List Standing) (limits : Tightest) (side : Side) (j : ℕ) (s : Standing) (b : Bound) → BothTight rows limits → slice_get rows j ≡ Some s → s.bound ≡ Some b
-    → IsOn side s.row.equal b.turned → Covers side (limit_at limits side b.variable) (value_of b.value)
-both_at rows limits Lower j s b t g e on = t.lower.tight j s b g e on
-both_at rows limits Upper j s b t g e on = t.upper.tight j s b g e on
-
-pub both_given : (rows : List Standing) (limits : Tightest) → BothTight rows limits → AllGiven rows limits
-both_given rows limits t Lower k = t.lower.given k
-both_given rows limits t Upper k = t.upper.given k
-
-pub all_solved : (s : System) (rows : List Standing) (limits : Tightest) → AllRead s.forms rows → AllBare rows → BothTight rows limits → AllKeep limits s
+pub all_solved : (s : System) (rows : List Standing) (limits : Limits) → AllRead s.forms rows → AllBare rows → AreTightest rows (interval_at limits) → AllKeep limits s
     → Solves (valuation_of s.values) (standing_of rows)
 all_solved s rows limits r h t all =
     let i = all.system in
     solved_by s.forms (valuation_of s.values) rows (i.are_lines.fits (valuation_of s.values) i.values) r h
     (λ j q b g e side on.
     keeps_within side (valuation_of s.values b.variable) (value_of b.value) (limit_at limits side b.variable)
-    (all.keeps b.variable (inside j q b g e) side) (both_at rows limits side j q b t g e on))
+    (all.keeps b.variable (inside j q b g e) side) (t.tight side j q b g e on))
   where
     inside : (j : ℕ) (q : Standing) (b : Bound) → slice_get rows j ≡ Some q → q.bound ≡ Some b → b.variable < length s.forms
     inside j q b g e = let a = subst (ReadsBy s.forms q.row) e (read_at s.forms rows j q r g) in a.inside
@@ -232,7 +214,7 @@ line_variables s k i =
     below_all (length s.values) (line_at s.lines k)
     (λ j e g. let f = entry_free s.forms s.lines k j e i.are_lines g in let h = f.inside in let p = i.are_lines.same in let q = i.valued in omega arith)
 
-pub kept : (s : System) (rows : List Standing) (limits : Tightest) (b : Broken) → IsSystem s → AllRead s.forms rows → TagsApart rows → AllGiven rows limits → b.variable < length s.values
+pub kept : (s : System) (rows : List Standing) (limits : Limits) (b : Broken) → IsSystem s → AllRead s.forms rows → TagsApart rows → AllGiven rows limits → b.variable < length s.values
     → Breaks limits (valuation_of s.values b.variable) b → AllBlocked limits b.side (valuation_of s.values) (line_at s.lines b.variable) → IsKept rows limits b (line_at s.lines b.variable)
 kept s rows limits b i r a g inside breaks blocked =
     let lines = i.are_lines in
@@ -261,7 +243,7 @@ one_entry : (k : ℕ) (x e : Entry) → slice_get (x ∷ []) k ≡ Some e → x 
 one_entry zero x e h = cc
 one_entry (suc k) x e h = absurd (let q : None ≡ Some e = h in cc)
 
-pub crossed_kept : (forms : List Parts) (rows : List Standing) (limits : Tightest) (b : Broken) (one : Frac) (upper : Limit) → AllRead forms rows → TagsApart rows → AllGiven rows limits
+pub crossed_kept : (forms : List Parts) (rows : List Standing) (limits : Limits) (b : Broken) (one : Frac) (upper : Limit) → AllRead forms rows → TagsApart rows → AllGiven rows limits
     → value_of one ≡ whole (pos 1) → b.side ≡ Lower → limit_at limits Upper b.variable ≡ Some upper → Breaks limits (bound_value upper) b
     → IsKept rows limits b ((record { variable = b.variable; factor = one }) ∷ [])
 crossed_kept forms rows limits b one upper r a g o side at breaks =

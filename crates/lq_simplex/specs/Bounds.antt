@@ -12,6 +12,8 @@ use Rattle.lq_linear.specs.declared.bound.Side.{Side}
 use Rattle.lq_linear.specs.declared.bound.Side.TheVariants.{Lower, Upper}
 pub use Rattle.lq_linear.specs.Bounds.{other, Within, Beyond}
 use Rattle.lq_simplex.specs.declared.limits.Limit.{Limit}
+use Rattle.lq_simplex.specs.declared.limits.Interval.{Interval}
+pub use Rattle.lq_simplex.specs.declared.limits.Limits.{Limits}
 use Rattle.lq_simplex.specs.declared.limits.Broken.{Broken}
 
 -- a row bounds its variable on this side
@@ -19,20 +21,22 @@ abbrev pub IsOn : Side → Bool → Bool → Type 0
 IsOn Lower equal turned = (equal ≡ true) ⊎ (turned ≡ true)
 IsOn Upper equal turned = (equal ≡ true) ⊎ (turned ≡ false)
 
--- the tightest bounds from below and from above
-pub record Tightest : Type 0 where
-  pub lower : List (Option Limit)
-  pub upper : List (Option Limit)
+abbrev pub limit_of : Interval → Side → Option Limit
+limit_of i Lower = i.lower
+limit_of i Upper = i.upper
 
-abbrev pub limit_in : List (Option Limit) → ℕ → Option Limit
-limit_in limits k = slice_index_or limits k None
+abbrev pub unlimited : Interval
+unlimited = record { lower = None; upper = None }
 
-abbrev pub side_of : Tightest → Side → List (Option Limit)
-side_of limits Lower = limits.lower
-side_of limits Upper = limits.upper
+-- a variable without a place has no limits
+abbrev pub interval_in : List Interval → ℕ → Interval
+interval_in intervals k = slice_index_or intervals k unlimited
 
-abbrev pub limit_at : Tightest → Side → ℕ → Option Limit
-limit_at limits side k = limit_in (side_of limits side) k
+abbrev pub interval_at : Limits → ℕ → Interval
+interval_at limits k = interval_in limits.intervals.items k
+
+abbrev pub limit_at : Limits → Side → ℕ → Option Limit
+limit_at limits side k = limit_of (interval_at limits k) side
 
 abbrev pub bound_value : Limit → ℚ
 bound_value l = value_of l.bound.value
@@ -55,11 +59,15 @@ pub record IsAdmitted (side : Side) (old : Option Limit) (row : ℕ) (equal : Bo
   pub covers : IsOn side equal b.turned → Covers side new (value_of b.value)
   pub kept : (v : ℚ) → Covers side old v → Covers side new v
 
--- each limit is given by a row, and each row's bound on this side is no tighter than the limit
-pub record AreTightest (rows : List Standing) (side : Side) (limits : List (Option Limit)) : Type 0 where
-  pub given : (k : ℕ) → IfSome (limit_in limits k) (IsLimit rows side k)
-  pub tight : (j : ℕ) (s : Standing) (b : Bound) → slice_get rows j ≡ Some s → s.bound ≡ Some b → IsOn side s.row.equal b.turned
-      → Covers side (limit_in limits b.variable) (value_of b.value)
+-- the interval of a variable, after a row's bound has come
+abbrev pub IsNarrowed : Interval → ℕ → Bool → Bound → Interval → Type 0
+IsNarrowed old row equal b new = (side : Side) → IsAdmitted side (limit_of old side) row equal b (limit_of new side)
+
+-- each limit is given by a row, and each row's bound on a side is no tighter than the limit there
+pub record AreTightest (rows : List Standing) (intervals : ℕ → Interval) : Type 0 where
+  pub given : (side : Side) (k : ℕ) → IfSome (limit_of (intervals k) side) (IsLimit rows side k)
+  pub tight : (side : Side) (j : ℕ) (s : Standing) (b : Bound) → slice_get rows j ≡ Some s → s.bound ≡ Some b → IsOn side s.row.equal b.turned
+      → Covers side (limit_of (intervals b.variable) side) (value_of b.value)
 
 -- the value keeps to the limit
 abbrev pub Keeps : Side → ℚ → Option Limit → Type 0
@@ -67,14 +75,14 @@ Keeps side value None = Unit {0}
 Keeps side value (Some l) = Within side value (bound_value l)
 
 -- the lower bound of the variable isn't above its upper one
-abbrev pub IsUncrossed : Tightest → ℕ → Type 0
+abbrev pub IsUncrossed : Limits → ℕ → Type 0
 IsUncrossed limits k = (lower upper : Limit) → limit_at limits Lower k ≡ Some lower → limit_at limits Upper k ≡ Some upper → bound_value lower ≤ℚ bound_value upper
 
-abbrev pub AreUncrossed : Tightest → ℕ → Type 0
+abbrev pub AreUncrossed : Limits → ℕ → Type 0
 AreUncrossed limits n = (k : ℕ) → k < n → IsUncrossed limits k
 
 -- the variable breaks its limit
-pub record Breaks (limits : Tightest) (value : ℚ) (b : Broken) : Type 0 where
+pub record Breaks (limits : Limits) (value : ℚ) (b : Broken) : Type 0 where
   pub limit : limit_at limits b.side b.variable ≡ Some b.limit
   pub beyond : Beyond b.side value (bound_value b.limit)
 
@@ -83,11 +91,11 @@ abbrev pub blocking_of : Side → ℚ → Side
 blocking_of side factor = if is_at_most factor (whole (pos 0)) then side else other side
 
 -- the entry's variable is at its limit on that side, or past it
-pub record IsBlocked (limits : Tightest) (side : Side) (x : Valuation) (e : Entry) : Type 0 where
+pub record IsBlocked (limits : Limits) (side : Side) (x : Valuation) (e : Entry) : Type 0 where
   pub limit : Limit
   pub is : limit_at limits (blocking_of side (value_of e.factor)) e.variable ≡ Some limit
   pub past : Within (other (blocking_of side (value_of e.factor))) (x e.variable) (bound_value limit)
 
-abbrev pub AllBlocked : Tightest → Side → Valuation → List Entry → Type 0
+abbrev pub AllBlocked : Limits → Side → Valuation → List Entry → Type 0
 AllBlocked limits side x [] = Unit {0}
 AllBlocked limits side x (e ∷ line) = IsBlocked limits side x e × AllBlocked limits side x line

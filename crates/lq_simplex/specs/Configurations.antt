@@ -13,7 +13,7 @@ use Rattle.lq_simplex.specs.Lines.{combine}
 use Rattle.lq_linear.specs.Forms.{Parts, IsNormal, AreMultiples}
 use Rattle.lq_simplex.specs.Systems.{System, form_at, line_at, form_values, IsFree, AreCounted}
 use Rattle.lq_simplex.specs.Standing.{ReadsAs}
-use Rattle.lq_simplex.specs.Bounds.{Tightest, limit_at, bound_value, Keeps}
+use Rattle.lq_simplex.specs.Bounds.{Limits, limit_at, bound_value, Keeps}
 
 -- a point at which the free variables have the values that were chosen
 pub record IsChosen (s : System) (choice : Valuation) : Type 0 where
@@ -69,16 +69,16 @@ abbrev pub Brings : System → System → ℕ → ℚ → Type 0
 Brings old new variable x = (j : ℕ) → IsFree new.lines j → ((j ≡ variable) × (valuation_of new.values j ≡ x)) ⊎ ((j ≢ variable) × Stays old new j)
 
 -- the value is a bound of the variable
-pub record IsAtLimit (limits : Tightest) (variable : ℕ) (x : ℚ) : Type 0 where
+pub record IsAtLimit (limits : Limits) (variable : ℕ) (x : ℚ) : Type 0 where
   pub side : Side
   pub limit : Limit
   pub is : limit_at limits side variable ≡ Some limit
   pub at : x ≡ bound_value limit
 
 -- no free variable breaks a bound
-abbrev pub FreeKeep : Tightest → System → Type 0
+abbrev pub FreeKeep : Limits → System → Type 0
 FreeKeep limits s = (j : ℕ) → j < length s.forms → IsFree s.lines j → (side : Side) → Keeps side (valuation_of s.values j) (limit_at limits side j)
 
 -- what is free now is at a bound, or was free before, with the same value
-abbrev pub Settles : Tightest → System → System → Type 0
+abbrev pub Settles : Limits → System → System → Type 0
 Settles limits old new = (j : ℕ) → IsFree new.lines j → IsAtLimit limits j (valuation_of new.values j) ⊎ Stays old new j

@@ -14,7 +14,7 @@ use Rattle.lq_simplex.specs.Lines.{combine, IsLine}
 use Rattle.lq_linear.specs.Forms.{Parts}
 use Rattle.lq_simplex.specs.Systems.{System, IsSystem, form_at, form_values}
 use Rattle.lq_simplex.specs.Standing.{AllRead, TagsApart}
-use Rattle.lq_simplex.specs.Bounds.{Tightest, limit_at, Keeps, IsLimit, Breaks, AllBlocked}
+use Rattle.lq_simplex.specs.Bounds.{Limits, limit_at, Keeps, IsLimit, Breaks, AllBlocked}
 
 -- a number for the lower side, its negation for the upper
 abbrev pub toward : Side → ℚ → ℚ
@@ -26,11 +26,11 @@ abbrev pub negates : Side → Bool → Bool
 negates Lower turned = turned
 negates Upper turned = not turned
 
-abbrev pub AllGiven : List Standing → Tightest → Type 0
+abbrev pub AllGiven : List Standing → Limits → Type 0
 AllGiven rows limits = (side : Side) (k : ℕ) → IfSome (limit_at limits side k) (IsLimit rows side k)
 
 -- each variable of a system keeps to its bounds
-pub record AllKeep (limits : Tightest) (s : System) : Type 0 where
+pub record AllKeep (limits : Limits) (s : System) : Type 0 where
   pub system : IsSystem s
   pub keeps : (k : ℕ) → k < length s.forms → (side : Side) → Keeps side (valuation_of s.values k) (limit_at limits side k)
 
@@ -42,7 +42,7 @@ pub record Names (rows : List Standing) (tag : ℕ) (l : Limit) : Type 0 where
   pub is : standing.tag ≡ tag
 
 -- the variable is the combination at every valuation, breaks its bound, and each entry keeps it from there
-pub record IsKept (rows : List Standing) (limits : Tightest) (broken : Broken) (line : List Entry) : Type 0 where
+pub record IsKept (rows : List Standing) (limits : Limits) (broken : Broken) (line : List Entry) : Type 0 where
   pub forms : List Parts
   pub read : AllRead forms rows
   pub apart : TagsApart rows

@@ -4,6 +4,7 @@ pub mod Systems
 pub mod Standing
 pub mod RowParts
 pub mod Bounds
+pub mod History
 pub mod Conflicts
 pub mod Configurations
 pub mod Appearing

@@ -67,11 +67,7 @@ abbrev pub TagsApart : List Standing → Type 0
 TagsApart [] = Unit {0}
 TagsApart (s ∷ rows) = HasNoTag s.tag rows × TagsApart rows
 
--- the bounds are of variables below n
+-- the bound is of a variable below n
 abbrev pub BoundBelow : ℕ → Option Bound → Type 0
 BoundBelow n None = Unit {0}
 BoundBelow n (Some b) = b.variable < n
-
-abbrev pub BoundsBelow : ℕ → List Standing → Type 0
-BoundsBelow n [] = Unit {0}
-BoundsBelow n (s ∷ rows) = BoundBelow n s.bound × BoundsBelow n rows

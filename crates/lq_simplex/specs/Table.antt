@@ -1,5 +1,5 @@
 -- What a tableau is seen as, and what always holds of one.
-use Rattle.std.specs.Prelude.{◌≡◌, ℕ, List, [], ◌∷◌}
+use Rattle.std.specs.Prelude.{◌≡◌, ℕ, List, [], ◌∷◌, length}
 use Rattle.lq_math.specs.Rational.{ℚ}
 use Rattle.lq_num.specs.declared.frac.Frac.{Frac}
 use Rattle.lq_num.specs.Past.{IsPast}
@@ -15,13 +15,17 @@ use Rattle.lq_simplex.specs.declared.row.Standing.{Standing}
 use Rattle.lq_linear.specs.Difference.{TermsBelow}
 use Rattle.lq_simplex.specs.Systems.{System}
 use Rattle.lq_simplex.specs.Standing.{standing_of, multipliers_of, AllRead, TagsApart}
+use Rattle.lq_simplex.specs.Bounds.{Limits}
+use Rattle.lq_simplex.specs.History.{IsHistory}
 use Rattle.lq_simplex.specs.Appearing.{AreFormsOf}
 use Rattle.lq_simplex.specs.Configurations.{AllAmong, Rests}
 
--- the variables with their values, the rows that stand, the multipliers of the last conflict, the last answer, and the limit on pivots
+-- the variables with their values, the rows that stand, the bounds that these give, the multipliers of the last conflict, the last answer,
+-- and the limit on pivots
 pub record Table : Type 0 where
   pub system : System
   pub rows : List Standing
+  pub limits : Limits
   pub found : List (ℕ × Frac)
   pub answer : Answer
   pub limit : ℕ
@@ -67,5 +71,7 @@ pub record Handed (t : Table) (rows : List Row) : Type 0 where
 pub record IsTable (t : Table) : Type 0 where
   pub read : AllRead t.system.forms t.rows
   pub apart : TagsApart t.rows
+  pub placed : length t.limits.intervals.items ≡ length t.system.forms
+  pub history : IsHistory t.rows t.limits.intervals.items t.limits.changes.items
   pub solved : t.answer ≡ Solved → Solves (valuation_of t.system.values) (standing_of t.rows)
   pub contradicted : t.answer ≡ Contradicted → IsContradiction (standing_of t.rows) (multipliers_of t.found)

@@ -1,15 +1,18 @@
 // The tightest bounds of the variables.
-ghost use Rattle.std.specs.Prelude.{◌≡◌, ℕ, ◌<◌, ◌≤◌, Bool, true, false, List, length, take, Option, Some, slice_get, IfOk, IfSome, IfNone};
+ghost use Rattle.std.specs.Prelude.{◌≡◌, ℕ, ◌<◌, ◌≤◌, ◌+◌, Bool, true, false, List, [], ◌∷◌, ◌++◌, length, take, Option, Some, slice_get, vec_capacity, IfOk, IfSome, IfNone, OnOk};
+ghost use Rattle.std.specs.Option.{option_or};
 ghost use Rattle.lq_math.specs.Rational.{whole};
 ghost use Rattle.lq_math.specs.RationalOrder.{◌≤ℚ◌, ◌<ℚ◌};
 ghost use Rattle.lq_num.specs.Value.{value_of};
 ghost use Rattle.lq_linear.specs.Steps.{valuation_of};
-ghost use Rattle.lq_simplex.specs.Standing.{BoundsBelow};
+ghost use Rattle.lq_simplex.specs.Standing.{BoundBelow};
 ghost use Rattle.lq_simplex.specs.Lines.{VariablesBelow};
-ghost use Rattle.lq_simplex.specs.Bounds.{other, Within, Beyond, IsOn, limit_in, limit_at, bound_value, AreUncrossed, AreTightest, IsAdmitted, Keeps, Breaks, blocking_of, IsBlocked, AllBlocked};
+ghost use Rattle.lq_simplex.specs.Bounds.{other, Within, Beyond, IsOn, limit_at, bound_value, AreUncrossed, IsAdmitted, IsNarrowed, Keeps, Breaks, blocking_of, IsBlocked, AllBlocked};
+ghost use Rattle.lq_simplex.specs.History.{IsHistory, HasRoom, IsBefore};
 ghost use Rattle.lq_linear.specs.declared.bound.Side.{Side};
 ghost use Rattle.lq_linear.specs.declared.bound.Side.TheVariants.{Lower, Upper};
 ghost use Rattle.lq_simplex.specs.declared.limits.Limit.{Limit};
+ghost use Rattle.lq_simplex.specs.declared.row.Standing.{Standing};
 
 use crate::line::{Entry, Line};
 use crate::row::{Bound, Standing};
@@ -17,7 +20,6 @@ use lq_linear::Side;
 use lq_num::Frac;
 use std::alloc::{AllocError, Global};
 use std::cmp::Ordering;
-use std::marker::Model;
 
 /// A bound, and the place of the row that gives it.
 #[derive(Clone, Copy)]
@@ -26,19 +28,26 @@ pub(crate) struct Limit {
     pub(crate) bound: Bound,
 }
 
-/// The tightest bounds of each variable.
-#[derive(Drop)]
-pub(crate) struct Limits {
-    lower: Vec<Option<Limit>>,
-    upper: Vec<Option<Limit>>,
+/// The tightest bounds of a variable.
+#[derive(Clone, Copy)]
+pub(crate) struct Interval {
+    pub(crate) lower: Option<Limit>,
+    pub(crate) upper: Option<Limit>,
 }
 
-impl Model for Limits {
-    ghost use Rattle.lq_simplex.specs.Bounds.{Tightest};
+/// The interval that a variable had before the row at this place came, which made it narrower.
+#[derive(Clone, Copy)]
+pub(crate) struct Change {
+    pub(crate) row: usize,
+    pub(crate) variable: usize,
+    pub(crate) old: Interval,
+}
 
-    ghost Value = { Tightest };
-
-    ghost view = { λ l. record { lower = l.lower.items; upper = l.upper.items } };
+/// The tightest bounds of each variable, and what leads back to those of fewer rows.
+#[derive(Drop)]
+pub(crate) struct Limits {
+    pub(crate) intervals: Vec<Interval>,
+    pub(crate) changes: Vec<Change>,
 }
 
 /// A variable that breaks a bound.
@@ -92,73 +101,156 @@ fn bounds(side: Side, equal: bool, turned: bool) -> bool
     }
 }
 
-/// The limit after a row's bound has come: the tighter of the two, where the row bounds its variable on this side.
-fn admitted(side: Side, old: Option<Limit>, row: usize, equal: bool, bound: Bound) -> Option<Limit>
-    ensures { IsAdmitted side old row equal bound result }
+/// The limit that a row's bound gives its variable on this side, where it is tighter than the old one.
+fn tighter(side: Side, old: Option<Limit>, row: usize, equal: bool, bound: &Bound) -> Option<Limit>
+    ensures { IsAdmitted side old row equal bound.now (option_or result old) }
 {
     if !bounds(side, equal, bound.turned) {
-        return old;
+        return None;
     }
-    match old {
-        None => Some(Limit { row, bound }),
-        Some(limit) => {
-            if breaks(side, &limit.bound.value, &bound.value) {
-                Some(Limit { row, bound })
-            } else {
-                old
-            }
+    if let Some(limit) = old {
+        if !breaks(side, &limit.bound.value, &bound.value) {
+            return None;
         }
     }
+    Some(Limit { row, bound: *bound })
 }
 
-/// For each variable the tightest bound on this side.
-fn tightest(
-    alloc: Global,
-    rows: &[Standing],
-    variables: usize,
-    side: Side,
-) -> Result<Vec<Option<Limit>>, AllocError>
-    requires { BoundsBelow variables rows.now }
-    ensures { IfOk result (λ limits. AreTightest rows.now side limits.items) }
+/// The interval of a variable after a row's bound has come, where that makes it narrower.
+fn narrowed(old: &Interval, row: usize, equal: bool, bound: &Bound) -> Option<Interval>
+    ensures some { IfSome result (λ new. IsNarrowed old.now row equal bound.now new) }
+    ensures none { IfNone result (IsNarrowed old.now row equal bound.now old.now) }
 {
-    let none: Option<Limit> = None;
-    let mut limits = vec![in alloc; none; variables]?;
-    for (row, standing) in rows.iter().enumerate() {
-        if let Some(bound) = standing.bound {
-            let old = limits[bound.variable];
-            limits[bound.variable] = admitted(side, old, row, standing.row.equal(), bound);
-        }
+    let lower = tighter(Side::Lower, old.lower, row, equal, bound);
+    let upper = tighter(Side::Upper, old.upper, row, equal, bound);
+    if lower.is_none() && upper.is_none() {
+        return None;
     }
-    Ok(limits)
+    Some(Interval {
+        lower: lower.or(old.lower),
+        upper: upper.or(old.upper),
+    })
 }
 
 impl Limits {
-    /// The bounds that the rows give to so many variables.
-    pub(crate) fn new(
-        alloc: Global,
-        rows: &[Standing],
-        variables: usize,
-    ) -> Result<Limits, AllocError>
-        requires { BoundsBelow variables rows.now }
-        ensures lower { IfOk result (λ limits. AreTightest rows.now Lower limits.lower) }
-        ensures upper { IfOk result (λ limits. AreTightest rows.now Upper limits.upper) }
+    /// No bounds of so many variables.
+    pub(crate) fn new(alloc: Global, variables: usize) -> Result<Limits, AllocError>
+        ensures history { IfOk result (λ limits. IsHistory [] limits.intervals.items limits.changes.items) }
+        ensures count { IfOk result (λ limits. length limits.intervals.items ≡ variables) }
     {
-        let lower = tightest(alloc, rows, variables, Side::Lower)?;
-        let upper = tightest(alloc, rows, variables, Side::Upper)?;
-        Ok(Limits { lower, upper })
+        let unlimited = Interval {
+            lower: None,
+            upper: None,
+        };
+        Ok(Limits {
+            intervals: vec![in alloc; unlimited; variables]?,
+            changes: Vec::new(alloc),
+        })
+    }
+
+    /// Makes room for what a row may add.
+    pub(crate) fn reserve(&mut self) -> Result<(), AllocError>
+        ensures room { OnOk result (HasRoom self.new) }
+        ensures intervals { self.new.intervals.items ≡ self.old.intervals.items }
+        ensures changes { self.new.changes.items ≡ self.old.changes.items }
+    {
+        self.intervals.reserve(1)?;
+        self.changes.reserve(1)
+    }
+
+    /// Takes in the row that comes after these: where its variable is new, that gets a place, and where its bound is tighter than
+    /// a limit, it takes the place of that.
+    pub(crate) fn admit(&mut self, rows: &[Standing], standing: &Standing, variables: usize)
+        requires room { HasRoom self.old }
+        requires history { IsHistory rows.now self.old.intervals.items self.old.changes.items }
+        requires least { length self.old.intervals.items ≤ variables }
+        requires most { variables ≤ length self.old.intervals.items + 1 }
+        requires below { BoundBelow variables standing.now.bound }
+        ensures history { IsHistory (rows.now ++ standing.now ∷ []) self.new.intervals.items
+            self.new.changes.items }
+        ensures count { length self.new.intervals.items ≡ variables }
+    {
+        self.reach(variables);
+        if let Some(bound) = standing.bound {
+            self.tighten(rows.len(), standing.row.equal(), &bound);
+        }
+    }
+
+    /// Gives each of so many variables a place.
+    fn reach(&mut self, variables: usize)
+        requires room { HasRoom self.old }
+        requires least { length self.old.intervals.items ≤ variables }
+        requires most { variables ≤ length self.old.intervals.items + 1 }
+        ensures history { (rows : List Standing)
+            → IsHistory rows self.old.intervals.items self.old.changes.items
+            → IsHistory rows self.new.intervals.items self.new.changes.items }
+        ensures count { length self.new.intervals.items ≡ variables }
+        ensures room { length self.new.changes.items < vec_capacity self.new.changes }
+    {
+        if self.intervals.len() < variables {
+            self.intervals.push_reserved(Interval {
+                lower: None,
+                upper: None,
+            });
+        }
+    }
+
+    /// Makes the interval of the variable narrower that the row at this place bounds, and keeps what it was.
+    fn tighten(&mut self, row: usize, equal: bool, bound: &Bound)
+        requires room { length self.old.changes.items < vec_capacity self.old.changes }
+        requires inside { bound.now.variable < length self.old.intervals.items }
+        ensures history { (rows : List Standing) (s : Standing) → length rows ≡ row → s.row.equal ≡ equal
+            → s.bound ≡ Some bound.now → IsHistory rows self.old.intervals.items self.old.changes.items
+            → IsHistory (rows ++ s ∷ []) self.new.intervals.items self.new.changes.items }
+        ensures count { length self.new.intervals.items ≡ length self.old.intervals.items }
+    {
+        let old = self.intervals[bound.variable];
+        if let Some(interval) = narrowed(&old, row, equal, bound) {
+            self.changes.push_reserved(Change {
+                row,
+                variable: bound.variable,
+                old,
+            });
+            self.intervals[bound.variable] = interval;
+        }
+    }
+
+    /// Goes back to the limits of so many of the first rows.
+    pub(crate) fn back_to(&mut self, count: usize)
+        requires { (rows : List Standing) × IsHistory rows self.old.intervals.items self.old.changes.items }
+        ensures history { (rows : List Standing)
+            → IsHistory rows self.old.intervals.items self.old.changes.items
+            → IsHistory (take count rows) self.new.intervals.items self.new.changes.items }
+        ensures count { length self.new.intervals.items ≡ length self.old.intervals.items }
+    {
+        while let Some(change) = self.pop_after(count) {
+            self.intervals[change.variable] = change.old;
+        }
+    }
+
+    /// Takes the last change off, if a row after so many made it.
+    fn pop_after(&mut self, count: usize) -> Option<Change>
+        ensures some { IfSome result (λ c. (count ≤ c.row) × (self.old.changes.items ≡ self.new.changes.items
+            ++ c ∷ [])) }
+        ensures none { IfNone result ((self.new.changes.items ≡ self.old.changes.items)
+            × IsBefore self.old.changes.items count) }
+        ensures intervals { self.new.intervals.items ≡ self.old.intervals.items }
+    {
+        let last = self.changes.as_slice().last()?;
+        if last.row < count {
+            return None;
+        }
+        self.changes.pop()
     }
 
     /// The bound of a variable on this side.
     pub(crate) fn at(&self, side: Side, variable: usize) -> Option<Limit>
         ensures { result ≡ limit_at self.now side variable }
     {
-        let limits = match side {
-            Side::Lower => &self.lower,
-            Side::Upper => &self.upper,
-        };
-        match limits.get(variable) {
-            None => None,
-            Some(limit) => *limit,
+        let interval = self.intervals.get(variable)?;
+        match side {
+            Side::Lower => interval.lower,
+            Side::Upper => interval.upper,
         }
     }
 

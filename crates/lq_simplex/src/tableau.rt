@@ -13,7 +13,8 @@ ghost use Rattle.lq_simplex.specs.Standing.{standing_of, multipliers_of, AllRead
 ghost use Rattle.lq_simplex.specs.Conflicts.{AllGiven, AllKeep};
 ghost use Rattle.lq_simplex.specs.Appearing.{AreFormsOf};
 ghost use Rattle.lq_simplex.specs.Configurations.{AllAmong, Rests, FreeKeep, Settles};
-ghost use Rattle.lq_simplex.specs.Bounds.{AreUncrossed};
+ghost use Rattle.lq_simplex.specs.Bounds.{interval_at, AreTightest, AreUncrossed};
+ghost use Rattle.lq_simplex.specs.History.{IsHistory};
 ghost use Rattle.lq_simplex.specs.Table.{StopsAt};
 
 use crate::basis::Basis;
@@ -35,6 +36,8 @@ pub struct Tableau {
     limit: u64,
     basis: Basis,
     rows: Vec<Standing>,
+    /// The tightest bounds of the rows that stand.
+    limits: Limits,
     found: Vec<(u64, Frac)>,
     answer: Answer,
 }
@@ -44,9 +47,9 @@ impl Model for Tableau {
 
     ghost Value = { Table };
 
-    ghost view = { λ t. record { system = t.basis; rows = t.rows.items; found = t.found.items; answer = t.answer; limit = t.limit } };
+    ghost view = { λ t. record { system = t.basis; rows = t.rows.items; limits = t.limits; found = t.found.items; answer = t.answer; limit = t.limit } };
 
-    ghost invariant = { λ t. IsTable (record { system = t.basis; rows = t.rows.items; found = t.found.items; answer = t.answer; limit = t.limit }) };
+    ghost invariant = { λ t. IsTable (record { system = t.basis; rows = t.rows.items; limits = t.limits; found = t.found.items; answer = t.answer; limit = t.limit }) };
 }
 
 /// The multiplier of a row without terms that doesn't hold.
@@ -156,10 +159,12 @@ fn decide(
     alloc: Global,
     basis: &mut Basis,
     rows: &[Standing],
+    limits: &Limits,
     limit: u64,
 ) -> Result<Option<Vec<(u64, Frac)>>, TableauError>
     requires read { AllRead basis.old.forms rows.now }
     requires apart { TagsApart rows.now }
+    requires tightest { AreTightest rows.now (interval_at limits.now) }
     ensures solved { IfOk result (λ found. IfNone found
         (Solves (valuation_of basis.new.values) (standing_of rows.now))) }
     ensures rests { (ever : List Row) → AllAmong ever rows.now → Rests ever basis.old → Rests ever basis.new }
@@ -172,13 +177,12 @@ fn decide(
     if let Some(found) = refuted(alloc, rows)? {
         return Ok(Some(found));
     }
-    let limits = Limits::new(alloc, rows, basis.len())?;
     if let Some(broken) = limits.crossed(basis.len()) {
         let own = Line::single(alloc, broken.variable, Frac::whole(1))?;
-        return Ok(Some(explain(alloc, rows, &limits, &broken, &own)?));
+        return Ok(Some(explain(alloc, rows, limits, &broken, &own)?));
     }
-    settle(alloc, basis, &limits)?;
-    pivots(alloc, basis, rows, &limits, limit)
+    settle(alloc, basis, limits)?;
+    pivots(alloc, basis, rows, limits, limit)
 }
 
 /// Adds a row that stands, or leaves all as it was.
@@ -186,6 +190,7 @@ fn stand(
     alloc: Global,
     basis: &mut Basis,
     rows: &mut Vec<Standing>,
+    limits: &mut Limits,
     row: &LinearRow,
     tag: u64,
 ) -> Result<(), TableauError>
@@ -193,11 +198,15 @@ fn stand(
     requires read { AllRead basis.old.forms rows.old.items }
     requires apart { TagsApart rows.old.items }
     requires fresh { IsNone (tagged (standing_of rows.old.items) tag) }
+    requires placed { length limits.old.intervals.items ≡ length basis.old.forms }
+    requires history { IsHistory rows.old.items limits.old.intervals.items limits.old.changes.items }
     ensures added { OnOk result (standing_of rows.new.items ≡ standing_of rows.old.items ++ (tag, row.now)
         ∷ []) }
     ensures kept { OnErr result (rows.new.items ≡ rows.old.items) }
     ensures read { AllRead basis.new.forms rows.new.items }
     ensures apart { TagsApart rows.new.items }
+    ensures placed { length limits.new.intervals.items ≡ length basis.new.forms }
+    ensures history { IsHistory rows.new.items limits.new.intervals.items limits.new.changes.items }
     ensures among { OnOk result ((ever : List Row) → AllAmong ever rows.old.items
         → AllAmong (ever ++ row.now ∷ []) rows.new.items) }
     ensures rests { OnOk result ((ever : List Row) → Rests ever basis.old → Rests ever basis.new) }
@@ -208,13 +217,16 @@ fn stand(
     ensures stop { IfErr result IsTableauError }
 {
     rows.reserve(1)?;
+    limits.reserve()?;
     let copied = copy(alloc, row)?;
     let bound = read(alloc, basis, row)?;
-    rows.push_reserved(Standing {
+    let standing = Standing {
         tag,
         row: copied,
         bound,
-    });
+    };
+    limits.admit(rows, &standing, basis.len());
+    rows.push_reserved(standing);
     Ok(())
 }
 
@@ -243,11 +255,13 @@ impl Tableau {
         ensures handed { IfOk result (λ tableau. Handed tableau []) }
     {
         let basis = Basis::new(alloc, terms)?;
+        let limits = Limits::new(alloc, basis.len())?;
         Ok(Tableau {
             alloc,
             limit,
             basis,
             rows: Vec::new(alloc),
+            limits,
             found: Vec::new(alloc),
             answer: Answer::Unasked,
         })
@@ -289,7 +303,14 @@ impl LinearEngine for Tableau {
     ghost known = { λ table. table_last table ≡ Conflicted };
 
     fn assert_row(&mut self, row: &LinearRow, tag: u64) -> Result<(), LinearStop> {
-        match stand(self.alloc, &mut self.basis, &mut self.rows, row, tag) {
+        match stand(
+            self.alloc,
+            &mut self.basis,
+            &mut self.rows,
+            &mut self.limits,
+            row,
+            tag,
+        ) {
             Ok(()) => {
                 self.answer = Answer::Unasked;
                 Ok(())
@@ -306,6 +327,7 @@ impl LinearEngine for Tableau {
     }
 
     fn back_to(&mut self, mark: Mark) {
+        self.limits.back_to(mark.0 as usize);
         self.rows.truncate(mark.0 as usize);
         self.answer = Answer::Unasked;
     }
@@ -320,7 +342,13 @@ impl LinearEngine for Tableau {
             Answer::Solved => return Ok(Verdict::Holds),
             Answer::Unasked | Answer::GaveUp => {}
         }
-        match decide(self.alloc, &mut self.basis, &self.rows, self.limit) {
+        match decide(
+            self.alloc,
+            &mut self.basis,
+            &self.rows,
+            &self.limits,
+            self.limit,
+        ) {
             Ok(None) => {
                 self.answer = Answer::Solved;
                 Ok(Verdict::Holds)

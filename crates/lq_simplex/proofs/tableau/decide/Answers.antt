@@ -5,50 +5,43 @@ use Rattle.lq_simplex.specs.declared.line.Entry.{Entry}
 use Rattle.lq_simplex.specs.Conflicts.{IsKept}
 use Rattle.lq_simplex.specs.Systems.{System}
 use Rattle.lq_simplex.specs.Standing.{AllRead, AllBare}
-use Rattle.lq_simplex.proofs.Tables.{bounds_below, BothTight, both_given, crossed_kept, all_solved, none_weaker}
+use Rattle.lq_simplex.proofs.Tables.{crossed_kept, all_solved, none_weaker}
 use Rattle.lq_simplex.proofs.Resting.{rests_settled}
 use Rattle.lq_simplex.proofs.tableau.decide.Goals as goal
 
-pub new-requires : goal.new-requires
-new-requires c = rw c.len.ensures (bounds_below c.args.basis.now.forms c.args.rows.now c.requires.read)
-
 pub explain-requires : goal.explain-requires
 explain-requires c =
-    let tight : BothTight c.args.rows.now c.in_ok-limits.limits = record { lower = c.in_ok-limits.ensures.lower; upper = c.in_ok-limits.ensures.upper } in
     let e = c.in-Some-crossed.ensures.some in
-    subst (λ (es : List Entry). IsKept c.args.rows.now c.in_ok-limits.limits c.in-Some-crossed.broken es) (sym c.in_ok-own.ensures)
-    (crossed_kept c.args.basis.now.forms c.args.rows.now c.in_ok-limits.limits c.in-Some-crossed.broken c.whole.result e.0 c.requires.read c.requires.apart (both_given c.args.rows.now c.in_ok-limits.limits tight)
+    subst (λ (es : List Entry). IsKept c.args.rows.now c.args.limits.now c.in-Some-crossed.broken es) (sym c.in_ok-own.ensures)
+    (crossed_kept c.args.basis.now.forms c.args.rows.now c.args.limits.now c.in-Some-crossed.broken c.whole.result e.0 c.requires.read c.requires.apart c.requires.tightest.given
     c.whole.ensures.value e.1 e.2 e.3)
 
 pub returns-clause-solved : goal.returns-clause-solved
 returns-clause-solved c =
     let rows = c.args.rows.now in let s : System = c.pivots.new.basis in
-    let tight : BothTight rows c.in_ok-limits.limits = record { lower = c.in_ok-limits.ensures.lower; upper = c.in_ok-limits.ensures.upper } in
     let bare : AllBare rows = rw c.in_default.is at c.in_ok-found.ensures.none in
     let forms : s.forms ≡ c.args.basis.now.forms = c.pivots.ensures.forms ∙ c.in_ok-settle.ensures.forms in
     let read : AllRead s.forms rows = subst (λ (f : List Parts). AllRead f rows) (sym forms) c.requires.read in
-    IfOk-weaker c.pivots.result _ _ (λ found. none_weaker found (λ all. all_solved s rows c.in_ok-limits.limits read bare tight all)) c.pivots.ensures.solved
+    IfOk-weaker c.pivots.result _ _ (λ found. none_weaker found (λ all. all_solved s rows c.args.limits.now read bare c.requires.tightest all)) c.pivots.ensures.solved
 
 pub returns-in_err-settle-clause-rests : goal.returns-in_err-settle-clause-rests
 returns-in_err-settle-clause-rests c = λ ever among rests.
-    let rows = c.args.rows.now in let limits = c.in_ok-limits.limits in
-    let tight : BothTight rows limits = record { lower = c.in_ok-limits.ensures.lower; upper = c.in_ok-limits.ensures.upper } in
-    rests_settled ever rows limits c.args.basis.now c.settle.new.basis c.requires.read (both_given rows limits tight)
+    let rows = c.args.rows.now in let limits = c.args.limits.now in
+    rests_settled ever rows limits c.args.basis.now c.settle.new.basis c.requires.read c.requires.tightest.given
     c.in_err-settle.ensures.forms c.in_err-settle.ensures.settles among rests
 
 pub returns-clause-rests : goal.returns-clause-rests
 returns-clause-rests c = λ ever among rests.
-    let rows = c.args.rows.now in let limits = c.in_ok-limits.limits in
-    let tight : BothTight rows limits = record { lower = c.in_ok-limits.ensures.lower; upper = c.in_ok-limits.ensures.upper } in
-    let given = both_given rows limits tight in
+    let rows = c.args.rows.now in let limits = c.args.limits.now in
+    let given = c.requires.tightest.given in
     let forms = c.in_ok-settle.ensures.forms in
     rests_settled ever rows limits c.settle.new.basis c.pivots.new.basis (subst (λ (f : List Parts). AllRead f rows) (sym forms) c.requires.read) given
     c.pivots.ensures.forms c.pivots.ensures.settles among
     (rests_settled ever rows limits c.args.basis.now c.settle.new.basis c.requires.read given forms c.in_ok-settle.ensures.settles among rests)
 
 pub settle-requires : goal.settle-requires
-settle-requires c k h = c.in_default-crossed.ensures.none k (let n = c.len-2.ensures in omega arith)
+settle-requires c k h = c.in_default-crossed.ensures.none k (let n = c.len.ensures in omega arith)
 
 pub pivots-requires-clause-uncrossed : goal.pivots-requires-clause-uncrossed
 pivots-requires-clause-uncrossed c k h =
-    c.in_default-crossed.ensures.none k (rw c.len-2.ensures (subst (λ (f : List Parts). k < length f) c.in_ok-settle.ensures.forms h))
+    c.in_default-crossed.ensures.none k (rw c.len.ensures (subst (λ (f : List Parts). k < length f) c.in_ok-settle.ensures.forms h))

@@ -6,7 +6,7 @@ use Rattle.lq_simplex.proofs.tableau.TableauLinearEngine.assert_row.Goals as goa
 
 pub returns-in-Ok-clause-handed : goal.returns-in-Ok-clause-handed
 returns-in-Ok-clause-handed c = λ rows h.
-    let t : Table = record { system = c.self.inside.basis; rows = c.self.inside.rows.items; found = c.self.inside.found.items; answer = c.self.inside.answer; limit = c.self.inside.limit } in
+    let t : Table = record { system = c.self.inside.basis; rows = c.self.inside.rows.items; limits = c.self.inside.limits; found = c.self.inside.found.items; answer = c.self.inside.answer; limit = c.self.inside.limit } in
     let before : Handed t rows = subst (λ u. Handed u rows) (sym c.self.view_is) h in
     record {
       forms = c.in-Ok.ensures.forms rows before.forms;
@@ -16,7 +16,7 @@ returns-in-Ok-clause-handed c = λ rows h.
 
 pub returns-in-Err-clause-refused : goal.returns-in-Err-clause-refused
 returns-in-Err-clause-refused c = λ rows h.
-    let t : Table = record { system = c.self.inside.basis; rows = c.self.inside.rows.items; found = c.self.inside.found.items; answer = c.self.inside.answer; limit = c.self.inside.limit } in
+    let t : Table = record { system = c.self.inside.basis; rows = c.self.inside.rows.items; limits = c.self.inside.limits; found = c.self.inside.found.items; answer = c.self.inside.answer; limit = c.self.inside.limit } in
     let before : Handed t rows = subst (λ u. Handed u rows) (sym c.self.view_is) h in
     record {
       forms = rw c.in-Err.ensures.refused before.forms;
