@@ -1,3 +1,5 @@
 mod Adding
 mod Cells
 mod Loops
+mod Rows
+mod Walked

@@ -4,3 +4,4 @@ pub mod Inside
 pub mod Views
 pub mod Growing
 pub mod Laws
+pub mod Walking

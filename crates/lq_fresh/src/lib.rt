@@ -4,8 +4,11 @@
 mod fields;
 mod laws;
 mod matrix;
+mod simple;
 mod templates;
+mod walk;
 
 pub use fields::{Constructor, Datatypes, Field};
 pub use laws::cells_are_of_shapes;
+pub use simple::Given;
 pub use templates::Templates;
