@@ -1,7 +1,7 @@
 -- Rows of templates: what was made so far, of a whole that is still to be finished.
 use Rattle.std.proofs.Common.{◌≡◌, ◌∙◌, ℕ, zero, suc, ◌+◌, ◌<◌, ◌≤◌, List, [], ◌∷◌, ◌++◌, All, length, map, drop, get_or, refl, sym, ap, ap₂, subst, append_assoc, arith}
 use Rattle.std.proofs.lemmas.List.{append-nil, map_push}
-use Rattle.std.proofs.lemmas.List.Elements.{All-head, All-nil, All-push, All-tail}
+use Rattle.std.proofs.lemmas.List.Elements.{All-head, All-nil, All-push, All-tail, All-weaker}
 use Rattle.lq_instances.specs.Scopes.{Scope}
 use Rattle.lq_parts.specs.Part.{Scopes}
 use Rattle.lq_pred.specs.declared.symbol.Symbol.TheVariants.{Position}
@@ -173,6 +173,9 @@ pub above_low : (n : ℕ) (ps : List ℕ) → All (λ p. p < n) ps → above ps 
 above_low n [] h = omega arith
 above_low n (p ∷ ps) h =
     let k : p < n = All-head (λ q. q < n) p ps h in let rest = above_low n ps (All-tail (λ q. q < n) p ps h) in omega arith
+
+pub parts_there : (n m : ℕ) (ps : List ℕ) → n < m → All (λ p. p < n) ps → All (λ p. p < m) ps
+parts_there n m ps l h = All-weaker (λ p. p < n) (λ p. p < m) (λ p k. omega arith) ps h
 
 -- ---- loops over the parts of a type
 

@@ -27,7 +27,7 @@ use Rattle.lq_templates.specs.Scopes.{Unknown, with_argument, with_symbol}
 use Rattle.lq_tree.specs.MlType as ml
 use Rattle.lq_tree.specs.MlType.{MlType, MlTypes}
 use Rattle.lq_tree.specs.Types.{Signature}
-use Rattle.lq_fresh.specs.Fields.{cells_of_constructors, shapes_of}
+use Rattle.lq_fresh.specs.Fields.{Field, cells_of_constructors, shapes_of}
 use Rattle.lq_fresh.specs.Growing.{Longer-refl, Longer-trans, made_both, made_count, made_nothing, top_parts, top_unknowns}
 use Rattle.lq_fresh.specs.Views.{all_types, constructors_of, scopes_of, shape_if, unknowns_of, Describes, IsGrown, IsMade}
 use Rattle.lq_fresh.specs.Walking.{arguments_wanted, components_wanted, form_wanted, template_wanted, AreTemplates, IsForm, IsTemplate}
@@ -232,21 +232,21 @@ module _ (D : Datatypes) where
       record { there = p.there; grown = p.grown; refined = λ g ordered d S. ap tuple_of (p.refined g ordered d S); made = p.made }
 
   pub data_made : (old mid new : Templates) (c : Name) (v : Vec ℕ Global) (m : Matrix) (Γ : Scope) (xs : List (Option ℕ)) (ts : MlTypes)
-      → AreTemplates D old mid v.items (arguments_wanted (length (unknowns_of old)) Γ ts)
-      → matrix_view m ≡ (cells_of_constructors (length (unknowns_of mid)) c.0 (shapes_of ts) (constructors_of D c.0)).matrix
-      → IsMade mid new (cells_of_constructors (length (unknowns_of mid)) c.0 (shapes_of ts) (constructors_of D c.0)).unknowns
+      (ss : List shapes.Shape) (ks : List (ℕ × List Field)) → AreTemplates D old mid v.items (arguments_wanted (length (unknowns_of old)) Γ ts)
+      → ss ≡ shapes_of ts → ks ≡ constructors_of D c.0 → matrix_view m ≡ (cells_of_constructors (length (unknowns_of mid)) c.0 ss ks).matrix
+      → IsMade mid new (cells_of_constructors (length (unknowns_of mid)) c.0 ss ks).unknowns
       → IsForm D old new (form.Data c v m) (form_wanted (length (unknowns_of old)) Γ xs (ml.named c.0 ts))
-  data_made old mid new c v m Γ xs ts p matrix made =
+  data_made old mid new c v m Γ xs ts ss ks p shape described matrix made =
       let n : ℕ = length (unknowns_of old) in
       let k : ℕ = length (unknowns_of mid) in
       let us : Signature → (ℕ → List ℕ) → List Unknown = λ g ordered. (arguments g ordered n Γ ts).unknowns in
-      let later : IsGrown mid new = grown_made mid new (cells_of_constructors k c.0 (shapes_of ts) (constructors_of D c.0)).unknowns made in
+      let later : IsGrown mid new = grown_made mid new (cells_of_constructors k c.0 ss ks).unknowns made in
       let same : (g : Signature) (ordered : ℕ → List ℕ) (d : Describes D g ordered)
-      → cells_of_constructors k c.0 (shapes_of ts) (constructors_of D c.0)
-      ≡ constructor_cells g (n + length (us g ordered)) c.0 ts (ordered c.0) =
+      → cells_of_constructors k c.0 ss ks ≡ constructor_cells g (n + length (us g ordered)) c.0 ts (ordered c.0) =
       λ g ordered d.
-      constructors_same c.0 ts g k (ordered c.0) (constructors_of D c.0) (d c.0)
-      ∙ ap (λ i. constructor_cells g i c.0 ts (ordered c.0)) (made_count old mid (us g ordered) (p.made g ordered d)) in
+      ap₂ (cells_of_constructors k c.0) shape described
+      ∙ (constructors_same c.0 ts g k (ordered c.0) (constructors_of D c.0) (d c.0)
+      ∙ ap (λ i. constructor_cells g i c.0 ts (ordered c.0)) (made_count old mid (us g ordered) (p.made g ordered d))) in
       record {
         there = rows_there mid new v.items later p.there;
         grown = grown_both old mid new p.grown later;

@@ -1,9 +1,7 @@
 use Rattle.std.proofs.Common.{◌≡◌, ◌∙◌, ℕ, ◌<◌, List, [], All, length, map, get_or, sym, ap, ap₂, subst, arith}
-use Rattle.std.proofs.lemmas.List.Elements.{All-weaker}
 use Rattle.lq_refinements.specs.Forms.{binder_view}
 use Rattle.lq_refinements.specs.declared.forms.Form.TheVariants as made
 use Rattle.lq_sorts.specs.Shapes.{shape_of}
-use Rattle.lq_templates.specs.Cells.{Cells}
 use Rattle.lq_templates.specs.Fresh as templates
 use Rattle.lq_templates.specs.Scopes.{with_argument}
 use Rattle.lq_tree.specs.MlType as ml
@@ -12,11 +10,10 @@ use Rattle.lq_types.specs.Heads.{each}
 use Rattle.lq_types.specs.Nodes as types
 use Rattle.lq_types.specs.Seen.{node_parts, node_type}
 use Rattle.lq_types.specs.Whole.{types_of}
-use Rattle.lq_fresh.specs.Fields.{cells_of_constructors, shapes_of}
 use Rattle.lq_fresh.specs.Growing.{scope_kept, scope_there}
-use Rattle.lq_fresh.specs.Views.{constructor_view, constructors_of, scope_at, scopes_of, shape_if, unknowns_of, IsMade}
+use Rattle.lq_fresh.specs.Views.{constructor_view, scope_at, scopes_of, shape_if, unknowns_of}
 use Rattle.lq_fresh.specs.Walking.{above, arguments_wanted, components_wanted, form_wanted, IsForm}
-use Rattle.lq_fresh.proofs.Rows.{above_low, above_part, arguments_next, arguments_rest, components_next, components_rest, parts_end, position_added, rows_all, rows_begin, RowsDone}
+use Rattle.lq_fresh.proofs.Rows.{above_low, above_part, arguments_next, arguments_rest, components_next, components_rest, parts_end, parts_there, position_added, rows_all, rows_begin, RowsDone}
 use Rattle.lq_fresh.proofs.Walked.{data_made, function_made, map_made, template_made}
 use Rattle.lq_fresh.proofs.templates.Templates.+walk.Goals as goal
 
@@ -48,42 +45,33 @@ function-returns t c =
 
 pub data-returns : goal.data-returns
 data-returns t c =
-    let D = c.args.given.now.datatypes.now in
     let old = c.args.self.now in
-    let mid = c.arguments.new.self in
-    let new = c.matrix_of.new.self in
-    let d = c.args.name.0 in
-    let ts = each (types.at (types_of c.args.given.now.types.now)) c.args.parts.now in
-    let k = length (unknowns_of mid) in
-    let same : cells_of_constructors k d (map shape_if c.as_slice.result.now) (map constructor_view c.of-constructors.result.now)
-    ≡ cells_of_constructors k d (shapes_of ts) (constructors_of D d) =
-    ap₂ (cells_of_constructors k d) (ap (map shape_if) c.as_slice.ensures.value ∙ c.in_ok-shapes.ensures) c.of-constructors.ensures in
-    data_made D old mid new c.args.name c.in_ok-arguments.arguments c.in_ok-matrix.matrix (scope_at old c.args.scope) [] ts c.in_ok-arguments.ensures
-    (c.in_ok-matrix.ensures.matrix ∙ ap (λ (a : Cells). a.matrix) same)
-    (subst (λ (a : Cells). IsMade mid new a.unknowns) same c.in_ok-matrix.ensures.made)
+    data_made c.args.given.now.datatypes.now old c.arguments.new.self c.matrix_of.new.self c.args.name c.in_ok-arguments.arguments
+    c.in_ok-matrix.matrix (scope_at old c.args.scope) [] (each (types.at (types_of c.args.given.now.types.now)) c.args.parts.now)
+    (map shape_if c.as_slice.result.now) (map constructor_view c.of-constructors.result.now) c.in_ok-arguments.ensures
+    (ap (map shape_if) c.as_slice.ensures.value ∙ c.in_ok-shapes.ensures) c.of-constructors.ensures c.in_ok-matrix.ensures.matrix
+    c.in_ok-matrix.ensures.made
 
 -- ---- the form of each type
 
 pub form-components-requires : goal.form-components-requires
 form-components-requires t c =
-    let n = length (types_of c.args.given.now.types.now) in
+    let at = c.args.at in
     let ps = c.in-Tuple.parts.now in
-    let earlier : All (λ p. p < c.args.at) ps = subst (λ x. All (λ p. p < c.args.at) (node_parts x)) c.in-Tuple.is c.node.ensures.earlier in
-    let low = above_low c.args.at ps earlier in
-    let there : c.args.at < n = c.requires.type_there in (
+    let earlier : All (λ p. p < at) ps = subst (λ x. All (λ p. p < at) (node_parts x)) c.in-Tuple.is c.node.ensures.earlier in
+    let low = above_low at ps earlier in (
       (let e = c.decreases in omega (arith, low, e)),
-      (All-weaker (λ p. p < c.args.at) (λ p. p < n) (λ p l. omega (arith, l, there)) ps earlier, c.requires.scope),
+      (parts_there at (length (types_of c.args.given.now.types.now)) ps c.requires.type_there earlier, c.requires.scope),
     )
 
 pub form-data-requires : goal.form-data-requires
 form-data-requires t c =
-    let n = length (types_of c.args.given.now.types.now) in
+    let at = c.args.at in
     let ps = c.in-Named.parts.now in
-    let earlier : All (λ p. p < c.args.at) ps = subst (λ x. All (λ p. p < c.args.at) (node_parts x)) c.in-Named.is c.node.ensures.earlier in
-    let low = above_low c.args.at ps earlier in
-    let there : c.args.at < n = c.requires.type_there in (
+    let earlier : All (λ p. p < at) ps = subst (λ x. All (λ p. p < at) (node_parts x)) c.in-Named.is c.node.ensures.earlier in
+    let low = above_low at ps earlier in (
       (let e = c.decreases in omega (arith, low, e)),
-      (All-weaker (λ p. p < c.args.at) (λ p. p < n) (λ p l. omega (arith, l, there)) ps earlier, c.requires.scope),
+      (parts_there at (length (types_of c.args.given.now.types.now)) ps c.requires.type_there earlier, c.requires.scope),
     )
 
 pub form-template-requires-in-Map : goal.form-template-requires-in-Map
