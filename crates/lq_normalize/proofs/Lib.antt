@@ -8,4 +8,5 @@ pub mod RowSteps
 pub mod Shapes
 pub mod Steps
 pub mod Taking
+pub mod Types
 pub mod Whole

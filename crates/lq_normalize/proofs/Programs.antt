@@ -15,7 +15,8 @@ use Rattle.lq_typed.specs.Programs.{AnnotatedIsNeverStuck}
 use Rattle.lq_normal.specs.OnePass.{OnePassIsBoth, normal, tree_of}
 use Rattle.lq_normalised.specs.Forming.{Formed, block_of, body_under, formed}
 use Rattle.lq_normalised.specs.Rules.{has_rules, item_has_rules, items_have_rules, PassAgrees}
-use Rattle.lq_normalize.specs.Made.{HaveTypes, KeepOutcomes}
+use Rattle.lq_normal_types.specs.Programs.{HaveTypes}
+use Rattle.lq_normalize.specs.Made.{KeepOutcomes}
 use Rattle.lq_normalize.specs.Program.{formed_body, formed_function, formed_item, formed_program, next_behind}
 use Rattle.lq_normalize.proofs.Nexts.{goes}
 

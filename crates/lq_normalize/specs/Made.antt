@@ -1,10 +1,13 @@
 -- A program in normal form as it stands in memory, and the names that were made for it.
-use Rattle.std.specs.Prelude.{◌≡◌, ℕ, ◌+◌, ◌-◌, ◌||◌, nat_lt, not, List, [], ◌++◌, Option, Some, None, if◌then◌else◌}
+use Rattle.std.specs.Prelude.{ℕ, ◌+◌, ◌-◌, ◌||◌, nat_lt, not, List, [], Option, Some, None, if◌then◌else◌}
 use Rattle.lq_block.specs.BlockView.{definitions_view}
 use Rattle.lq_model.specs.FromTree.{items_of}
 use Rattle.lq_model.specs.Outcomes.{HaveSameOutcomes}
 use Rattle.lq_tree.specs.Items.{ItemTree}
-use Rattle.lq_tree.specs.TypingRules.{Annotation, IsTyped}
+use Rattle.lq_tree.specs.Types.{Signature, KnowsLists}
+use Rattle.lq_tree.specs.TypingRules.{Annotation, ItemsAre}
+use Rattle.lq_normal_types.specs.Made.{with_made}
+use Rattle.lq_normal_types.specs.Programs.{items_made, NormalItemsAre}
 use Rattle.lq_normalize.specs.declared.program.NormalProgram.{NormalProgram}
 
 -- the definitions, the first made name, and the name behind the last one
@@ -20,10 +23,12 @@ normal_view p = record { items = definitions_view p.definitions.items; first_mad
 abbrev pub made_of : Normal → ℕ → Option ℕ
 made_of p x = if nat_lt x p.first_made || not (nat_lt x p.next) then None else Some (x - p.first_made + 1)
 
--- The definitions have types: an annotation of them, behind definitions of datatypes alone, obeys the rules.
-abbrev pub HaveTypes : List ItemTree → Type 0
-HaveTypes is = (n : Annotation) × (types : List ItemTree) × (items_of types ≡ []) × IsTyped n (types ++ is)
-
 -- as programs they have the same outcomes
 abbrev pub KeepOutcomes : List ItemTree → List ItemTree → Type 0
 KeepOutcomes is js = HaveSameOutcomes (items_of is) (items_of js)
+
+-- Where an annotation of the definitions obeys the rules of types, in a signature that knows lists, the others obey them, where made names
+-- from a number on have the types of what they are bound to, and all else has those of the annotation.
+abbrev pub KeepTypes : ℕ → List ItemTree → List ItemTree → Type 0
+KeepTypes k is js = (g : Signature) (n : Annotation) → KnowsLists g → ItemsAre g n [] is
+    → NormalItemsAre g (with_made k (items_made g n.nodes k is) n) [] js

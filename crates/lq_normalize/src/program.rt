@@ -4,7 +4,9 @@ ghost use Rattle.lq_block.specs.BlockView.{definitions_view};
 ghost use Rattle.lq_scoped.specs.Whole.{scoped_view};
 ghost use Rattle.lq_normal.specs.Flattening.{normal_of};
 ghost use Rattle.lq_normalised.specs.Rules.{items_have_rules};
-ghost use Rattle.lq_normalize.specs.Made.{made_of, normal_view, HaveTypes, KeepOutcomes};
+ghost use Rattle.lq_normal_types.specs.Programs.{HaveTypes};
+ghost use Rattle.lq_normal_types.specs.Written.{ItemsAreWritten};
+ghost use Rattle.lq_normalize.specs.Made.{made_of, normal_view, KeepOutcomes, KeepTypes};
 ghost use Rattle.lq_normalize.specs.Program.{next_behind_all};
 
 use crate::definitions::Definitions;
@@ -12,6 +14,7 @@ use lq_binders::scoped_are_apart;
 use lq_block::{Definition, drop_definitions};
 use lq_name::Binder;
 use lq_normal::{normal_form_keeps_outcomes, one_pass};
+use lq_normal_types::{programs_keep_types, scoped_programs_are_plain};
 use lq_normalised::pass_agrees;
 use lq_scoped::Scoped;
 use lq_typed::typed_programs;
@@ -75,6 +78,9 @@ pub fn normal(alloc: Global, scoped: &Scoped) -> Result<NormalProgram, AllocErro
         ≡ normal_of (length (scoped_view scoped.now).sources) (scoped_view scoped.now).items) }
     ensures same { IfOk result (λ p. items_have_rules (scoped_view scoped.now).items ≡ true
         → HaveTypes (scoped_view scoped.now).items → KeepOutcomes (scoped_view scoped.now).items (normal_view p).items) }
+    ensures types { IfOk result (λ p. items_have_rules (scoped_view scoped.now).items ≡ true
+        → ItemsAreWritten (scoped_view scoped.now).items
+        → KeepTypes (length (scoped_view scoped.now).sources) (scoped_view scoped.now).items (normal_view p).items) }
     ensures first_made { IfOk result (λ p. (normal_view p).first_made ≡ length (scoped_view scoped.now).sources) }
     ensures made { IfOk result (λ p. (normal_view p).next
         ≡ next_behind_all (length (scoped_view scoped.now).sources) (scoped_view scoped.now).items) }
@@ -84,6 +90,8 @@ pub fn normal(alloc: Global, scoped: &Scoped) -> Result<NormalProgram, AllocErro
     scoped_are_apart();
     normal_form_keeps_outcomes();
     typed_programs();
+    programs_keep_types();
+    scoped_programs_are_plain();
     let first_made = first_made(scoped)?;
     let done = Vec::new(alloc);
     let mut definitions = Definitions {

@@ -4,6 +4,7 @@ use Rattle.lq_scoped.specs.Whole.{scoped_view}
 use Rattle.lq_normalize.specs.Program.{formed_program, next_behind_all}
 use Rattle.lq_scoped.specs.Views.{scoped_items}
 use Rattle.lq_normalize.proofs.Programs.{keeps_outcomes}
+use Rattle.lq_normalize.proofs.Types.{keeps_types}
 use Rattle.lq_normalize.proofs.Whole.{more_defined, more_named, program_made, all_named}
 use Rattle.lq_normalize.proofs.program.normal.Goals as goal
 
@@ -35,3 +36,9 @@ returns-clause-same c rules types =
     let fine = c.scoped_are_apart.ensures s c.items-items.ensures.scoped in
     keeps_outcomes c.normal_form_keeps_outcomes.ensures c.typed_programs.ensures.never_stuck (length s.sources) s.items (definitions_view c.loop-item.definitions.done.items) fine.0 fine.1
     (returns-clause-tree c rules) types
+
+pub returns-clause-types : goal.returns-clause-types
+returns-clause-types c rules written =
+    let s = scoped_view c.args.scoped.now in
+    let plain = c.scoped_programs_are_plain.ensures s c.items-items.ensures.scoped written in
+    keeps_types c.one_pass.ensures c.programs_keep_types.ensures (length s.sources) s.items (definitions_view c.loop-item.definitions.done.items) plain (returns-clause-tree c rules)
