@@ -17,7 +17,7 @@ use Rattle.lq_pred.specs.declared.pred.Pred.{Pred}
 use Rattle.lq_pred.specs.declared.pred.Stop.{Stop}
 use Rattle.lq_pred.specs.declared.pred.Stop.TheVariants.{Number, Gather, Pivots, Memory}
 use Rattle.lq_prove.specs.Answers.{IsCounterexample}
-use Rattle.lq_prove.specs.Stopping.{StopsProving}
+use Rattle.lq_prove.specs.Stopping.{IsSmallDifference, StopsProving, StopsSmall}
 use Rattle.lq_questions.specs.Assigned.{closed_under}
 use Rattle.lq_weakening.specs.Judging.{AreRefuted, FailsThere, HoldsThere, IfUnknown, Instances}
 use Rattle.lq_weakening.specs.declared.judge.Failure.{Failure}
@@ -80,8 +80,8 @@ first_found I cs at p w f h =
 -- ---- stops of the prover
 
 pub may_stop : (limit : ℕ) (I : Instances) (c : Selection) (cs : List Constraint) (at : ℕ) (i : ClosedImplication) (stop : Stop) → at < length cs → IsClosedAs (assigned I c) cs at i
-    → StopsProving limit i stop → MayStop limit I cs at stop
-may_stop limit I c cs at i stop w h s g = by stop s
+    → StopsProving limit i stop → (IsSmallDifference i → StopsSmall stop) → MayStop limit I cs at stop
+may_stop limit I c cs at i stop w h s d g = by stop s d
   where
     t : IsThere cs at
     t = there cs at w
@@ -89,17 +89,23 @@ may_stop limit I c cs at i stop w h s g = by stop s
     is : i ≡ closed_under (assigned I c) t.constraint
     is = closed_as (assigned I c) cs at i t.constraint h t.here
 
-    under : (s : Stop) → StopsProving limit i s → StopsUnder limit I cs at s
-    under s p = record { selection = c; constraint = t.constraint; here = t.here; stops = subst (λ x. StopsProving limit x s) is p }
+    under : (s : Stop) → StopsProving limit i s → (IsSmallDifference i → ⊥) → StopsUnder limit I cs at s
+    under s p n = record {
+      selection = c;
+      constraint = t.constraint;
+      here = t.here;
+      stops = subst (λ x. StopsProving limit x s) is p;
+      large = subst (λ x. IsSmallDifference x → ⊥) is n;
+    }
 
     fits : CanBeGathered i
     fits = subst CanBeGathered (sym is) (some_gather I c t.constraint (g at t.constraint t.here))
 
-    by : (s : Stop) → StopsProving limit i s → StopsAsking limit I cs at s
-    by (Gather p) f = first_not (sources_of i) (formula_of p) f ((sources_gathered i).1 fits)
-    by (Number e) f = under (Number e) f
-    by (Pivots n) f = under (Pivots n) f
-    by Memory f = tt
+    by : (s : Stop) → StopsProving limit i s → (IsSmallDifference i → StopsSmall s) → StopsAsking limit I cs at s
+    by (Gather p) f d = first_not (sources_of i) (formula_of p) f ((sources_gathered i).1 fits)
+    by (Number e) f d = under (Number e) f d
+    by (Pivots n) f d = under (Pivots n) f d
+    by Memory f d = tt
 
 -- ---- answers of the prover
 

@@ -5,19 +5,21 @@ use Rattle.lq_parts.specs.Flowing.{Selection, assigned}
 use Rattle.lq_pred.specs.PredView.{formula_of}
 use Rattle.lq_pred.specs.declared.pred.Stop.{Stop}
 use Rattle.lq_pred.specs.declared.pred.Stop.TheVariants.{Number, Gather, Pivots, Memory}
-use Rattle.lq_prove.specs.Stopping.{StopsProving}
+use Rattle.lq_prove.specs.Stopping.{IsSmallDifference, StopsProving}
 use Rattle.lq_questions.specs.Assigned.{closed_under}
 use Rattle.lq_weakening.specs.Judging.{Instances}
 use Rattle.lq_weakening.specs.declared.error.SolveError.{SolveError}
 use Rattle.lq_weakening.specs.declared.error.SolveError.TheVariants as error
 use Rattle.lq_weaken.specs.Gathering.{AreGathered, IsFirstUngathered}
 
--- the prover, with this limit on pivots, may stop so on the implication of this number under some of its instances
+-- The prover, with this limit on pivots, may stop so on the implication of this number under some of its instances. Under these it isn't one
+-- of differences whose sizes are small.
 pub record StopsUnder (limit : ℕ) (I : Instances) (cs : List Constraint) (at : ℕ) (stop : Stop) : Type 0 where
   pub selection : Selection
   pub constraint : Constraint
   pub here : slice_get cs at ≡ Some constraint
   pub stops : StopsProving limit (closed_under (assigned I selection) constraint) stop
+  pub large : IsSmallDifference (closed_under (assigned I selection) constraint) → ⊥
 
 -- with what a question about an implication stops, where all can be gathered
 abbrev pub StopsAsking : ℕ → Instances → List Constraint → ℕ → Stop → Type 0
