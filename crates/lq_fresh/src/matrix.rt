@@ -246,6 +246,7 @@ impl Templates {
 
     /// The matrix of a template of a datatype with these constructors, where its arguments have these shapes. Its unknowns come behind those
     /// that there are.
+    #[inline(never)]
     pub fn matrix_of(
         &mut self,
         alloc: Global,

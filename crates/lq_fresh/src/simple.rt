@@ -41,6 +41,7 @@ pub(crate) fn shape_at(types: &TypeTable, at: u32) -> Option<Shape>
 }
 
 /// The shapes of types, in their order.
+#[inline(never)]
 pub(crate) fn shapes_at(
     alloc: Global,
     types: &TypeTable,

@@ -92,6 +92,7 @@ impl Templates {
     }
 
     /// The type of this form, with an unknown at its top where predicates speak of the shape.
+    #[inline(never)]
     pub fn topped(
         &mut self,
         alloc: Global,

@@ -1,4 +1,4 @@
-// The walk over a simple type that makes its template.
+// The walk over a simple type that makes its template. It goes as deep as the type is; what isn't inlined keeps its frames small.
 use crate::matrix::position_behind;
 use crate::simple::{Given, first_name, later_names, shape_at, shapes_at};
 use crate::templates::Templates;
