@@ -1,5 +1,5 @@
 -- Implications that are added behind others, one list after another.
-use Rattle.std.proofs.Common.{◌≡◌, ℕ, zero, suc, ◌+◌, ◌-◌, ◌^◌, ◌<◌, min, List, [], ◌∷◌, ◌++◌, length, take, refl, sym, ap, ap₂, subst, ◌∙◌, append_assoc, arith}
+use Rattle.std.proofs.Common.{Result, Ok, Err, OnOk, ◌≡◌, ℕ, zero, suc, ◌+◌, ◌-◌, ◌^◌, ◌<◌, min, List, [], ◌∷◌, ◌++◌, length, take, refl, sym, ap, ap₂, subst, ◌∙◌, append_assoc, arith}
 use Rattle.std.proofs.lemmas.List.{append-nil, length-append, length-map, take_all}
 use Rattle.lq_parts.specs.Part.{Parts}
 use Rattle.lq_subtype.specs.Implication.{Implication, Origin, goals}
@@ -23,6 +23,11 @@ more-both a b c d m n k l xs ys p e f q = record {
       count-after (2 ^ 64 - 1) m (length xs) k l (length ys) (f ∙ p.counted) q.counted ∙ ap (λ z. min (m + z) (2 ^ 64 - 1)) (sym s);
 }
 
+-- first these, then those, where nothing was added behind them
+pub more-then : (a b c d : List Implication) (m n k l : ℕ) (xs ys : List Implication) → IsMore a b m n xs → IsMore b c n k ys → d ≡ c → l ≡ k → IsMore a d m l (xs ++ ys)
+more-then a b c d m n k l xs ys p q e f =
+    let both = more-both a b b c m n n k xs ys p refl refl q in record { kept = e ∙ both.kept; counted = f ∙ both.counted }
+
 pub appends-none : (list : Implications) → Appends list list []
 appends-none list =
     let n : length (implications_of list) ≡ length list.items.items = length-map list.items.items _ in
@@ -44,3 +49,8 @@ goals-more before now after m n k hs hs' ls ls' qs qs' o e f h l q a c =
 
 pub more-same : (before after : List Implication) (m k : ℕ) (xs ys : List Implication) → xs ≡ ys → IsMore before after m k xs → IsMore before after m k ys
 more-same before after m k xs ys e h = subst (IsMore before after m k) e h
+
+-- what two clauses on a result give together
+pub on-ok-both : {T E P Q R : Type 0} (r : Result T E) → OnOk r P → OnOk r Q → (P → Q → R) → OnOk r R
+on-ok-both (Ok x) p q f = f p q
+on-ok-both (Err e) p q f = tt

@@ -3,6 +3,9 @@ pub mod Lengths
 pub mod Entries
 pub mod Contexts
 pub mod Again
+pub mod Erasing
+pub mod Matching
 pub mod Rows
 pub mod Shaping
 pub mod Sizing
+pub mod Splits

@@ -83,7 +83,7 @@ pub fn with_binder(
 }
 
 // The position behind this one. Past 2^32 - 1 it answers that there is no memory.
-fn next_position(position: u32) -> Result<u32, AllocError>
+pub(crate) fn next_position(position: u32) -> Result<u32, AllocError>
     ensures { IfOk result (λ next. next ≡ suc position) }
 {
     match position.checked_add(1) {

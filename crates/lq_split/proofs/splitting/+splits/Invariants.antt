@@ -1,0 +1,61 @@
+use Rattle.std.proofs.Common.{◌≡◌, ◌+◌, ◌*◌, ◌<◌, [], length, take}
+use Rattle.lq_contexts.specs.Growing.{HasMore}
+use Rattle.lq_implications.specs.Views.{environment_at, environment_lists}
+use Rattle.lq_refined.specs.Context.{Context, hypotheses_of}
+use Rattle.lq_refined.specs.Refined.{all_erased, erased}
+use Rattle.lq_refinements.specs.Forms.{each, form_type}
+use Rattle.lq_refinements.specs.Whole.{refined_at, types_of, Grows}
+use Rattle.lq_subtype.specs.Splitting.{arguments, components}
+use Rattle.lq_subtype.specs.Subtype.{with_fields}
+use Rattle.lq_split.specs.Appending.{Appends}
+use Rattle.lq_split.specs.Given.{origin_of, scopes_of, Over}
+use Rattle.lq_split.proofs.Sizing.{size, row_size}
+use Rattle.lq_split.proofs.splitting.+splits.Given as goal
+
+abbrev pub decreases-subtypes : goal.decreases-subtypes
+decreases-subtypes l = 4 * size (erased (refined_at (scopes_of l.given.now) l.types.now l.sides.1)) + 1
+
+abbrev pub decreases-inside : goal.decreases-inside
+decreases-inside l = 4 * size (erased (form_type (types_of (scopes_of l.given.now) l.types.now) l.right.now []))
+
+abbrev pub decreases-functions : goal.decreases-functions
+decreases-functions l =
+    let S = scopes_of l.given.now in
+    4 * (size (erased (refined_at S l.types.now l.right.argument)) + size (erased (refined_at S l.types.now l.right.result))) + 3
+
+abbrev pub decreases-arrays : goal.decreases-arrays
+decreases-arrays l = 4 * size (erased (refined_at (scopes_of l.given.now) l.types.now l.elements.1)) + 2
+
+abbrev pub decreases-datatypes : goal.decreases-datatypes
+decreases-datatypes l = 4 * row_size (all_erased (each (types_of (scopes_of l.given.now) l.types.now) l.right.now)) + 1
+
+abbrev pub decreases-arguments : goal.decreases-arguments
+decreases-arguments l = 4 * row_size (all_erased (each (types_of (scopes_of l.given.now) l.types.now) l.right.now))
+
+abbrev pub decreases-components : goal.decreases-components
+decreases-components l = 4 * row_size (all_erased (each (types_of (scopes_of l.given.now) l.types.now) l.right.now))
+
+abbrev pub invariant-arguments-loop-at : goal.invariant-arguments-loop-at
+invariant-arguments-loop-at l =
+    let all = types_of (scopes_of l.given) l.initial.types in
+    record {
+      added : Over l.given l.initial.types l.initial.list l.env (λ P Γ. Appends l.initial.list l.list
+          (arguments P (origin_of l.given) (all_erased (each all (take l.at l.right))) Γ (each all (take l.at l.left)) (each all (take l.at l.right))));
+      environments : HasMore (environment_lists l.initial.list) (environment_lists l.list);
+      grows : Grows l.initial.types l.types;
+    }
+
+abbrev pub invariant-components-loop-at : goal.invariant-components-loop-at
+invariant-components-loop-at l =
+    let S = scopes_of l.given in
+    let all = types_of S l.initial.types in
+    record {
+      added : Over l.given l.initial.types l.initial.list l.env (λ P Γ. Appends l.initial.list l.list
+          (components P (origin_of l.given) (all_erased (each all (take l.at l.right))) Γ Γ 0 (each all (take l.at l.left)) (each all (take l.at l.right))));
+      position : l.position ≡ l.at;
+      facts : (Γ : Context) → hypotheses_of S Γ ≡ environment_at l.initial.list l.env
+          → hypotheses_of S (with_fields 0 (each all (take l.at l.left)) Γ) ≡ environment_at l.list l.outer;
+      there : l.outer < length (environment_lists l.list);
+      environments : HasMore (environment_lists l.initial.list) (environment_lists l.list);
+      grows : Grows l.initial.types l.types;
+    }

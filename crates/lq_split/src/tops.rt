@@ -1,0 +1,64 @@
+// The implications between the tops of two types.
+ghost use Rattle.std.specs.Prelude.{◌≡◌, ◌<◌, IfOk, OnOk, length};
+ghost use Rattle.lq_implications.specs.Views.{environment_at, environment_lists};
+ghost use Rattle.lq_refined.specs.Context.{Context};
+ghost use Rattle.lq_refinements.specs.Whole.{count_of, refined_at, Grows, IsNode};
+ghost use Rattle.lq_substitution.specs.Views.{scopes_view};
+ghost use Rattle.lq_subtype.specs.Splitting.{tops};
+ghost use Rattle.lq_subtype.specs.Subtype.{facts};
+ghost use Rattle.lq_tree.specs.Types.{Signature};
+ghost use Rattle.lq_split.specs.Appending.{Appends};
+ghost use Rattle.lq_split.specs.Given.{origin_of, scopes_of, setting_of};
+
+use crate::given::Given;
+use lq_implications::Implications;
+use lq_refinements::RefinedTypes;
+use lq_substitution::Scopes;
+use std::alloc::{AllocError, Global};
+
+// The numbers of the same two types where they stand as one level.
+pub(crate) fn exposed(
+    alloc: Global,
+    types: &mut RefinedTypes,
+    scopes: &Scopes,
+    sides: (usize, usize),
+) -> Result<(usize, usize), AllocError>
+    requires left { sides.0 < count_of types.old }
+    requires right { sides.1 < count_of types.old }
+    ensures left { IfOk result (λ made. refined_at (scopes_view scopes.now) types.new made.0
+        ≡ refined_at (scopes_view scopes.now) types.old sides.0) }
+    ensures right { IfOk result (λ made. refined_at (scopes_view scopes.now) types.new made.1
+        ≡ refined_at (scopes_view scopes.now) types.old sides.1) }
+    ensures left_node { IfOk result (λ made. IsNode types.new made.0) }
+    ensures right_node { IfOk result (λ made. IsNode types.new made.1) }
+    ensures left_there { IfOk result (λ made. made.0 < count_of types.new) }
+    ensures right_there { IfOk result (λ made. made.1 < count_of types.new) }
+    ensures grows { Grows types.old types.new }
+{
+    let left = types.expose(alloc, scopes, sides.0)?;
+    let right = types.expose(alloc, scopes, sides.1)?;
+    Ok((left, right))
+}
+
+// Adds the implications of the tops of two types, in an environment.
+pub(crate) fn tops(
+    alloc: Global,
+    list: &mut Implications,
+    types: &RefinedTypes,
+    given: &Given<'_>,
+    sides: (usize, usize),
+    env: u64,
+) -> Result<(), AllocError>
+    requires env { env < length (environment_lists list.old) }
+    requires left { sides.0 < count_of types.now }
+    requires right { sides.1 < count_of types.now }
+    requires left_node { IsNode types.now sides.0 }
+    requires right_node { IsNode types.now sides.1 }
+    ensures added { OnOk result ((g : Signature) (Γ : Context)
+        → facts (setting_of given.now g) Γ ≡ environment_at list.old env → Appends list.old list.new
+        (tops (setting_of given.now g) (origin_of given.now) Γ (refined_at (scopes_of given.now) types.now sides.0)
+        (refined_at (scopes_of given.now) types.now sides.1))) }
+    ensures environments { environment_lists list.new ≡ environment_lists list.old }
+{
+    lq_contexts::tops(alloc, list, types, env, sides, given.origin)
+}
