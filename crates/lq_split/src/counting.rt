@@ -1,5 +1,5 @@
 // How many implications a subtyping has, without making them.
-ghost use Rattle.std.specs.Prelude.{◌≡◌, ◌<◌, ◌≤◌, ◌-◌, ◌^◌, [], ◌∷◌, All, IfOk, length, map, min};
+ghost use Rattle.std.specs.Prelude.{◌≡◌, ◌<◌, ◌≤◌, ◌-◌, ◌^◌, [], ◌∷◌, ◌++◌, false, All, IfOk, length, map, min};
 ghost use Rattle.lq_refined.specs.Context.{Context};
 ghost use Rattle.lq_refined.specs.Refined.{erased};
 ghost use Rattle.lq_refinements.specs.Forms.{each, form_rows, form_type, matrix_view};
@@ -168,4 +168,30 @@ pub fn implication_count(
     let right = counts(alloc, types, scopes, sides.1)?;
     types.truncate(len);
     Ok(right.right.saturating_add(left.left))
+}
+
+// Whether a subtyping of two types has implications, or the one the other way round.
+pub(crate) fn has_implications(
+    alloc: Global,
+    types: &mut RefinedTypes,
+    scopes: &Scopes,
+    sides: (usize, usize),
+) -> Result<bool, AllocError>
+    requires left { sides.0 < count_of types.old }
+    requires right { sides.1 < count_of types.old }
+    requires same { erased (refined_at (scopes_view scopes.now) types.old sides.0)
+        ≡ erased (refined_at (scopes_view scopes.now) types.old sides.1) }
+    ensures none { IfOk result (λ has. has ≡ false → (P : Setting) (o : Origin) (Γ : Context)
+        → split P o Γ (refined_at (scopes_view scopes.now) types.old sides.0) (refined_at (scopes_view scopes.now) types.old sides.1)
+        ++ split P o Γ (refined_at (scopes_view scopes.now) types.old sides.1) (refined_at (scopes_view scopes.now) types.old sides.0)
+        ≡ []) }
+    ensures grows { Grows types.old types.new }
+{
+    let (left, right) = sides;
+    let there = implication_count(alloc, types, scopes, (left, right))?;
+    if there > 0 {
+        return Ok(true);
+    }
+    let back = implication_count(alloc, types, scopes, (right, left))?;
+    Ok(back > 0)
 }

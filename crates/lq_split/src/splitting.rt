@@ -13,6 +13,7 @@ ghost use Rattle.lq_split.specs.Appending.{Appends};
 ghost use Rattle.lq_split.specs.Fields.{AreThere};
 ghost use Rattle.lq_split.specs.Given.{origin_of, scopes_of, Over};
 
+use crate::counting::has_implications;
 use crate::environments::{next_position, with_name};
 use crate::functions::{Function, results_under};
 use crate::given::Given;
@@ -173,9 +174,41 @@ fn functions(
     subtypes(alloc, list, types, given, sides, (under.env, under.env))
 }
 
-// The elements of arrays may be read and written, so both ways.
+// The elements of arrays may be read and written, so both ways. Where that makes no implications they aren't walked twice, since arrays in
+// arrays double that with each level.
 #[cycle(splits)]
 fn arrays(
+    alloc: Global,
+    list: &mut Implications,
+    types: &mut RefinedTypes,
+    given: &Given<'_>,
+    elements: (usize, usize),
+    env: u64,
+) -> Result<(), AllocError>
+    requires env { env < length (environment_lists list.old) }
+    requires left { elements.0 < count_of types.old }
+    requires right { elements.1 < count_of types.old }
+    requires fields { AreThere (count_of types.old) given.now.fields.now }
+    requires same { erased (refined_at (scopes_of given.now) types.old elements.0)
+        ≡ erased (refined_at (scopes_of given.now) types.old elements.1) }
+    ensures added { OnOk result (Over given.now types.old list.old env (λ P Γ. Appends list.old list.new
+        (split P (origin_of given.now) Γ (refined_at (scopes_of given.now) types.old elements.0)
+        (refined_at (scopes_of given.now) types.old elements.1)
+        ++ split P (origin_of given.now) Γ (refined_at (scopes_of given.now) types.old elements.1)
+        (refined_at (scopes_of given.now) types.old elements.0)))) }
+    ensures environments { HasMore (environment_lists list.old) (environment_lists list.new) }
+    ensures grows { Grows types.old types.new }
+{
+    let scopes = given.scopes;
+    if !has_implications(alloc, types, scopes, elements)? {
+        return Ok(());
+    }
+    both_ways(alloc, list, types, given, elements, env)
+}
+
+// Two types, and the same the other way round.
+#[cycle(splits)]
+fn both_ways(
     alloc: Global,
     list: &mut Implications,
     types: &mut RefinedTypes,

@@ -62,8 +62,8 @@ subtypes-returns-clause-added t c =
 
 -- ---- arrays
 
-pub arrays-returns-clause-added : goal.arrays-returns-clause-added
-arrays-returns-clause-added t c =
+pub both_ways-returns-clause-added : goal.both_ways-returns-clause-added
+both_ways-returns-clause-added t c =
     let given = c.args.given.now in
     let S = scopes_of given in
     let o = origin_of given in
@@ -88,6 +88,61 @@ arrays-returns-clause-added t c =
     (c.in_ok-subtypes.ensures.added g Γ k e Γ e) refl refl
     (a g Γ (knows-grown S t0.rows.items t1.rows.items given.fields.now g grows c.requires.fields k) f Γ f)))
     c.subtypes-2.ensures.added
+
+pub arrays-both_ways-requires : goal.arrays-both_ways-requires
+arrays-both_ways-requires t c =
+    let given = c.args.given.now in
+    let S = scopes_of given in
+    let t0 = c.args.types.now in
+    let t1 = c.has_implications.new.types in
+    let x = c.args.elements.0 in
+    let y = c.args.elements.1 in
+    let grows = c.in_ok-has_implications.ensures.grows in
+    let left : erased (refined_at S t1 x) ≡ erased (refined_at S t0 x) = ap erased (extends-at S t0.rows.items t1.rows.items x grows c.requires.left) in
+    let right : erased (refined_at S t1 y) ≡ erased (refined_at S t0 y) = ap erased (extends-at S t0.rows.items t1.rows.items y grows c.requires.right) in
+    let small : size (erased (refined_at S t1 y)) ≡ size (erased (refined_at S t0 y)) = ap size right in
+    let m : 4 * size (erased (refined_at S t0 y)) + 3 ≡ t = c.decreases in (
+      omega arith,
+      (
+        c.requires.env,
+        (
+          extends-there t0.rows.items t1.rows.items x grows c.requires.left,
+          (
+            extends-there t0.rows.items t1.rows.items y grows c.requires.right,
+            (there-grown t0.rows.items t1.rows.items given.fields.now grows c.requires.fields, left ∙ c.requires.same ∙ sym right),
+          ),
+        ),
+      ),
+    )
+
+pub arrays-returns-then-not-branch-clause-added : goal.arrays-returns-then-not-branch-clause-added
+arrays-returns-then-not-branch-clause-added t c =
+    let given = c.args.given.now in
+    let l0 = c.args.list.now in
+    λ g Γ k e.
+    more-same (implications_of l0) (implications_of l0) (implication_count l0) (implication_count l0) _ _
+    (sym (c.in_ok-has_implications.ensures.none c.if-not-branch.true (setting_of given g) (origin_of given) Γ)) (appends-none l0)
+
+pub arrays-returns-clause-added : goal.arrays-returns-clause-added
+arrays-returns-clause-added t c =
+    let given = c.args.given.now in
+    let S = scopes_of given in
+    let o = origin_of given in
+    let t0 = c.args.types.now in
+    let t1 = c.has_implications.new.types in
+    let l0 = c.args.list.now in
+    let l1 = c.both_ways.new.list in
+    let x = c.args.elements.0 in
+    let y = c.args.elements.1 in
+    let grows = c.in_ok-has_implications.ensures.grows in
+    on_ok_weaker c.both_ways.result
+    (λ a. λ g Γ k e.
+    let P = setting_of given g in
+    more-same (implications_of l0) (implications_of l1) (implication_count l0) (implication_count l1) _ _
+    (ap₂ (λ u v. split P o Γ u v ++ split P o Γ v u) (extends-at S t0.rows.items t1.rows.items x grows c.requires.left)
+    (extends-at S t0.rows.items t1.rows.items y grows c.requires.right))
+    (a g Γ (knows-grown S t0.rows.items t1.rows.items given.fields.now g grows c.requires.fields k) e))
+    c.both_ways.ensures.added
 
 -- ---- functions
 
@@ -321,8 +376,8 @@ components-returns-clause-added t c =
 
 -- ---- what calls ask
 
-pub arrays-subtypes-requires-2 : goal.arrays-subtypes-requires-2
-arrays-subtypes-requires-2 t c =
+pub both_ways-subtypes-requires-2 : goal.both_ways-subtypes-requires-2
+both_ways-subtypes-requires-2 t c =
     let given = c.args.given.now in
     let S = scopes_of given in
     let t0 = c.args.types.now in

@@ -24,7 +24,10 @@ decreases-functions l =
     4 * (size (erased (refined_at S l.types.now l.right.argument)) + size (erased (refined_at S l.types.now l.right.result))) + 3
 
 abbrev pub decreases-arrays : goal.decreases-arrays
-decreases-arrays l = 4 * size (erased (refined_at (scopes_of l.given.now) l.types.now l.elements.1)) + 2
+decreases-arrays l = 4 * size (erased (refined_at (scopes_of l.given.now) l.types.now l.elements.1)) + 3
+
+abbrev pub decreases-both_ways : goal.decreases-both_ways
+decreases-both_ways l = 4 * size (erased (refined_at (scopes_of l.given.now) l.types.now l.elements.1)) + 2
 
 abbrev pub decreases-datatypes : goal.decreases-datatypes
 decreases-datatypes l = 4 * row_size (all_erased (each (types_of (scopes_of l.given.now) l.types.now) l.right.now)) + 1
