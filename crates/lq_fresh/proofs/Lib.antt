@@ -1,5 +1,6 @@
 mod Adding
 mod Cells
+mod Known
 mod Loops
 mod Rows
 mod Walked

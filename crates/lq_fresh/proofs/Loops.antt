@@ -65,7 +65,7 @@ cells_all old new before now whole rest h e =
       subst (λ (c : Cells). now ≡ before ++ c.matrix) (sym all) h.matrix,
     )
 
-one_more : (i : ℕ) → suc i ≡ i + 1
+pub one_more : (i : ℕ) → suc i ≡ i + 1
 one_more i = omega arith
 
 -- ---- loops over parameters, fields and constructors: one more of a list that is left

@@ -2,6 +2,7 @@
 pub mod Fields
 pub mod Inside
 pub mod Views
+pub mod Defined
 pub mod Growing
 pub mod Laws
 pub mod Walking

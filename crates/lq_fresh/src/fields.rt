@@ -20,14 +20,14 @@ pub enum Field {
 /// A constructor with its fields.
 #[derive(Debug, Drop)]
 pub struct Constructor {
-    pub name: Name,
-    pub fields: Vec<Field>,
+    pub(crate) name: Name,
+    pub(crate) fields: Vec<Field>,
 }
 
 /// For each datatype, by its name, its constructors in their order.
 #[derive(Debug, Drop)]
 pub struct Datatypes {
-    pub rows: Vec<Vec<Constructor>>,
+    pub(crate) rows: Vec<Vec<Constructor>>,
 }
 
 impl Datatypes {

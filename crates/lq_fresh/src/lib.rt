@@ -1,6 +1,7 @@
 //! Fresh templates in tables: a refined type with unknowns for a simple type, with the scopes and shapes of its unknowns.
 #![tactic(auto)]
 
+mod defined;
 mod fields;
 mod laws;
 mod matrix;
