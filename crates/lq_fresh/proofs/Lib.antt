@@ -1,5 +1,6 @@
 mod Adding
 mod Cells
+mod Differing
 mod Known
 mod Loops
 mod Rows

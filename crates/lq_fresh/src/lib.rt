@@ -10,6 +10,6 @@ mod templates;
 mod walk;
 
 pub use fields::{Constructor, Datatypes, Field};
-pub use laws::cells_are_of_shapes;
+pub use laws::{cells_are_of_shapes, constructors_differ};
 pub use simple::Given;
 pub use templates::Templates;
