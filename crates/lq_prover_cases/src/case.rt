@@ -1,9 +1,9 @@
 // A case and its answer.
 use crate::error::CaseError;
-use crate::printing::{push_past, push_pred, push_symbol, push_term};
 use crate::proving::{nodes_text, point_text, valid_text, within_text};
 use crate::reading::implication_of;
 use lq_literals::{applications, copy_implication, first_past, flags, objects};
+use lq_notation::{push_past, push_pred, push_symbol, push_term};
 use lq_pred::Closed;
 use std::alloc::{AllocError, Global};
 

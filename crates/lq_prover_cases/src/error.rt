@@ -1,4 +1,5 @@
 // Why a line has no answer.
+use lq_notation::{CheckError, WordError};
 use lq_num::NumberPast;
 use lq_pred::GatherError;
 use std::alloc::{AllocError, AllocFailed};
@@ -40,6 +41,24 @@ impl From<GatherError> for CaseError {
 impl From<NumberPast> for CaseError {
     fn from(past: NumberPast) -> CaseError {
         CaseError::Past(past)
+    }
+}
+
+impl From<WordError> for CaseError {
+    fn from(e: WordError) -> CaseError {
+        match e {
+            WordError::Misplaced => CaseError::NotACase,
+            WordError::Memory => CaseError::Memory,
+        }
+    }
+}
+
+impl From<CheckError> for CaseError {
+    fn from(e: CheckError) -> CaseError {
+        match e {
+            CheckError::Ungathered => CaseError::Ungathered,
+            CheckError::Memory => CaseError::Memory,
+        }
     }
 }
 

@@ -7,10 +7,8 @@ mod case;
 mod checking;
 mod clashes;
 mod error;
-mod meeting;
 mod nodes;
 mod path;
-mod printing;
 mod proving;
 mod reading;
 

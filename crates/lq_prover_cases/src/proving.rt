@@ -4,10 +4,9 @@ ghost use Rattle.lq_prove.specs.Answers.{IsReadable};
 
 use crate::checking::nodes_of_proof;
 use crate::error::{CaseError, given};
-use crate::meeting::refutes;
-use crate::printing::{push_fraction, push_past, push_pred};
 use crate::reading::implication_of;
 use lq_combine::ProofTree;
+use lq_notation::{push_fraction, push_past, push_pred, refutes};
 use lq_point::Point;
 use lq_pred::{Closed, Stop};
 use lq_prove::{Answer, valid};

@@ -1,9 +1,9 @@
 // What `solve` answers, as text.
 use crate::checking::is_checked;
 use crate::error::CaseError;
-use crate::printing::{push_past, push_pred};
 use crate::reading::Problem;
 use lq_instances::Instances;
+use lq_notation::{push_past, push_pred};
 use lq_point::Point;
 use lq_pred::Stop;
 use lq_weaken::{Chosen, SolveError, Solved, solve};

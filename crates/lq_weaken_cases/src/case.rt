@@ -1,8 +1,8 @@
 // A case and its answer.
 use crate::answer::solved_text;
 use crate::error::{CaseError, given};
-use crate::printing::push_past;
 use crate::reading::problem_of;
+use lq_notation::push_past;
 use std::alloc::{AllocError, Global};
 use std::fmt::Write;
 

@@ -7,10 +7,10 @@ ghost use Rattle.lq_pred.specs.PredView.{implication_of};
 ghost use Rattle.lq_pred.specs.TableView.{terms_of};
 
 use crate::error::CaseError;
-use crate::meeting::refutes;
 use crate::reading::Problem;
 use indexmap::IndexMap;
 use lq_literals::first_past;
+use lq_notation::refutes;
 use lq_num::Frac;
 use lq_point::{Point, PointError, PointValues};
 use lq_pred::{Closed, Symbol, Term, TermTable};
@@ -115,7 +115,7 @@ fn fails_at(alloc: Global, implication: &Closed, point: &Point) -> Result<bool, 
         return Ok(false);
     };
     match point_of(alloc, implication, values)? {
-        Some(again) => refutes(alloc, implication, &again),
+        Some(again) => Ok(refutes(alloc, implication, &again)?),
         None => Ok(false),
     }
 }

@@ -1,5 +1,6 @@
 // Why a line has no answer.
 use lq_instances::QualError;
+use lq_notation::{CheckError, WordError};
 use lq_num::NumberPast;
 use lq_pred::GatherError;
 use std::alloc::{AllocError, AllocFailed};
@@ -45,6 +46,24 @@ impl From<QualError> for CaseError {
         match e {
             QualError::InstancesPast(count) => CaseError::Instances(count),
             QualError::Memory => CaseError::Memory,
+        }
+    }
+}
+
+impl From<WordError> for CaseError {
+    fn from(e: WordError) -> CaseError {
+        match e {
+            WordError::Misplaced => CaseError::NotACase,
+            WordError::Memory => CaseError::Memory,
+        }
+    }
+}
+
+impl From<CheckError> for CaseError {
+    fn from(e: CheckError) -> CaseError {
+        match e {
+            CheckError::Ungathered => CaseError::Ungathered,
+            CheckError::Memory => CaseError::Memory,
         }
     }
 }

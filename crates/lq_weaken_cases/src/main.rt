@@ -6,11 +6,8 @@ mod answer;
 mod case;
 mod checking;
 mod error;
-mod meeting;
-mod printing;
 mod reading;
 mod unknowns;
-mod words;
 
 use case::case_answer;
 use std::alloc::Global;

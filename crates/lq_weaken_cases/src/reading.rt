@@ -1,9 +1,9 @@
 // Lists of implications as a case writes them, word by word.
 use crate::error::{CaseError, given};
 use crate::unknowns::{Given, NOWHERE};
-use crate::words::Stacks;
 use lq_implications::{Implication, Implications, Reason};
 use lq_instances::Instances;
+use lq_notation::Stacks;
 use lq_substitution::{Atom, Part, Parts, Subst};
 use std::alloc::{AllocError, Global};
 use std::fmt::Write;
@@ -163,7 +163,10 @@ impl Reader {
             "unknown" => self.end_unknown(),
             "env" => self.end_environment(),
             "imply" => self.end_implication(),
-            _ => self.stacks.take(word),
+            _ => {
+                self.stacks.take(word)?;
+                Ok(())
+            }
         }
     }
 

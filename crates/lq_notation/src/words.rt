@@ -1,15 +1,15 @@
-// Terms and predicates as a case writes them: each operator behind its arguments.
-use crate::error::CaseError;
+// Terms and predicates as cases write them: each operator behind its arguments.
+use crate::error::WordError;
 use lq_name::{Binder, Name};
 use lq_pred::{CompareOp, Pred, Symbol, Term};
 use std::alloc::Global;
 
 /// Terms and predicates that were read and aren't part of anything yet.
 #[derive(Drop)]
-pub(crate) struct Stacks {
-    pub(crate) alloc: Global,
-    pub(crate) terms: Vec<Term>,
-    pub(crate) preds: Vec<Pred>,
+pub struct Stacks {
+    pub alloc: Global,
+    pub terms: Vec<Term>,
+    pub preds: Vec<Pred>,
 }
 
 // The name of a variable: `value`, `v3` or `#2`.
@@ -42,7 +42,7 @@ fn measure(word: &str) -> Option<Name> {
 }
 
 impl Stacks {
-    pub(crate) fn new(alloc: Global) -> Stacks {
+    pub fn new(alloc: Global) -> Stacks {
         Stacks {
             alloc,
             terms: Vec::new(alloc),
@@ -51,35 +51,35 @@ impl Stacks {
     }
 
     /// The term that was read last.
-    pub(crate) fn term(&mut self) -> Result<Term, CaseError> {
-        self.terms.pop().ok_or(CaseError::NotACase)
+    pub fn term(&mut self) -> Result<Term, WordError> {
+        self.terms.pop().ok_or(WordError::Misplaced)
     }
 
     /// The predicate that was read last.
-    pub(crate) fn pred(&mut self) -> Result<Pred, CaseError> {
-        self.preds.pop().ok_or(CaseError::NotACase)
+    pub fn pred(&mut self) -> Result<Pred, WordError> {
+        self.preds.pop().ok_or(WordError::Misplaced)
     }
 
     /// The name that was read last.
-    pub(crate) fn name(&mut self) -> Result<Symbol, CaseError> {
+    pub fn name(&mut self) -> Result<Symbol, WordError> {
         match self.term()? {
             Term::Var(symbol) => Ok(symbol),
-            _ => Err(CaseError::NotACase),
+            _ => Err(WordError::Misplaced),
         }
     }
 
-    fn boxed_term(&mut self) -> Result<Box<Term>, CaseError> {
+    fn boxed_term(&mut self) -> Result<Box<Term>, WordError> {
         let term = self.term()?;
         Ok(Box::new(self.alloc, term)?)
     }
 
-    fn boxed_pred(&mut self) -> Result<Box<Pred>, CaseError> {
+    fn boxed_pred(&mut self) -> Result<Box<Pred>, WordError> {
         let pred = self.pred()?;
         Ok(Box::new(self.alloc, pred)?)
     }
 
     // The term of an operator on the terms that were read last.
-    fn applied(&mut self, word: &str) -> Result<Term, CaseError> {
+    fn applied(&mut self, word: &str) -> Result<Term, WordError> {
         if word == "neg" {
             return Ok(Term::Neg(self.boxed_term()?));
         }
@@ -97,12 +97,12 @@ impl Stacks {
             "*" => Ok(Term::Mul(left, right)),
             "/" => Ok(Term::Div(left, right)),
             "%" => Ok(Term::Mod(left, right)),
-            _ => Err(CaseError::NotACase),
+            _ => Err(WordError::Misplaced),
         }
     }
 
     // The predicate of a word, if the word is one.
-    fn asserted(&mut self, word: &str) -> Result<Option<Pred>, CaseError> {
+    fn asserted(&mut self, word: &str) -> Result<Option<Pred>, WordError> {
         if let Some(op) = comparison(word) {
             let right = self.term()?;
             let left = self.term()?;
@@ -123,7 +123,7 @@ impl Stacks {
         }
     }
 
-    fn connected(&mut self, word: &str) -> Result<Pred, CaseError> {
+    fn connected(&mut self, word: &str) -> Result<Pred, WordError> {
         let right = self.boxed_pred()?;
         let left = self.boxed_pred()?;
         match word {
@@ -134,7 +134,7 @@ impl Stacks {
     }
 
     /// Takes a word of a term or of a predicate.
-    pub(crate) fn take(&mut self, word: &str) -> Result<(), CaseError> {
+    pub fn take(&mut self, word: &str) -> Result<(), WordError> {
         if let Some(pred) = self.asserted(word)? {
             self.preds.push(pred)?;
             return Ok(());

@@ -2,8 +2,8 @@ use Rattle.lq_point.specs.Values.{numbers_of, table_of, values_of}
 use Rattle.lq_pred.specs.NnfView.{nnf_view}
 use Rattle.lq_pred.specs.PredView.{formula_of}
 use Rattle.lq_pred.specs.TableView.{terms_of}
-use Rattle.lq_prover_cases.proofs.Readable.{can_evaluate}
-use Rattle.lq_prover_cases.proofs.meeting.meets.Goals as goal
+use Rattle.lq_notation.proofs.Readable.{can_evaluate}
+use Rattle.lq_notation.proofs.meeting.meets.Goals as goal
 
 pub holds-requires : goal.holds-requires
 holds-requires c =

@@ -6,7 +6,7 @@ use std::fmt::Write;
 
 type Pushed = Result<(), AllocError>;
 
-pub(crate) fn push_symbol(out: &mut String, symbol: Symbol) -> Pushed {
+pub fn push_symbol(out: &mut String, symbol: Symbol) -> Pushed {
     match symbol {
         Symbol::Value => out.push_str("value"),
         Symbol::Bound(binder) => {
@@ -35,7 +35,7 @@ fn push_operator(out: &mut String, term: &Term) -> Pushed {
     }
 }
 
-pub(crate) fn push_term(out: &mut String, term: &Term) -> Pushed {
+pub fn push_term(out: &mut String, term: &Term) -> Pushed {
     match term {
         Term::Whole(number) => write!(out, "{number}")?,
         Term::Var(symbol) => push_symbol(out, *symbol)?,
@@ -50,7 +50,7 @@ pub(crate) fn push_term(out: &mut String, term: &Term) -> Pushed {
 }
 
 /// A comparison; of any other predicate that it is none.
-pub(crate) fn push_pred(out: &mut String, pred: &Pred) -> Pushed {
+pub fn push_pred(out: &mut String, pred: &Pred) -> Pushed {
     let Pred::Compare(op, left, right) = pred else {
         return out.push_str("no comparison");
     };
@@ -68,7 +68,7 @@ pub(crate) fn push_pred(out: &mut String, pred: &Pred) -> Pushed {
 }
 
 /// A fraction: its numerator, and its denominator where that isn't 1.
-pub(crate) fn push_fraction(out: &mut String, value: &Frac) -> Pushed {
+pub fn push_fraction(out: &mut String, value: &Frac) -> Pushed {
     let numer = value.numer();
     let denom = value.denom();
     write!(out, "{numer}")?;
@@ -79,7 +79,7 @@ pub(crate) fn push_fraction(out: &mut String, value: &Frac) -> Pushed {
 }
 
 /// An operation past 128 bits, with its operands.
-pub(crate) fn push_past(out: &mut String, past: &NumberPast) -> Pushed {
+pub fn push_past(out: &mut String, past: &NumberPast) -> Pushed {
     let name = match past.op {
         NumOp::Add => "+",
         NumOp::Sub => "-",

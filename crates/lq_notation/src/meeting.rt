@@ -7,7 +7,7 @@ ghost use Rattle.lq_pred.specs.PredView.{formula_of, implication_of};
 ghost use Rattle.lq_pred.specs.Reading.{formula_numbered, reading_of};
 ghost use Rattle.lq_pred.specs.TableView.{terms_of};
 
-use crate::error::CaseError;
+use crate::error::CheckError;
 use lq_point::{Point, gathered_readings_can_be_evaluated, holds};
 use lq_pred::{Closed, Pred, TermTable, tighten};
 use std::alloc::Global;
@@ -19,7 +19,7 @@ fn meets(
     pred: &Pred,
     positive: bool,
     table: &mut TermTable,
-) -> Result<bool, CaseError>
+) -> Result<bool, CheckError>
     requires numbered { formula_numbered (terms_of table.old) (formula_of pred.now) ≡ terms_of table.old }
     requires table { table_of (values_of point.now) ≡ terms_of table.old }
     requires evaluates { Evaluates (table_of (values_of point.now)) (numbers_of (values_of point.now))
@@ -33,7 +33,7 @@ fn meets(
 }
 
 /// Whether the point meets each hypothesis and the negated goal.
-pub(crate) fn refutes(alloc: Global, implication: &Closed, point: &Point) -> Result<bool, CaseError>
+pub fn refutes(alloc: Global, implication: &Closed, point: &Point) -> Result<bool, CheckError>
     requires table { table_of (values_of point.now) ≡ terms_in (implication_of implication.now) }
     requires evaluates { EvaluatesAll (table_of (values_of point.now)) (numbers_of (values_of point.now))
         (implication_of implication.now) }

@@ -9,7 +9,7 @@ use Rattle.lq_pred.specs.PredView.{formula_of, implication_of, pred_items}
 use Rattle.lq_pred.specs.Reading.{formula_numbered, reading_of}
 use Rattle.lq_pred.specs.Table.{has_term}
 use Rattle.lq_pred.specs.TableView.{terms_of}
-use Rattle.lq_prover_cases.proofs.meeting.refutes.Goals as goal
+use Rattle.lq_notation.proofs.meeting.refutes.Goals as goal
 
 pub meets-requires-clause-numbered : goal.meets-requires-clause-numbered
 meets-requires-clause-numbered c =
