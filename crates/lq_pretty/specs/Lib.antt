@@ -1,0 +1,5 @@
+-- How names, terms and predicates are written.
+pub mod Calling
+pub mod Predicates
+pub mod Terms
+pub mod Views
