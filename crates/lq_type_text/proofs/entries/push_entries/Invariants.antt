@@ -1,0 +1,14 @@
+use Rattle.std.proofs.Common.{◌≡◌, ◌++◌, false, take}
+use Rattle.lq_type_text.specs.Rows.{is_open_behind, more_entries}
+use Rattle.lq_type_text.specs.ShownView.{entries_view}
+use Rattle.lq_type_text.specs.Types.{entry_texts}
+use Rattle.lq_type_text.specs.Views.{writing_view}
+use Rattle.lq_type_text.proofs.entries.push_entries.Given as goal
+
+abbrev pub invariant-loop-entry : goal.invariant-loop-entry
+invariant-loop-entry l =
+    record {
+      is_open : l.is_open ≡ is_open_behind false (entry_texts (writing_view l.writing) l.data.0 (entries_view (take l.entry-index l.entries)));
+      text : l.line.items
+          ≡ l.initial.line.items ++ more_entries false (entry_texts (writing_view l.writing) l.data.0 (entries_view (take l.entry-index l.entries)));
+    }

@@ -1,0 +1,18 @@
+use Rattle.std.proofs.Common.{◌∙◌}
+use Rattle.lq_pred.specs.PredView.{pred_items}
+use Rattle.lq_type_text.proofs.EntryRows.{is_open_said, more_said}
+use Rattle.lq_type_text.specs.ShownView.{entry_view}
+use Rattle.lq_type_text.specs.Types.{entry_text}
+use Rattle.lq_type_text.specs.Views.{writing_view}
+use Rattle.lq_type_text.proofs.entries.push_next.Goals as goal
+
+pub returns-clause-is_open : goal.returns-clause-is_open
+returns-clause-is_open c =
+    is_open_said c.args.is_open (pred_items c.args.entry.now.preds) (entry_text (writing_view c.args.writing.now) c.args.data.0 (entry_view c.args.entry.now))
+    (λ e. c.if-len-eq0.false (c.len.ensures ∙ e))
+
+pub returns-clause-text : goal.returns-clause-text
+returns-clause-text c =
+    more_said c.args.is_open (pred_items c.args.entry.now.preds) (entry_text (writing_view c.args.writing.now) c.args.data.0 (entry_view c.args.entry.now))
+    c.args.line.now.items c.push_opening.new.line.items c.push_entry.new.line.items (λ e. c.if-len-eq0.false (c.len.ensures ∙ e))
+    c.in_ok-push_opening.ensures c.in_ok-push_entry.ensures

@@ -1,0 +1,93 @@
+// What names are called in types.
+ghost use Rattle.std.specs.Prelude.{◌≡◌, ◌++◌, OnOk, decimal, slice_get};
+ghost use Rattle.std.specs.Option.{option_map};
+ghost use Rattle.lq_pretty.specs.Calling.{name_text};
+ghost use Rattle.lq_pretty.specs.Views.{calling_view, IsTold};
+ghost use Rattle.lq_type_text.specs.Types.{parameter_text};
+ghost use Rattle.lq_type_text.specs.Views.{parameters_view, writing_view};
+
+use itoa::Buffer;
+use lq_name::{Name, NameTable};
+use lq_pretty::Calling;
+use std::alloc::AllocError;
+
+/// The names of each datatype's parameters, by the number of the datatype's name.
+#[derive(Debug, Drop)]
+pub struct Parameters {
+    pub rows: Vec<Vec<Name>>,
+}
+
+/// The texts of names, the source name of each binder, and the names of parameters.
+#[derive(Clone, Copy)]
+pub struct Writing<'a> {
+    pub table: &'a NameTable,
+    pub sources: &'a [Option<Name>],
+    pub parameters: &'a Parameters,
+}
+
+impl Writing<'_> {
+    // Each binder has its plain name.
+    pub(crate) fn calling(&self) -> Calling<'_>
+        ensures view { calling_view result ≡ (writing_view self.now).calling }
+        ensures told { IsTold result }
+    {
+        Calling {
+            table: self.table,
+            sources: self.sources,
+            ordinals: None,
+        }
+    }
+
+    // The text of a name.
+    fn text(&self, name: Name) -> &str
+        ensures { result.now ≡ name_text (writing_view self.now).calling.names name.0 }
+    {
+        if name.0 < self.table.len() {
+            self.table.text(name)
+        } else {
+            ""
+        }
+    }
+
+    // Writes a name.
+    pub(crate) fn push_name(&self, line: &mut Vec<u8>, name: Name) -> Result<(), AllocError>
+        ensures { OnOk result (line.new.items ≡ line.old.items
+            ++ name_text (writing_view self.now).calling.names name.0) }
+    {
+        line.extend_from_slice(self.text(name).as_bytes())
+    }
+
+    // Writes the name of a datatype's parameter.
+    pub(crate) fn push_parameter(
+        &self,
+        line: &mut Vec<u8>,
+        data: Name,
+        at: u32,
+    ) -> Result<(), AllocError>
+        ensures { OnOk result (line.new.items ≡ line.old.items
+            ++ parameter_text (writing_view self.now) data.0 at) }
+    {
+        match self.parameters.name(data, at) {
+            Some(name) => self.push_name(line, name),
+            None => Ok(()),
+        }
+    }
+}
+
+impl Parameters {
+    fn name(&self, data: Name, at: u32) -> Option<Name>
+        ensures { option_map (λ x. x.0) result ≡ slice_get (parameters_view self.now data.0) at }
+    {
+        let row = self.rows.get(data.0 as usize)?;
+        row.get(at as usize).copied()
+    }
+}
+
+// Writes a count.
+pub(crate) fn push_count(line: &mut Vec<u8>, n: u64) -> Result<(), AllocError>
+    ensures { OnOk result (line.new.items ≡ line.old.items ++ decimal n) }
+{
+    let mut number = Buffer::new();
+    line.extend_from_slice(number.format(n).as_bytes())?;
+    Ok(())
+}
