@@ -1,0 +1,19 @@
+use Rattle.std.proofs.Common.{◌≡◌, List, map, take}
+use Rattle.lq_checks.specs.Basis.{Basis}
+use Rattle.lq_contexts.specs.Growing.{HasMore}
+use Rattle.lq_implications.specs.Views.{environment_lists}
+use Rattle.lq_obligations.specs.Obligation.{Obligation as Asking}
+use Rattle.lq_obligations.specs.Obligation.{all_implications}
+use Rattle.lq_refinements.specs.Whole.{types_of, Grows}
+use Rattle.lq_split.specs.Appending.{Appends}
+use Rattle.lq_asked.specs.Views.{all_stated, scopes_of, stated, IsOver}
+use Rattle.lq_asked.proofs.implying.imply_all.Given as goal
+
+abbrev pub invariant-loop-obligation : goal.invariant-loop-obligation
+invariant-loop-obligation l = record {
+  added : (P : Basis) (xs : List Asking) → IsOver P l.sources (types_of (scopes_of l.sources) l.initial.types)
+      → map (stated P) xs ≡ all_stated (environment_lists l.initial.list) (types_of (scopes_of l.sources) l.initial.types) l.obligations
+      → Appends l.initial.list l.list (all_implications P (take l.obligation-index xs));
+  environments : HasMore (environment_lists l.initial.list) (environment_lists l.list);
+  grows : Grows l.initial.types l.types;
+}

@@ -1,0 +1,2 @@
+-- Obligations in memory: what they stand for.
+pub mod Views

@@ -1,0 +1,104 @@
+// The implications of what is asked for.
+ghost use Rattle.std.specs.Prelude.{◌≡◌, ◌<◌, List, All, OnOk, length, map};
+ghost use Rattle.lq_checks.specs.Basis.{Basis};
+ghost use Rattle.lq_contexts.specs.Growing.{HasMore};
+ghost use Rattle.lq_implications.specs.Views.{environment_at, environment_lists, origin_view};
+ghost use Rattle.lq_obligations.specs.Obligation.{Obligation as Asking, all_implications, holds, implications_by, implications_in};
+ghost use Rattle.lq_pred.specs.PredView.{formula_of};
+ghost use Rattle.lq_refined.specs.Context.{Context};
+ghost use Rattle.lq_refinements.specs.Whole.{count_of, types_of, Grows};
+ghost use Rattle.lq_split.specs.Appending.{Appends};
+ghost use Rattle.lq_split.specs.Fields.{AreThere};
+ghost use Rattle.lq_subtype.specs.Subtype.{facts};
+ghost use Rattle.lq_asked.specs.Views.{all_stated, scopes_of, stated, stated_view, IsOver, IsShaped, IsThere};
+
+use crate::obligation::{Asked, Obligation, Sources};
+use lq_implications::{Implication, Implications};
+use lq_pred::Pred;
+use lq_refinements::RefinedTypes;
+use lq_split::{Given, split};
+use lq_substitution::{Part, Parts};
+use std::alloc::{AllocError, Global};
+
+// The one implication of a predicate that is to hold.
+fn demand(
+    alloc: Global,
+    list: &mut Implications,
+    pred: &Pred,
+    obligation: &Obligation,
+) -> Result<(), AllocError>
+    requires { obligation.now.env < length (environment_lists list.old) }
+    ensures added { OnOk result ((P : Basis) (Γ : Context) → facts P.setting Γ ≡ environment_at list.old obligation.now.env
+        → Appends list.old list.new (implications_by P Γ (origin_view obligation.now.place obligation.now.reason)
+        (holds (formula_of pred.now)))) }
+    ensures environments { environment_lists list.new ≡ environment_lists list.old }
+{
+    let goal = Part::Known(pred.copy(alloc)?);
+    list.push(Implication {
+        env: obligation.env,
+        left: Parts::new(alloc),
+        goal,
+        place: obligation.place,
+        reason: obligation.reason,
+    })
+}
+
+// The implications of what is asked for in one obligation.
+fn imply(
+    alloc: Global,
+    list: &mut Implications,
+    types: &mut RefinedTypes,
+    sources: &Sources<'_>,
+    obligation: &Obligation,
+) -> Result<(), AllocError>
+    requires there { IsThere (length (environment_lists list.old)) (count_of types.old) obligation.now }
+    requires fields { AreThere (count_of types.old) sources.now.fields.now }
+    requires shaped { IsShaped (types_of (scopes_of sources.now) types.old) obligation.now }
+    ensures added { OnOk result ((P : Basis) (x : Asking) → IsOver P sources.now (types_of (scopes_of sources.now) types.old)
+        → stated P x ≡ stated_view (environment_lists list.old) (types_of (scopes_of sources.now) types.old) obligation.now
+        → Appends list.old list.new (implications_in P x)) }
+    ensures environments { HasMore (environment_lists list.old) (environment_lists list.new) }
+    ensures grows { Grows types.old types.new }
+{
+    match &obligation.asked {
+        Asked::Holds(pred) => demand(alloc, list, pred, obligation),
+        Asked::Fits(left, right) => {
+            let given = Given {
+                scopes: sources.scopes,
+                fields: sources.fields,
+                origin: (obligation.place, obligation.reason),
+            };
+            let made = split(alloc, list, types, &given, (*left, *right), obligation.env);
+            let Given {
+                scopes: _,
+                fields: _,
+                origin: _,
+            } = given;
+            made
+        }
+    }
+}
+
+/// Adds the implications of what is asked for, obligation by obligation: of a predicate one, of two types those of their subtyping. Where
+/// memory is refused, some of them may stand there, but environments and types only grow.
+pub fn imply_all(
+    alloc: Global,
+    list: &mut Implications,
+    types: &mut RefinedTypes,
+    sources: &Sources<'_>,
+    obligations: &[Obligation],
+) -> Result<(), AllocError>
+    requires there { All (IsThere (length (environment_lists list.old)) (count_of types.old)) obligations.now }
+    requires fields { AreThere (count_of types.old) sources.now.fields.now }
+    requires shaped { All (IsShaped (types_of (scopes_of sources.now) types.old)) obligations.now }
+    ensures added { OnOk result ((P : Basis) (xs : List Asking) → IsOver P sources.now (types_of (scopes_of sources.now) types.old)
+        → map (stated P) xs ≡ all_stated (environment_lists list.old) (types_of (scopes_of sources.now) types.old) obligations.now
+        → Appends list.old list.new (all_implications P xs)) }
+    ensures environments { HasMore (environment_lists list.old) (environment_lists list.new) }
+    ensures grows { Grows types.old types.new }
+{
+    for obligation in obligations {
+        imply(alloc, list, types, sources, obligation)?;
+    }
+    Ok(())
+}
