@@ -1,7 +1,7 @@
 mod Adding
-mod Cells
+pub mod Cells
 mod Differing
-mod Known
+pub mod Known
 mod Loops
-mod Rows
-mod Walked
+pub mod Rows
+pub mod Walked

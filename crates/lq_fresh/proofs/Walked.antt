@@ -22,7 +22,7 @@ use Rattle.lq_sorted.specs.declared.shape.Shape.TheVariants as kind
 use Rattle.lq_sorts.specs.Shapes as shapes
 use Rattle.lq_sorts.specs.Shapes.{shape_of}
 use Rattle.lq_templates.specs.Cells.{Cells, constructor_cells}
-use Rattle.lq_templates.specs.Fresh.{Made, arguments, first_name, inside, later_names, topped}
+use Rattle.lq_templates.specs.Fresh.{Made, first_name, inside, later_names, topped}
 use Rattle.lq_templates.specs.Scopes.{Unknown, with_argument, with_symbol}
 use Rattle.lq_tree.specs.MlType as ml
 use Rattle.lq_tree.specs.MlType.{MlType, MlTypes}
@@ -30,7 +30,7 @@ use Rattle.lq_tree.specs.Types.{Signature}
 use Rattle.lq_fresh.specs.Fields.{Field, cells_of_constructors, shapes_of}
 use Rattle.lq_fresh.specs.Growing.{Longer-refl, Longer-trans, made_both, made_count, made_nothing, top_parts, top_unknowns}
 use Rattle.lq_fresh.specs.Views.{all_types, constructors_of, scopes_of, shape_if, unknowns_of, Describes, IsGrown, IsMade}
-use Rattle.lq_fresh.specs.Walking.{arguments_wanted, components_wanted, form_wanted, template_wanted, AreTemplates, IsForm, IsTemplate}
+use Rattle.lq_fresh.specs.Walking.{arguments_wanted, components_wanted, form_wanted, template_wanted, AllWanted, AreTemplates, IsForm, IsTemplate, Wanted}
 use Rattle.lq_fresh.specs.declared.fields.Datatypes.{Datatypes}
 use Rattle.lq_fresh.specs.declared.templates.Templates.{Templates}
 use Rattle.lq_fresh.proofs.Cells.{constructors_same}
@@ -82,7 +82,7 @@ count_kept a b p = ap length (p.unknowns ∙ append-nil (unknowns_of a))
 
 -- ---- tops
 
-put_top : (all : List Refined) (f : Form) (p : Parts) → form_type all f p ≡ with_top p (form_type all f [])
+pub put_top : (all : List Refined) (f : Form) (p : Parts) → form_type all f p ≡ with_top p (form_type all f [])
 put_top all form.Int p = refl
 put_top all form.Bool p = refl
 put_top all form.Unit p = refl
@@ -231,15 +231,22 @@ module _ (D : Datatypes) where
   tuple_made old new v Γ xs ts p =
       record { there = p.there; grown = p.grown; refined = λ g ordered d S. ap tuple_of (p.refined g ordered d S); made = p.made }
 
-  pub data_made : (old mid new : Templates) (c : Name) (v : Vec ℕ Global) (m : Matrix) (Γ : Scope) (xs : List (Option ℕ)) (ts : MlTypes)
-      (ss : List shapes.Shape) (ks : List (ℕ × List Field)) → AreTemplates D old mid v.items (arguments_wanted (length (unknowns_of old)) Γ ts)
+  -- a datatype's template, where its arguments are made
+  abbrev pub data_wanted : ℕ → ℕ → MlTypes → AllWanted → Wanted
+  data_wanted n c ts w = λ g ordered.
+      let a = w g ordered in
+      let e = constructor_cells g (n + length a.unknowns) c ts (ordered c) in
+      record { type = data_with c a.types e.matrix []; unknowns = a.unknowns ++ e.unknowns }
+
+  pub data_of : (old mid new : Templates) (c : Name) (v : Vec ℕ Global) (m : Matrix) (w : AllWanted) (ts : MlTypes)
+      (ss : List shapes.Shape) (ks : List (ℕ × List Field)) → AreTemplates D old mid v.items w
       → ss ≡ shapes_of ts → ks ≡ constructors_of D c.0 → matrix_view m ≡ (cells_of_constructors (length (unknowns_of mid)) c.0 ss ks).matrix
       → IsMade mid new (cells_of_constructors (length (unknowns_of mid)) c.0 ss ks).unknowns
-      → IsForm D old new (form.Data c v m) (form_wanted (length (unknowns_of old)) Γ xs (ml.named c.0 ts))
-  data_made old mid new c v m Γ xs ts ss ks p shape described matrix made =
+      → IsForm D old new (form.Data c v m) (data_wanted (length (unknowns_of old)) c.0 ts w)
+  data_of old mid new c v m w ts ss ks p shape described matrix made =
       let n : ℕ = length (unknowns_of old) in
       let k : ℕ = length (unknowns_of mid) in
-      let us : Signature → (ℕ → List ℕ) → List Unknown = λ g ordered. (arguments g ordered n Γ ts).unknowns in
+      let us : Signature → (ℕ → List ℕ) → List Unknown = λ g ordered. (w g ordered).unknowns in
       let later : IsGrown mid new = grown_made mid new (cells_of_constructors k c.0 ss ks).unknowns made in
       let same : (g : Signature) (ordered : ℕ → List ℕ) (d : Describes D g ordered)
       → cells_of_constructors k c.0 ss ks ≡ constructor_cells g (n + length (us g ordered)) c.0 ts (ordered c.0) =
@@ -257,3 +264,10 @@ module _ (D : Datatypes) where
             made_both old mid new (us g ordered) (constructor_cells g (n + length (us g ordered)) c.0 ts (ordered c.0)).unknowns
             (p.made g ordered d) (subst (λ (a : Cells). IsMade mid new a.unknowns) (same g ordered d) made);
       }
+
+  pub data_made : (old mid new : Templates) (c : Name) (v : Vec ℕ Global) (m : Matrix) (Γ : Scope) (xs : List (Option ℕ)) (ts : MlTypes)
+      (ss : List shapes.Shape) (ks : List (ℕ × List Field)) → AreTemplates D old mid v.items (arguments_wanted (length (unknowns_of old)) Γ ts)
+      → ss ≡ shapes_of ts → ks ≡ constructors_of D c.0 → matrix_view m ≡ (cells_of_constructors (length (unknowns_of mid)) c.0 ss ks).matrix
+      → IsMade mid new (cells_of_constructors (length (unknowns_of mid)) c.0 ss ks).unknowns
+      → IsForm D old new (form.Data c v m) (form_wanted (length (unknowns_of old)) Γ xs (ml.named c.0 ts))
+  data_made old mid new c v m Γ xs ts ss ks = data_of old mid new c v m (arguments_wanted (length (unknowns_of old)) Γ ts) ts ss ks

@@ -11,5 +11,5 @@ mod walk;
 
 pub use fields::{Constructor, Datatypes, Field};
 pub use laws::{cells_are_of_shapes, constructors_differ};
-pub use simple::Given;
+pub use simple::{Given, shapes_at};
 pub use templates::Templates;

@@ -42,7 +42,7 @@ pub(crate) fn shape_at(types: &TypeTable, at: u32) -> Option<Shape>
 
 /// The shapes of types, in their order.
 #[inline(never)]
-pub(crate) fn shapes_at(
+pub fn shapes_at(
     alloc: Global,
     types: &TypeTable,
     parts: &[u32],

@@ -24,6 +24,8 @@ impl Templates {
     ghost use Rattle.lq_refinements.specs.Forms.{form_rows, form_type};
     ghost use Rattle.lq_refinements.specs.Whole.{count_of, refined_at};
     ghost use Rattle.lq_sorted.specs.Views.{shape_view};
+    ghost use Rattle.lq_instances.specs.Views.{scopes_view};
+    ghost use Rattle.lq_substitution.specs.Views.{parts_view};
     ghost use Rattle.lq_templates.specs.Scopes.{with_symbol};
     ghost use Rattle.lq_fresh.specs.Growing.{top_parts, top_unknowns};
     ghost use Rattle.lq_fresh.specs.Views.{all_types, scope_at, scopes_of, shape_if, unknowns_of, IsMade};
@@ -43,6 +45,21 @@ impl Templates {
         })
     }
 
+    /// No types and no unknowns, over scopes that there are.
+    pub fn over(alloc: Global, scopes: Scopes) -> Templates
+        ensures types { count_of result.types ≡ 0 }
+        ensures scopes { scopes_of result ≡ scopes_view scopes }
+        ensures unknowns { unknowns_of result ≡ [] }
+    {
+        Templates {
+            types: RefinedTypes::new(alloc),
+            unknowns: Unknowns {
+                scopes,
+                unknowns: Vec::new(alloc),
+            },
+        }
+    }
+
     /// The types.
     pub fn types(&self) -> &RefinedTypes
         ensures { result.now ≡ self.now.types }
@@ -55,6 +72,14 @@ impl Templates {
         ensures { result.now ≡ self.now.unknowns }
     {
         &self.unknowns
+    }
+
+    /// The types, and the unknowns with their scopes, by themselves.
+    pub fn into_parts(self) -> (RefinedTypes, Unknowns)
+        ensures types { result.0 ≡ self.types }
+        ensures unknowns { result.1 ≡ self.unknowns }
+    {
+        (self.types, self.unknowns)
     }
 
     /// The number of a scope with one symbol more, where predicates speak of its shape.
@@ -89,6 +114,18 @@ impl Templates {
         let number = self.unknowns.unknowns.len() as u64;
         self.unknowns.unknowns.push(Unknown { scope, shape })?;
         Ok(number)
+    }
+
+    /// The type of this form with these parts at its top.
+    pub fn push(&mut self, form: Form, top: Parts) -> Result<usize, AllocError>
+        requires { All (λ p. p < count_of self.old.types) (form_rows form) }
+        ensures refined { IfOk result (λ r. (scopes : ScopeLists) → refined_at scopes self.new.types r
+            ≡ form_type (all_types scopes self.old) form (parts_view top)) }
+        ensures there { IfOk result (λ r. r < count_of self.new.types) }
+        ensures made { OnOk result (IsMade self.old self.new []) }
+    {
+        let row = self.types.push(form, top)?;
+        Ok(row)
     }
 
     /// The type of this form, with an unknown at its top where predicates speak of the shape.

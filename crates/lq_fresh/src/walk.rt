@@ -69,10 +69,10 @@ impl Templates {
         Ok(row)
     }
 
-    // The form of the template of a type.
+    /// The form of the template of a type, whose unknowns come behind those that there are.
     #[cycle(walk)]
     #[inline(never)]
-    fn form(
+    pub fn form(
         &mut self,
         alloc: Global,
         given: &Given<'_>,
@@ -167,10 +167,10 @@ impl Templates {
         Ok(Form::Data(name, arguments, matrix))
     }
 
-    // The templates of a datatype's arguments.
+    /// The templates of types, each alone, as those of a datatype's arguments. Their unknowns come behind those that there are.
     #[cycle(walk)]
     #[inline(never)]
-    fn arguments(
+    pub fn arguments(
         &mut self,
         alloc: Global,
         given: &Given<'_>,

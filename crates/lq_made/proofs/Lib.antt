@@ -1,0 +1,4 @@
+mod Alone
+mod Plains
+mod Following
+mod Numbering

@@ -1,0 +1,5 @@
+-- The templates of points: definitions.
+pub mod Numbered
+pub mod Standing
+pub mod There
+pub mod Wanted
