@@ -1,0 +1,4 @@
+pub mod Datatypes
+pub mod Places
+pub mod Rows
+pub mod Uses
