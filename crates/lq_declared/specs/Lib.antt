@@ -1,0 +1,3 @@
+-- The datatypes of a program: definitions.
+pub mod Equations
+pub mod Views
