@@ -1,0 +1,7 @@
+use Rattle.std.proofs.Common.{◌∙◌, [], ap}
+use Rattle.lq_visible.specs.Stack.{stacked}
+use Rattle.lq_visible.proofs.Names.{stacked_kept}
+use Rattle.lq_visible.proofs.bound.Bound.back_to.Goals as goal
+
+pub returns-clause-left : goal.returns-clause-left
+returns-clause-left c = ap (stacked []) c.truncate.ensures.items ∙ stacked_kept c.args.self.now.entries.items c.args.len

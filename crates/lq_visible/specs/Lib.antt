@@ -1,0 +1,9 @@
+-- What is known of a normal program, and what is visible.
+pub mod Fits
+pub mod Growing
+pub mod Notes
+pub mod Scopes
+pub mod Showing
+pub mod Stack
+pub mod Takes
+pub mod Walking
