@@ -1,0 +1,14 @@
+mod ArmForms
+mod Binding
+mod BlockForms
+mod Composing
+mod Forms
+mod IdleSteps
+mod ItemForms
+mod Kept
+mod OwnForms
+mod LetForms
+mod Looping
+mod Made
+mod PatternRows
+mod Rows

@@ -1,0 +1,16 @@
+use Rattle.std.proofs.Common.{◌∙◌, length, sym, ap, ap₂}
+use Rattle.lq_block.specs.BlockView.{definitions_view}
+use Rattle.lq_checks.specs.Tree as t
+use Rattle.lq_points.specs.Pure.{Read}
+use Rattle.lq_points.specs.Reading.{program_from}
+use Rattle.lq_visible.specs.Notes.{annotation_view}
+use Rattle.lq_reading.proofs.ItemForms.{items_onto-all}
+use Rattle.lq_reading.proofs.program.read.Goals as goal
+
+pub returns-clause-program : goal.returns-clause-program
+returns-clause-program c =
+    let n = annotation_view c.args.notes.now in
+    let is = definitions_view c.args.definitions.now in
+    sym (items_onto-all c.in_ok-items.items.items)
+    ∙ (ap (λ (r : Read t.Program). r.read) (sym c.in_ok-items.ensures.is)
+    ∙ ap₂ (λ k Δ. (program_from n k Δ is).read) (ap length c.new-3.ensures.items) c.new-2.ensures.seen)

@@ -1,0 +1,15 @@
+//! Normal programs read as the typing rules have them, with their points.
+#![tactic(auto)]
+
+mod blocks;
+mod functions;
+mod idling;
+mod names;
+mod operations;
+mod patterns;
+mod program;
+mod pures;
+mod state;
+mod templates;
+
+pub use program::{Reading, read};
