@@ -1,0 +1,13 @@
+//! The walk over a program that makes what it is asked for.
+#![tactic(auto)]
+
+mod blocks;
+mod choosing;
+mod entering;
+mod finding;
+mod leaves;
+mod program;
+mod walk;
+
+pub use program::ask_all;
+pub use walk::Walk;
