@@ -1,0 +1,103 @@
+use Rattle.std.proofs.Common.{◌≡◌, [], length, map, sym, ap, ◌∙◌, arith}
+use Rattle.std.proofs.lemmas.List.Elements.{All-same, All-weaker}
+use Rattle.lq_checks.specs.Listing as listing
+use Rattle.lq_implications.specs.Views.{environment_lists, implications_of}
+use Rattle.lq_obligations.specs.Obligation.{all_implications}
+use Rattle.lq_obligations.specs.Obligations.{obligations_of}
+use Rattle.lq_pointed.specs.BlockView.{program_view}
+use Rattle.lq_split.specs.Growing.{HasMore-refl}
+use Rattle.lq_asked.specs.Views.{all_stated, stated, IsShaped, IsThere}
+use Rattle.lq_asked.proofs.Keeping.{there-kept}
+use Rattle.lq_checking.specs.Basis.{scopes_of, types_in}
+use Rattle.lq_checking.specs.Growing.{is_there-grown, stands-grown}
+use Rattle.lq_generate.proofs.Making.{all-stated-kept, all-there, are-few, are-past}
+use Rattle.lq_generate.proofs.Shaping.{shaped-stated}
+use Rattle.lq_generate.proofs.generating.generate.Goals as goal
+
+pub count_all-requires-clause-shaped : goal.count_all-requires-clause-shaped
+count_all-requires-clause-shaped g c =
+    let w = c.in_ok-types.field-0 in
+    let b = c.args.basis.now in
+    let p = program_view c.args.program.now in
+    All-same (IsShaped (types_in b w.types)) c.deref.result.now w.asked.items (cc)
+    (shaped-stated g.rules (environment_lists w.list) (types_in b w.types) (obligations_of g.rules [] p) w.asked.items
+    (sym (c.in_ok-types.ensures.asked g.rules c.requires.1.0))
+    (c.obligations_are_shaped.ensures g.rules [] p c.requires.1.1))
+
+pub returns-then-count-clause-refused : goal.returns-then-count-clause-refused
+returns-then-count-clause-refused g c =
+    let w = c.in_ok-types.field-0 in
+    let d : c.deref.result.now ≡ w.asked.items = cc in
+    let b = c.args.basis.now in
+    let p = program_view c.args.program.now in
+    let xs = obligations_of g.rules [] p in
+    let e : map (stated g.rules) xs ≡ all_stated (environment_lists w.list) (types_in b w.types) c.deref.result.now =
+    sym (c.in_ok-types.ensures.asked g.rules c.requires.1.0) ∙ ap (all_stated (environment_lists w.list) (types_in b w.types)) (sym d) in
+    are-past (listing.implications_of g.rules [] p) (all_implications g.rules xs) (c.obligations_are_implications.ensures g.rules [] p) c.in_ok-count.count
+    (c.in_ok-count.ensures.count g.rules xs (environment_lists w.list) e) c.if-count.true
+
+pub imply_all-requires-clause-there : goal.imply_all-requires-clause-there
+imply_all-requires-clause-there g c =
+    let w = c.in_ok-types.field-0 in
+    let es = environment_lists w.list in
+    let old = w.types.rows.items in
+    let new = c.count_all.new.types.rows.items in
+    let P = IsThere (length es) (length old) in
+    let Q = IsThere (length es) (length new) in
+    All-same Q c.deref-2.result.now w.asked.items (cc)
+    (All-weaker P Q (λ x h. there-kept (scopes_of c.args.basis.now) old new c.count_all.ensures.grows es es (HasMore-refl es) x h) w.asked.items
+    c.in_ok-types.ensures.there)
+
+pub imply_all-requires-clause-fields : goal.imply_all-requires-clause-fields
+imply_all-requires-clause-fields g c =
+    let w = c.in_ok-types.field-0 in
+    let h = is_there-grown w.types c.count_all.new.types c.args.basis.now c.count_all.ensures.grows c.in_ok-types.ensures.basis in h.fields
+
+pub imply_all-requires-clause-shaped : goal.imply_all-requires-clause-shaped
+imply_all-requires-clause-shaped g c =
+    let w = c.in_ok-types.field-0 in
+    let b = c.args.basis.now in
+    let p = program_view c.args.program.now in
+    let es = environment_lists w.list in
+    let new = c.count_all.new.types in
+    All-same (IsShaped (types_in b new)) c.deref-2.result.now w.asked.items (cc)
+    (shaped-stated g.rules es (types_in b new) (obligations_of g.rules [] p) w.asked.items
+    (sym (c.in_ok-types.ensures.asked g.rules c.requires.1.0)
+    ∙ sym (all-stated-kept (scopes_of b) w.types.rows.items new.rows.items c.count_all.ensures.grows es w.asked.items c.in_ok-types.ensures.there))
+    (c.obligations_are_shaped.ensures g.rules [] p c.requires.1.1))
+
+pub returns-clause-implications : goal.returns-clause-implications
+returns-clause-implications g c =
+    let w = c.in_ok-types.field-0 in
+    let d : c.deref.result.now ≡ w.asked.items = cc in
+    let d2 : c.deref-2.result.now ≡ w.asked.items = cc in
+    let b = c.args.basis.now in
+    let p = program_view c.args.program.now in
+    let xs = obligations_of g.rules [] p in
+    let es = environment_lists w.list in
+    let new = c.count_all.new.types in
+    let asked = sym (c.in_ok-types.ensures.asked g.rules c.requires.1.0) in
+    let e1 : map (stated g.rules) xs ≡ all_stated es (types_in b w.types) c.deref.result.now =
+    asked ∙ ap (all_stated es (types_in b w.types)) (sym d) in
+    let e2 : map (stated g.rules) xs ≡ all_stated es (types_in b new) c.deref-2.result.now =
+    asked ∙ sym (all-stated-kept (scopes_of b) w.types.rows.items new.rows.items c.count_all.ensures.grows es w.asked.items c.in_ok-types.ensures.there)
+    ∙ ap (all_stated es (types_in b new)) (sym d2) in
+    let s1 = stands-grown g.rules b c.args.types w.types c.in_ok-types.ensures.grows c.requires.0 c.requires.1.0 in
+    let s2 = stands-grown g.rules b w.types new c.count_all.ensures.grows c.in_ok-types.ensures.basis s1 in
+    let added = c.in_ok-imply_all.ensures.added g.rules xs record { scopes = s2.scopes; fields = s2.fields } e2 in
+    all-there (listing.implications_of g.rules [] p) (all_implications g.rules xs) (c.obligations_are_implications.ensures g.rules [] p) c.in_ok-count.count
+    (c.in_ok-count.ensures.count g.rules xs es e1) (implications_of w.list) (implications_of c.imply_all.new.list) c.in_ok-types.ensures.implications
+    added.kept (let h = c.if-count.false in omega arith)
+
+pub returns-clause-few : goal.returns-clause-few
+returns-clause-few g c =
+    let w = c.in_ok-types.field-0 in
+    let d : c.deref.result.now ≡ w.asked.items = cc in
+    let b = c.args.basis.now in
+    let p = program_view c.args.program.now in
+    let xs = obligations_of g.rules [] p in
+    let es = environment_lists w.list in
+    let e : map (stated g.rules) xs ≡ all_stated es (types_in b w.types) c.deref.result.now =
+    sym (c.in_ok-types.ensures.asked g.rules c.requires.1.0) ∙ ap (all_stated es (types_in b w.types)) (sym d) in
+    are-few (listing.implications_of g.rules [] p) (all_implications g.rules xs) (c.obligations_are_implications.ensures g.rules [] p) c.in_ok-count.count
+    (c.in_ok-count.ensures.count g.rules xs es e) (let h = c.if-count.false in omega arith)

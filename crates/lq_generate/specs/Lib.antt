@@ -1,0 +1,2 @@
+-- The implications of a program: definitions.
+pub mod Refusing

@@ -1,0 +1,68 @@
+// Programs and their implications.
+ghost use Rattle.std.specs.Prelude.{◌≡◌, ◌<◌, ◌≤◌, ◌-◌, ◌^◌, [], IfErr, IfOk, length, min};
+ghost use Rattle.lq_checks.specs.Basis as checks;
+ghost use Rattle.lq_checks.specs.Listing as listing;
+ghost use Rattle.lq_checks.specs.Ready.{IsReady};
+ghost use Rattle.lq_implications.specs.Views.{implications_of};
+ghost use Rattle.lq_pointed.specs.BlockView.{program_view};
+ghost use Rattle.lq_refinements.specs.Whole.{count_of, Grows};
+ghost use Rattle.lq_checking.specs.Basis.{IsThere, Stands};
+ghost use Rattle.lq_generate.specs.Refusing.{IsRefused};
+
+use crate::error::GenerateError;
+use lq_asked::{Sources, count_all, imply_all};
+use lq_asking::{Walk, ask_all};
+use lq_checking::Basis;
+use lq_implications::{IMPLICATION_LIMIT, Implications};
+use lq_obligations::{obligations_are_implications, obligations_are_shaped};
+use lq_pointed::Item;
+use lq_refinements::RefinedTypes;
+use std::alloc::Global;
+
+/// The implications of a program, and the table of refined types, in which those of the points stand as before.
+#[derive(Drop)]
+pub struct Generated {
+    pub types: RefinedTypes,
+    pub implications: Implications,
+}
+
+/// The implications of a program in their order, over a basis whose types stand in the table. Of a program that has more than 262,144 none is
+/// made: they are counted before.
+pub fn generate(
+    alloc: Global,
+    types: RefinedTypes,
+    basis: &Basis<'_>,
+    program: &[Item],
+) -> Result<Generated, GenerateError>
+    ghost rules: { checks.Basis }
+    requires there { IsThere (count_of types) basis.now }
+    requires stands { Stands rules basis.now types }
+    requires ready { IsReady rules [] (program_view program.now) }
+    ensures implications { IfOk result (λ g. implications_of g.implications
+        ≡ listing.implications_of rules [] (program_view program.now)) }
+    ensures few { IfOk result (λ g. length (listing.implications_of rules [] (program_view program.now)) ≤ 262144) }
+    ensures refused { IfErr result (IsRefused (listing.implications_of rules [] (program_view program.now))) }
+    ensures grows { IfOk result (λ g. Grows types g.types) }
+{
+    obligations_are_implications();
+    obligations_are_shaped();
+    let Walk {
+        mut types,
+        mut list,
+        names: _names,
+        asked,
+    } = ask_all(alloc, types, basis, program)?;
+    let count = count_all(alloc, &mut types, basis.scopes, &asked)?;
+    if count > IMPLICATION_LIMIT as u64 {
+        return Err(GenerateError::ImplicationsPast(count));
+    }
+    let sources = Sources {
+        scopes: basis.scopes,
+        fields: basis.fields,
+    };
+    imply_all(alloc, &mut list, &mut types, &sources, &asked)?;
+    Ok(Generated {
+        types,
+        implications: list,
+    })
+}
