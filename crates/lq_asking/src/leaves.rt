@@ -341,7 +341,7 @@ impl Walk {
             ),
             Operation::Pure(_)
             | Operation::Tuple(_)
-            | Operation::Read
+            | Operation::Read(_)
             | Operation::Print(_)
             | Operation::MapEmpty(_)
             | Operation::MapFind(_, _) => Ok(()),

@@ -181,7 +181,7 @@ module _ (law : SplitIsSubtype) (P : Basis) (A : Assignment) where
     operation_hold l Γ (remainder x y) t r m = obeys_remainder (demand_hold law P A Γ (not_zero y) (from l of_divisor) m)
     operation_hold l Γ (assert e) t r m = obeys_assert (demand_hold law P A Γ (formula_of e) (from l of_assertion) m)
     operation_hold l Γ (assert_false p) t r m = obeys_assert_false (demand_hold law P A Γ falsity (from l of_assertion) m)
-    operation_hold l Γ read t r m = obeys_read
+    operation_hold l Γ (read e) t r m = obeys_read
     operation_hold l Γ (print e) t r m = obeys_print
     operation_hold l Γ (map_empty p) t r m = obeys_map_empty
     operation_hold l Γ (map_add p k e n) t r m =

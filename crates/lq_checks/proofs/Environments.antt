@@ -290,7 +290,7 @@ module _ (keeps : KeepSimpleTypes) (P : Basis) (Q : Points) (are : AreTemplates 
   operation_shape f (has_remainder x y) i = shape_int
   operation_shape f (has_assert a) i = shape_unit
   operation_shape f (has_assert_false {p = p} e) i = point_shape p e
-  operation_shape f has_read i = shape_int
+  operation_shape f (has_read a) i = shape_int
   operation_shape f (has_print a) i = shape_unit
   operation_shape f (has_map_empty {p = p} e) i = shape_map (empty_shape (point_shape p e))
   operation_shape f (has_map_add {p = p} e k a m) i = point_shape p e

@@ -69,7 +69,7 @@ module _ (keeps : KeepSimpleTypes) (P : Basis) (Q : Points) (are : AreTemplates 
     operation_ready (has_remainder x y) n f s = tt
     operation_ready (has_assert a) n f s = tt
     operation_ready (has_assert_false e) n f s = tt
-    operation_ready has_read n f s = tt
+    operation_ready (has_read a) n f s = tt
     operation_ready (has_print a) n f s = tt
     operation_ready (has_map_empty e) n f s = tt
     operation_ready (has_map_add {p = p} {k = k} e i a m) n f s =

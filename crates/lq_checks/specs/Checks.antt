@@ -54,7 +54,7 @@ mutual
     obeys_remainder : {Γ : Context} {x y : Pure} {t : Refined} → Demanded P A Γ (not_zero y) → Obeys P A Γ (remainder x y) t
     obeys_assert : {Γ : Context} {e : Pure} {t : Refined} → Demanded P A Γ (formula_of e) → Obeys P A Γ (assert e) t
     obeys_assert_false : {Γ : Context} {p : ℕ} {t : Refined} → Demanded P A Γ falsity → Obeys P A Γ (assert_false p) t
-    obeys_read : {Γ : Context} {t : Refined} → Obeys P A Γ read t
+    obeys_read : {Γ : Context} {e : Pure} {t : Refined} → Obeys P A Γ (read e) t
     obeys_print : {Γ : Context} {e : Pure} {t : Refined} → Obeys P A Γ (print e) t
     obeys_map_empty : {Γ : Context} {p : ℕ} {t : Refined} → Obeys P A Γ (map_empty p) t
     -- the value at the key, and then the map

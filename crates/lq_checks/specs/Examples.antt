@@ -75,7 +75,7 @@ TypedExample =
 abbrev pub ReadExample : Type 0
 ReadExample =
     implications_of (basis (alone ∷ []) (int_of 0 ∷ [])) []
-    (define 10 (at 1) 0 (last (at 2) read)
+    (define 10 (at 1) 0 (last (at 2) (read t.unit))
     (run_unit (last (at 3) (assert (t.compare op.Le (variable 10) (t.add (variable 10) (amount 1))))) no_items))
     ≡ implies [] [] (part 0) 1 of_flow
     ∷ implies [] [] (known (compare op.Le (bound 10) (s.add (bound 10) (literal 1)))) 3 of_assertion ∷ []
@@ -128,7 +128,7 @@ abbrev pub IfExample : Type 0
 IfExample =
     let test : Formula = compare op.Le (literal 0) (bound 10) in
     implications_of (basis (alone ∷ and_with (symbol_of 10) ∷ and_with (symbol_of 10) ∷ []) (int_of 0 ∷ int_of 1 ∷ int_of 2 ∷ [])) []
-    (define 10 (at 1) 0 (last (at 2) read)
+    (define 10 (at 1) 0 (last (at 2) (read t.unit))
     (define 11 (at 3) 2
     (last (at 4)
     (if_else 1 (t.compare op.Le (amount 0) (variable 10)) (last (at 5) (pure (variable 10)))

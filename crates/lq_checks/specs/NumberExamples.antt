@@ -142,7 +142,7 @@ abbrev pub KnownPartExample : Type 0
 KnownPartExample =
     let nonzero = compare op.Ne value (literal 0) in
     implications_of (basis [] (int_with (known nonzero ∷ known truth ∷ []) ∷ [])) []
-    (define 12 (at 1) 0 (last (at 2) read) no_items)
+    (define 12 (at 1) 0 (last (at 2) (read t.unit)) no_items)
     ≡ implies [] [] (known nonzero) 1 of_flow ∷ []
 
 -- let () = let x = read_int () in let y = x - 1 in assert (y < x): what a block binds is known from then on
@@ -150,11 +150,21 @@ abbrev pub KnownExample : Type 0
 KnownExample =
     implications_of (basis [] []) []
     (run_unit
-    (binding 12 (at 1) read
+    (binding 12 (at 1) (read t.unit)
     (binding 13 (at 2) (pure (t.subtract (variable 12) (amount 1))) (last (at 3) (assert (t.compare op.Lt (variable 13) (variable 12))))))
     no_items)
     ≡ implies (known (equals (bound 13) (s.sub (bound 12) (literal 1))) ∷ []) [] (known (compare op.Lt (bound 13) (bound 12))) 3
     of_assertion ∷ []
+
+-- let () = let u = () in let x = read_int u in assert (x = x): of what `read_int` is given nothing is asked
+abbrev pub ReadOfExample : Type 0
+ReadOfExample =
+    implications_of (basis [] []) []
+    (run_unit
+    (binding 12 (at 1) (pure t.unit)
+    (binding 13 (at 2) (read (variable 12)) (last (at 3) (assert (t.compare op.Eq (variable 13) (variable 13))))))
+    no_items)
+    ≡ implies [] [] (known (equals (bound 13) (bound 13))) 3 of_assertion ∷ []
 
 -- let _ = let x = 1 in x let () = assert true: what the block of `let _` binds isn't known behind it
 abbrev pub OwnBlockExample : Type 0

@@ -135,7 +135,7 @@ module _ (P : Basis) (Γ : Context) where
       int_with (known (f.compare op.Eq value (s.rem (sum_of x) (sum_of y))) ∷ known (remainder_fact (sum_of x) (sum_of y)) ∷ [])
   type_of (assert e) = unit_type
   type_of (assert_false p) = P.template p
-  type_of read = int_with []
+  type_of (read e) = int_with []
   type_of (print e) = unit_type
   type_of (map_empty p) = map_with (empty_type (P.template p)) []
   type_of (map_add p k e m) = P.template p

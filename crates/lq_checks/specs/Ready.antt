@@ -46,7 +46,7 @@ module _ (P : Basis) where
     IsReadyOperation Γ (remainder x y) t = Unit {0}
     IsReadyOperation Γ (assert e) t = Unit {0}
     IsReadyOperation Γ (assert_false p) t = Unit {0}
-    IsReadyOperation Γ read t = Unit {0}
+    IsReadyOperation Γ (read e) t = Unit {0}
     IsReadyOperation Γ (print e) t = Unit {0}
     IsReadyOperation Γ (map_empty p) t = Unit {0}
     IsReadyOperation Γ (map_find k m) t = Unit {0}

@@ -50,7 +50,7 @@ mutual
     remainder : Pure → Pure → Operation
     assert : Pure → Operation
     assert_false : ℕ → Operation
-    read : Operation
+    read : Pure → Operation
     print : Pure → Operation
     map_empty : ℕ → Operation
     -- a point, a key, a value and a map

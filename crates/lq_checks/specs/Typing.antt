@@ -113,7 +113,7 @@ mutual
     has_remainder : {Δ : Types} {x y : Pure} → HasPure Q Δ x int → HasPure Q Δ y int → HasOperation P Q Δ (t.remainder x y) int
     has_assert : {Δ : Types} {e : Pure} → HasPure Q Δ e bool → HasOperation P Q Δ (t.assert e) unit
     has_assert_false : {Δ : Types} {p : ℕ} {a : MlType} → Q.point p ≡ a → HasOperation P Q Δ (t.assert_false p) a
-    has_read : {Δ : Types} → HasOperation P Q Δ t.read int
+    has_read : {Δ : Types} {e : Pure} → HasPure Q Δ e unit → HasOperation P Q Δ (t.read e) int
     has_print : {Δ : Types} {e : Pure} → HasPure Q Δ e int → HasOperation P Q Δ (t.print e) unit
     has_map_empty : {Δ : Types} {p : ℕ} {a : MlType} → Q.point p ≡ a → HasOperation P Q Δ (t.map_empty p) (map_of a)
     has_map_add : {Δ : Types} {p : ℕ} {k e m : Pure} {a : MlType} → Q.point p ≡ map_of a → HasPure Q Δ k int → HasPure Q Δ e a

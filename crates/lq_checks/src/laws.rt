@@ -2,7 +2,7 @@
 ghost use Rattle.lq_checks.specs.BlockExamples.{InnerFunctionExample, InnerRecursionExample, BoundMatchExample, TruthExample, NumberMatchExample, UnitExample};
 ghost use Rattle.lq_checks.specs.DataExamples.{TupleExample, TupleMatchExample, ListExample, TypedListExample, MissingCaseExample, DefaultExample, BuildExample, MapExample};
 ghost use Rattle.lq_checks.specs.Examples.{SampleExample, TypedExample, ReadExample, AliasExample, IfExample, DivideExample, RemainderExample, AssertFalseExample, PolymorphicExample, FunctionExample};
-ghost use Rattle.lq_checks.specs.NumberExamples.{SumExample, PartialCallExample, GuardExample, NestedGuardExample, AssertVariableExample, TruthCallExample, TruthGuardExample, QuotientExample, ZeroDivisorExample, AnyExample, KnownPartExample, KnownExample, OwnBlockExample, KeptNameExample};
+ghost use Rattle.lq_checks.specs.NumberExamples.{SumExample, PartialCallExample, GuardExample, NestedGuardExample, AssertVariableExample, TruthCallExample, TruthGuardExample, QuotientExample, ZeroDivisorExample, AnyExample, KnownPartExample, KnownExample, ReadOfExample, OwnBlockExample, KeptNameExample};
 ghost use Rattle.lq_checks.specs.TypeExamples.{TripleExample, NestedTupleExample, TupleArgumentExample, ArrayInTupleExample, FunctionInTupleExample, NestedArrayExample, TruthArrayExample, PolymorphicArrayExample, SomeExample, NoneExample, NoFunctionExample, UnitListExample, OrderExample, OtherwiseExample, MatchTwiceExample, MatrixExample, NestedMapExample};
 ghost use Rattle.lq_checks.specs.Fitting.{SimpleTypesAreGiven};
 ghost use Rattle.lq_checks.specs.JudgedExamples.{GuardedChecks, UnguardedFails};
@@ -103,6 +103,7 @@ pub fn number_examples()
     ensures any { AnyExample }
     ensures known_part { KnownPartExample }
     ensures known { KnownExample }
+    ensures read_of { ReadOfExample }
     ensures own_block { OwnBlockExample }
     ensures kept_name { KeptNameExample }
 {}

@@ -13,7 +13,7 @@ use Rattle.lq_normal.specs.Naming.{is_pure_form, is_pure_operator, stands, id_of
 use Rattle.lq_normal.specs.OnePass.{Normal, NormalRow, tree_of, with_name, as_operand, as_scrutinee, list_of_atoms, normal, normal_of, all_operands, all_items, rest_of_chain, normal_cases}
 use Rattle.lq_normal_types.specs.Written.{Each}
 use Rattle.lq_read.specs.Normal.{IsRing, ring_add, ring_subtract, ring_multiply, IsPure, pure_whole, pure_flag, pure_unit, pure_use, pure_arithmetic, pure_negated, pure_compare, pure_not, pure_and, pure_or, pure_length, ArePure, no_pure, more_pure, is_use, IsBlock, block_operation, IsOperation, is_pure, is_fun, is_if, is_match, is_tuple, is_build, is_call, is_quotient, is_remainder, is_assert, is_assert_false, is_make, is_fetch, is_store, is_print, is_read, AreArms, no_arms, more_arms, is_name}
-use Rattle.lq_normal_read.specs.Suits.{EachArmSuits, IsUnit, is_unit, Suits, being_suited}
+use Rattle.lq_normal_read.specs.Suits.{EachArmSuits, Suits, being_suited}
 use Rattle.lq_normal_read.proofs.Lets.{AreLets, IsNormal, IsOperand, IsScrutinee, arm_is, block_is, item_is, lets_both, operand_is, parameter_is, scrutinee_is, under_same}
 
 -- ---- what is pure as it is written
@@ -110,10 +110,6 @@ cells_are i l k (more_trees x xs) (more_pure h hs) =
       last = is_build (more_pure h (more_pure pure_use no_pure));
     }
 
--- `read_int` is given `()`
-read_is : (k i : ℕ) (l : Place) {e : Tree} → IsUnit e → IsNormal (tree i l (form.read e)) (normal_of k i l (form.read e))
-read_is k i l is_unit = operation_last _ _ refl refl tt is_read
-
 either : (t : Tree) (c : Bool) (N M : Normal) → (c ≡ true → IsNormal t N) → (c ≡ false → IsNormal t M) → IsNormal t (if c then N else M)
 either t true N M first second = first refl
 either t false N M first second = second refl
@@ -160,7 +156,7 @@ mutual
   form_is k i l (form.length_of e) h = let E = operand k e h.1 in pure_last _ _ refl E.lets (pure_length E.pure)
   form_is k i l (form.assert e) h = let E = operand k e h.1 in operation_last _ _ refl refl E.lets (is_assert E.pure)
   form_is k i l (form.print e) h = let E = operand k e h.1 in operation_last _ _ refl refl E.lets (is_print E.pure)
-  form_is k i l (form.read e) h = read_is k i l h.0
+  form_is k i l (form.read e) h = let E = operand k e h.1 in operation_last _ _ refl refl E.lets (is_read E.pure)
   form_is k i l (form.call a b) h =
       let A = as_operand a (normal k a) in
       let A' = operand k a h.1 in let B' = operand A.next b h.2 in

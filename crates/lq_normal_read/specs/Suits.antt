@@ -1,7 +1,5 @@
--- Programs whose normal form the typing rules have: what is indexed is a variable or gets a name, `read_int` is given `()` as it is written, and
--- there are no maps.
-use Rattle.std.specs.Prelude.{◌≡◌, ℕ, true, List, [], ◌∷◌}
-use Rattle.lq_name.specs.declared.place.Place.{Place}
+-- Programs whose normal form the typing rules have: what is indexed is a variable or gets a name, and there are no maps.
+use Rattle.std.specs.Prelude.{◌≡◌, true, List, [], ◌∷◌}
 use Rattle.lq_tree.specs.Items.{ItemTree, ItemForm, type_of, let_of, let_rec_of}
 use Rattle.lq_tree.specs.Pattern as p
 use Rattle.lq_tree.specs.Pattern.{Pattern, pattern, PatternForm, Patterns}
@@ -41,10 +39,6 @@ IsFlat (pattern l f) = IsFlatForm f
 
 -- ---- trees
 
--- `()`
-pub data IsUnit : Tree → Type 0 where
-  is_unit : {i : ℕ} {l : Place} → IsUnit (tree i l form.unit)
-
 abbrev pub LeafSuits : Leaf → Type 0
 LeafSuits (shape.qualified m x) = ⊥
 LeafSuits shape.map_empty = ⊥
@@ -57,7 +51,6 @@ CanBeIndexed a = stands a ≡ true → is_use a ≡ true
 abbrev pub NodeSuits : Tree → Type 0
 NodeSuits (tree i l (form.fetch a n)) = CanBeIndexed a
 NodeSuits (tree i l (form.store a n e)) = CanBeIndexed a
-NodeSuits (tree i l (form.read e)) = IsUnit e
 NodeSuits (tree i l (form.map_add a b c)) = ⊥
 NodeSuits (tree i l (form.map_find a b)) = ⊥
 NodeSuits t = Unit {0}

@@ -86,7 +86,7 @@ module _ (P : Basis) where
     operation_shaped Γ l (remainder x y) t r = demand_shaped Γ (not_zero y) (from l of_divisor)
     operation_shaped Γ l (assert e) t r = demand_shaped Γ (formula_of e) (from l of_assertion)
     operation_shaped Γ l (assert_false p) t r = demand_shaped Γ falsity (from l of_assertion)
-    operation_shaped Γ l read t r = none_shaped
+    operation_shaped Γ l (read e) t r = none_shaped
     operation_shaped Γ l (print e) t r = none_shaped
     operation_shaped Γ l (map_empty p) t r = none_shaped
     operation_shaped Γ l (map_add p k e m) t r =

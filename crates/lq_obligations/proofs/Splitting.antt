@@ -89,7 +89,7 @@ module _ (P : Basis) where
     operation_same Γ l (remainder x y) t = refl
     operation_same Γ l (assert e) t = refl
     operation_same Γ l (assert_false p) t = refl
-    operation_same Γ l read t = refl
+    operation_same Γ l (read e) t = refl
     operation_same Γ l (print e) t = refl
     operation_same Γ l (map_empty p) t = refl
     operation_same Γ l (map_add p k e m) t =

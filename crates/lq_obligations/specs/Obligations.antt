@@ -54,7 +54,7 @@ module _ (P : Basis) where
     of_operation Γ l (remainder x y) t = demand Γ (not_zero y) (from l of_divisor)
     of_operation Γ l (assert e) t = demand Γ (formula_of e) (from l of_assertion)
     of_operation Γ l (assert_false p) t = demand Γ falsity (from l of_assertion)
-    of_operation Γ l read t = []
+    of_operation Γ l (read e) t = []
     of_operation Γ l (print e) t = []
     of_operation Γ l (map_empty p) t = []
     of_operation Γ l (map_add p k e m) t =

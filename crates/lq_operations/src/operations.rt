@@ -218,7 +218,7 @@ pub fn type_of(
         Operation::Store(_, _, _) | Operation::Assert(_) | Operation::Print(_) => unit(
             alloc, types,
         ),
-        Operation::Read => read_type(alloc, types),
+        Operation::Read(_) => read_type(alloc, types),
         Operation::MapEmpty(point) => empty_map_type(alloc, types, basis, names, *point),
         Operation::MapFind(key, map) => found_type(alloc, types, basis, names, key, map),
     }

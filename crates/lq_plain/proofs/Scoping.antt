@@ -226,7 +226,7 @@ module _ (law : Lower) (new : SubtypesAreApart) (P : Basis) (A : Assignment) (O 
       ((tt, ((v, (a, b)), ((((a, tt), (b, tt)), ((tt, v), (v, b))), tt))), ((v, (a, b)), ((((a, tt), (b, tt)), ((tt, v), (v, b))), tt)))
   type_over Γ c (assert e) p g = ((tt, tt), tt)
   type_over Γ c (assert_false k) p g = g
-  type_over Γ c read p g = ((tt, tt), tt)
+  type_over Γ c (read e) p g = ((tt, tt), tt)
   type_over Γ c (print e) p g = ((tt, tt), tt)
   type_over Γ c (make k n e) p g =
       let v = v_in (names_in Γ) in
@@ -267,7 +267,7 @@ module _ (law : Lower) (new : SubtypesAreApart) (P : Basis) (A : Assignment) (O 
     operation_scoped Γ c n (remainder a b) t h p x = p
     operation_scoped Γ c n (assert e) t h p x = p
     operation_scoped Γ c n (assert_false k) t h p x = tt
-    operation_scoped Γ c n read t h p x = tt
+    operation_scoped Γ c n (read e) t h p x = p
     operation_scoped Γ c n (print e) t h p x = p
     operation_scoped Γ c n (make k z e) t h p x =
         let S = scene_of P A O in
@@ -389,7 +389,7 @@ module _ (P : Basis) (A : Assignment) (O : Objects) where
     operation_covered Γ (remainder a b) t p = tt
     operation_covered Γ (assert e) t p = tt
     operation_covered Γ (assert_false k) t p = tt
-    operation_covered Γ read t p = tt
+    operation_covered Γ (read e) t p = tt
     operation_covered Γ (print e) t p = tt
     operation_covered Γ (fun k y b) t p = block_covered (body_context Γ y t) b (body_type P.setting.scopes y t) p.3
     operation_covered Γ (match_on k u arms) t p = p.2

@@ -163,7 +163,7 @@ module _ (P : Basis) (A : Assignment) (O : Objects) where
     IsPlain Γ (remainder x y) t = PureOver (names_in Γ) x × PureOver (names_in Γ) y
     IsPlain Γ (assert e) t = PureOver (names_in Γ) e
     IsPlain Γ (assert_false p) t = Unit {0}
-    IsPlain Γ read t = Unit {0}
+    IsPlain Γ (read e) t = PureOver (names_in Γ) e
     IsPlain Γ (print e) t = PureOver (names_in Γ) e
     IsPlain Γ (make p n e) t =
         PureOver (names_in Γ) n × IsOperand P A O Γ e × IsTemplateOver Γ p

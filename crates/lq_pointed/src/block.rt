@@ -41,7 +41,7 @@ pub enum Operation {
     Divide(Quotient, Pure, Pure),
     Assert(Pure),
     AssertFalse(usize),
-    Read,
+    Read(Pure),
     Print(Pure),
     MapEmpty(usize),
     /// `Map.add k e m`

@@ -49,8 +49,8 @@ HidingExample =
     (define 0 (number 0 1) ∷ define 1 (node 2 (form.read (node 1 form.unit))) ∷ define 2 (node 3 (form.flag true))
     ∷ define 3 (node 5 (form.read (node 4 form.unit))) ∷ [])
     (t.define 0 (at 20) 0 (t.last (at 0) (t.pure (amount 1)))
-    (t.define 1 (at 21) 1 (t.last (at 2) t.read)
-    (t.define 2 (at 22) 2 (t.last (at 3) (t.pure (t.flag true))) (t.define 3 (at 23) 3 (t.last (at 5) t.read) t.no_items))))
+    (t.define 1 (at 21) 1 (t.last (at 2) (t.read t.unit))
+    (t.define 2 (at 22) 2 (t.last (at 3) (t.pure (t.flag true))) (t.define 3 (at 23) 3 (t.last (at 5) (t.read t.unit)) t.no_items))))
     (whole [] [] ml.int ∷ whole (int_named 0 ∷ []) [] ml.int ∷ whole (int_named 0 ∷ int_named 1 ∷ []) [] ml.bool
     ∷ whole (int_named 1 ∷ bool_named 2 ∷ []) [] ml.int ∷ [])
     (([], shape.int) ∷ (int_named 0 ∷ [], shape.int) ∷ (int_named 0 ∷ int_named 1 ∷ [], shape.bool)

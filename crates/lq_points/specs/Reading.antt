@@ -121,7 +121,7 @@ module _ (n : Annotation) where
       let z = pure_of n Δ (after (after k x) y) c in
       record { read = t.store x.read y.read z.read; points = x.points ++ (y.points ++ z.points) }
   operation_form k Δ i (form.print e) = with_one (pure_of n Δ k e) t.print
-  operation_form k Δ i (form.read e) = without_points t.read
+  operation_form k Δ i (form.read e) = with_one (pure_of n Δ k e) t.read
   operation_form k Δ i form.map_empty = pointed (empty (scope_at n Δ i) (element_type (n.types i))) (without_points (t.map_empty k))
   operation_form k Δ i (form.map_add a b c) =
       let x = pure_of n Δ (suc k) a in

@@ -1,4 +1,4 @@
--- Pure expressions of numbers and of truth values.
+-- Pure expressions of numbers, of truth values and of type unit.
 use Rattle.std.proofs.Common.{◌≡◌, ℕ, suc, ℤ, pos, ◌&&◌, ◌||◌, Bool, true, false, cond, ◌==◌, [], ◌∷◌, Option, Some, refl, sym, ap, ◌∙◌, subst, if◌then◌else◌}
 use Rattle.lq_name.specs.declared.operation.CompareOp.{CompareOp}
 use Rattle.lq_name.specs.declared.operation.CompareOp.TheVariants as test
@@ -12,7 +12,7 @@ use Rattle.lq_pred.specs.Truth as truths
 use Rattle.lq_pred.specs.Truth.{truth_of, term_value}
 use Rattle.lq_tree.specs.MlType as ml
 use Rattle.lq_tree.specs.MlType.{MlType}
-use Rattle.lq_model.specs.Core.{Core, val, use_of, one, two, and_of, or_of, Operation, Binary, negate, invert, length_of, arithmetic, sum, difference, product, comparison, Value, v_whole, v_flag, v_array, value_in, replaced, close, as_value}
+use Rattle.lq_model.specs.Core.{Core, val, use_of, one, two, and_of, or_of, Operation, Binary, negate, invert, length_of, arithmetic, sum, difference, product, comparison, Value, v_whole, v_flag, v_unit, v_array, value_in, replaced, close, as_value}
 use Rattle.lq_model.specs.Operations as act
 use Rattle.lq_model.specs.Operations.{World, gives, unary_act, binary_act}
 use Rattle.lq_model.specs.Step.{goes, in_one, in_left, in_right, in_and, in_or}
@@ -36,7 +36,7 @@ use Rattle.lq_runs.specs.Closed.{names_in, IsClosed}
 use Rattle.lq_pures.specs.Cores.{pure_core}
 use Rattle.lq_runs.specs.Meets.{pair_of, pairs, Meets}
 use Rattle.lq_pures.specs.Pures.{KnowsLengths, UseOver, PureOver}
-use Rattle.lq_runs.specs.Runs.{Exactly, RunsExactly, RunsToTruth, RunsToNumber}
+use Rattle.lq_runs.specs.Runs.{Exactly, RunsExactly, RunsToTruth, RunsToNumber, RunsToUnit}
 use Rattle.lq_runs.proofs.Framing.{runs_in}
 use Rattle.lq_runs.proofs.Lower.{Lower}
 use Rattle.lq_runs.proofs.Meeting.{Looked, look}
@@ -161,6 +161,18 @@ module _ (S : Scene) (n : ℕ) (W : Table) (σ : Givens) (by : Shuts) where
   flag_of (map_with a p) e v h = absurd (cc)
   flag_of (type_variable i) e v h = absurd (cc)
 
+  pub unit_of : (t : Refined) → erased t ≡ ml.unit → (v : Value) → Inhabits S n W (shut σ by t) v → v ≡ v_unit
+  unit_of unit_type e v_unit h = refl
+  unit_of unit_type e _ h = absurd h.0
+  unit_of (int_with p) e v h = absurd (cc)
+  unit_of (bool_with p) e v h = absurd (cc)
+  unit_of (function x a b) e v h = absurd (cc)
+  unit_of (tuple_of ts) e v h = absurd (cc)
+  unit_of (array_with a p) e v h = absurd (cc)
+  unit_of (data_with d ts m p) e v h = absurd (cc)
+  unit_of (map_with a p) e v h = absurd (cc)
+  unit_of (type_variable i) e v h = absurd (cc)
+
   -- an array, whose length is that of its number
   pub array_of : KnowsLengths S.objects → (t : Refined) (u : MlType) → erased t ≡ ml.array u → (v : Value) → Inhabits S n W (shut σ by t) v → (r : ℕ) × (k : ℕ) × (v ≡ v_array r k) × (S.objects.length (as_object S.objects (Some v)) ≡ pos k)
   array_of l (array_with a p) u e (v_array r k) h = (r, k, refl, l r k)
@@ -235,6 +247,12 @@ module _ (law : Lower) (S : Scene) (is : IsScene S) (lengths : KnowsLengths S.ob
       let l = look_up (suc n) W σ m u o in
       runs_variable k σ u.name (v_flag (as_flag (value_at σ x))) w (l.is ∙ ap Some (flag_of S (suc n) W σ by (type_in Γ x) (sym (e ∙ use_type u o)) l.value l.fits) ∙ ap (λ o. Some (v_flag (as_flag o))) (sym l.is))
 
+  unit_use : (u : Use) → UseOver (names_in Γ) u → ml.unit ≡ type_of_use Q Δ u → RunsToUnit S by Γ (use_of u.name)
+  unit_use u o e n W σ m k w =
+      let x = symbol_of u.name in
+      let l = look_up (suc n) W σ m u o in
+      runs_variable k σ u.name v_unit w (l.is ∙ ap Some (unit_of S (suc n) W σ by (type_in Γ x) (sym (e ∙ use_type u o)) l.value l.fits))
+
   length_use : (u : Use) → UseOver (names_in Γ) u → (a : MlType) → ml.array a ≡ type_of_use Q Δ u → RunsToNumber S by Γ (one length_of (use_of u.name)) (s.len (s.var (symbol_of u.name)))
   length_use u o a e n W σ m k w =
       let x = symbol_of u.name in
@@ -305,3 +323,18 @@ module _ (law : Lower) (S : Scene) (is : IsScene S) (lengths : KnowsLengths S.ob
   condition_runs (tree.subtract a b) h o = let z = h.0 in absurd (cc)
   condition_runs (tree.multiply a b) h o = let z = h.0 in absurd (cc)
   condition_runs (tree.length_of a) h o = let z = h.0 in absurd (cc)
+
+  pub unit_runs : (e : Pure) → PureIs Q Δ e ml.unit → PureOver (names_in Γ) e → RunsToUnit S by Γ (pure_core e)
+  unit_runs tree.unit h o = value_exact law S by Γ v_unit
+  unit_runs (tree.use_of u) h o = unit_use u o h
+  unit_runs (tree.whole i) h o = absurd (cc)
+  unit_runs (tree.flag b) h o = absurd (cc)
+  unit_runs (tree.negated a) h o = let z = h.0 in absurd (cc)
+  unit_runs (tree.add a b) h o = let z = h.0 in absurd (cc)
+  unit_runs (tree.subtract a b) h o = let z = h.0 in absurd (cc)
+  unit_runs (tree.multiply a b) h o = let z = h.0 in absurd (cc)
+  unit_runs (tree.length_of a) h o = let z = h.0 in absurd (cc)
+  unit_runs (tree.compare c a b) h o = let z = h.0 in absurd (cc)
+  unit_runs (tree.not_of a) h o = let z = h.0 in absurd (cc)
+  unit_runs (tree.and_of a b) h o = let z = h.0 in absurd (cc)
+  unit_runs (tree.or_of a b) h o = let z = h.0 in absurd (cc)

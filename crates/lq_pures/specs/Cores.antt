@@ -54,7 +54,7 @@ abbrev mutual
   operation_core l (remainder x y) = core.two (core.arithmetic (core.remainder l)) (pure_core x) (pure_core y)
   operation_core l (assert e) = core.one (core.assert l) (pure_core e)
   operation_core l (assert_false p) = core.assert_false l
-  operation_core l read = core.one (core.read l) (core.val v_unit)
+  operation_core l (read e) = core.one (core.read l) (pure_core e)
   operation_core l (print e) = core.one core.print (pure_core e)
   operation_core l (map_empty p) = core.assert_false l
   operation_core l (map_add p k e m) = core.assert_false l

@@ -17,7 +17,7 @@ use Rattle.lq_included.specs.Laws.{IsScene}
 use Rattle.lq_included.specs.Symbols.{Symbols}
 use Rattle.lq_runs.specs.Closed.{names_in, IsClosed}
 use Rattle.lq_pures.specs.Cores.{pure_core}
-use Rattle.lq_runs.specs.Runs.{RunsToTruth, RunsToNumber}
+use Rattle.lq_runs.specs.Runs.{RunsToTruth, RunsToNumber, RunsToUnit}
 
 -- the lengths of arrays are those of their references
 abbrev pub KnowsLengths : Objects → Type 0
@@ -56,3 +56,9 @@ abbrev pub ConditionsRun : Type 0
 ConditionsRun =
     (S : Scene) → IsScene S → KnowsLengths S.objects → (by : Shuts) (Q : Points) (Δ : Types) (Γ : Context) → Fits Δ Γ → IsClosed S Γ → (e : Pure)
     → HasPure Q Δ e ml.bool → PureOver (names_in Γ) e → RunsToTruth S by Γ (pure_core e) (formula_of e)
+
+-- and what is of type unit to unit
+abbrev pub UnitsRun : Type 0
+UnitsRun =
+    (S : Scene) → IsScene S → KnowsLengths S.objects → (by : Shuts) (Q : Points) (Δ : Types) (Γ : Context) → Fits Δ Γ → IsClosed S Γ → (e : Pure)
+    → HasPure Q Δ e ml.unit → PureOver (names_in Γ) e → RunsToUnit S by Γ (pure_core e)

@@ -111,8 +111,8 @@ module _ (n : Annotation) where
         three (core.three (core.store l)) (variable_read n Δ k h) (pure_read n Δ (after k x) w) (pure_read n Δ (after (after k x) y) u))
     operation_read m g k Δ (is_print {i = i} {l = l} {e = e} h) =
         last_reads m l _ (core_of (tree i l (form.print e))) (ap (core.one core.print) (pure_read n Δ k h))
-    operation_read m g k Δ (is_read {i = i} {j = j} {l = l} {m = r}) =
-        last_reads m l _ (core_of (tree i l (form.read (tree j r form.unit)))) refl
+    operation_read m g k Δ (is_read {i = i} {l = l} {e = e} h) =
+        last_reads m l _ (core_of (tree i l (form.read e))) (ap (core.one (core.read l)) (pure_read n Δ k h))
 
     arms_read : (k : ℕ) (Δ : List Seen) (qs : List t.Pattern) {cs : Cases} → AreArms cs → arms_core (arms_of n k Δ qs cs).read ≡ model.arms_of cs
     arms_read k Δ qs no_arms = refl

@@ -120,7 +120,7 @@ module _ (D : Datatypes) (n : Annotation) (used : Uses) (all : List Point) where
   own_type (is_fetch h w) = refl
   own_type (is_store h w u) = refl
   own_type (is_print h) = refl
-  own_type is_read = refl
+  own_type (is_read h) = refl
 
   mutual
     block_typed : (g : Bool) (k : ℕ) (S : List Seen) (xs : List ℕ) (Δ : Types) (d : AreNamed n Δ) (w : Holds n xs Δ) {e : Tree} → IsBlock e → UsesFit n xs e → (typed e).obeys
@@ -236,7 +236,9 @@ module _ (D : Datatypes) (n : Annotation) (used : Uses) (all : List Point) where
     operation_typed g k S xs Δ d w (is_print {i = i} {l = l} {e = e} m) u (is, o) h =
         alone_typed Δ l _ _ (subst (Operates Δ _) (sym is.1)
         (has_print (subst (HasPure (points_of all) Δ _) is.0 (pures.operand D n used all S xs Δ d w k m u o h)))) tt
-    operation_typed g k S xs Δ d w (is_read {i = i} {l = l}) u (is, o) h = alone_typed Δ l _ _ (subst (Operates Δ _) (sym is.1) has_read) tt
+    operation_typed g k S xs Δ d w (is_read {i = i} {l = l} {e = e} m) u (is, o) h =
+        alone_typed Δ l _ _ (subst (Operates Δ _) (sym is.1)
+        (has_read (subst (HasPure (points_of all) Δ _) is.0 (pures.operand D n used all S xs Δ d w k m u o h)))) tt
 
     arms_typed : (k : ℕ) (S : List Seen) (qs : List t.Pattern) (xs : List ℕ) (Δ : Types) → AreNamed n Δ → Holds n xs Δ → (from a : MlType) {cs : Cases} → AreArms cs
         → CaseUsesFit n xs cs → ArmsObey D.constructors (types_of n) used (fold_cases (typing D.constructors (types_of n) used) cs) from a

@@ -83,7 +83,7 @@ mutual
     is_fetch : {i : ℕ} {l : Place} {a n : Tree} → IsUse a → IsPure n → IsOperation (tree i l (form.fetch a n))
     is_store : {i : ℕ} {l : Place} {a n e : Tree} → IsUse a → IsPure n → IsPure e → IsOperation (tree i l (form.store a n e))
     is_print : {i : ℕ} {l : Place} {e : Tree} → IsPure e → IsOperation (tree i l (form.print e))
-    is_read : {i j : ℕ} {l m : Place} → IsOperation (tree i l (form.read (tree j m form.unit)))
+    is_read : {i : ℕ} {l : Place} {e : Tree} → IsPure e → IsOperation (tree i l (form.read e))
 
   pub data AreArms : Cases → Type 0 where
     no_arms : AreArms no_cases

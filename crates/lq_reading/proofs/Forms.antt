@@ -25,7 +25,7 @@ use Rattle.lq_points.specs.Reading.{built, names_in, operation_form}
 use Rattle.lq_points.specs.Seen.{Seen}
 use Rattle.lq_instances.specs.Scopes.{Scope}
 use Rattle.lq_tree.specs.MlType.{MlType}
-use Rattle.lq_tree.specs.Tree.{Tree, tree, Form, use_of, fun, build, if_else, match_on, read}
+use Rattle.lq_tree.specs.Tree.{Tree, tree, Form, use_of, fun, build, if_else, match_on}
 use Rattle.lq_tree.specs.TreeView.{cases_of}
 use Rattle.lq_tree.specs.declared.expr.Arguments.{Arguments}
 
@@ -84,9 +84,6 @@ seen_pure a = search (rules, block_lemmas)
 
 pub seen_build : (c : Name) (w : Arguments) (as_ : Vec Atom Global) → operation_node_view (operation.Build c w as_) ≡ build c.0 w (atoms_view as_.items)
 seen_build c w as_ = search (rules, block_lemmas)
-
-pub seen_read : (a : Atom) → operation_node_view (operation.Read a) ≡ read (atom_view a)
-seen_read a = search (rules, block_lemmas)
 
 pub seen_fun : (x : Local) (b : Box Block Global) → operation_node_view (operation.Fun x b) ≡ fun (local_view x) (block_view b.value)
 seen_fun x b = search (rules, block_lemmas)

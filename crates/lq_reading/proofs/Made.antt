@@ -38,9 +38,6 @@ made_store u a b = search (rules, the_lemmas)
 pub made_map_add : (k : ℕ) (a b c : Pure) → operation_view (operation.MapAdd k a b c) ≡ t.map_add k (pure_view a) (pure_view b) (pure_view c)
 made_map_add k a b c = search (rules, the_lemmas)
 
-pub made_read : operation_view operation.Read ≡ t.read
-made_read = search (rules, the_lemmas)
-
 pub made_unit : operation_view (operation.Pure pure.Unit) ≡ t.pure t.unit
 made_unit = made_pure pure.Unit ∙ ap t.pure unit
   where

@@ -174,7 +174,10 @@ impl State {
                 let number = self.pure(notes, number)?;
                 Ok(Operation::Print(number))
             }
-            OperationNode::Read(_) => Ok(Operation::Read),
+            OperationNode::Read(operand) => {
+                let operand = self.pure(notes, operand)?;
+                Ok(Operation::Read(operand))
+            }
             OperationNode::MapEmpty => {
                 let point = self.no_elements(notes, id)?;
                 Ok(Operation::MapEmpty(point))

@@ -31,7 +31,7 @@ use Rattle.lq_included.proofs.Truths.{implied_true}
 use Rattle.lq_included.proofs.Truths as truths
 use Rattle.lq_runs.specs.Closed.{names_in, bound, IsClosed}
 use Rattle.lq_runs.specs.Meets.{pairs, Meets}
-use Rattle.lq_runs.specs.Runs.{RunsTo, Exactly, RunsToTruth, RunsToNumber, RunsToValue}
+use Rattle.lq_runs.specs.Runs.{RunsTo, Exactly, RunsToTruth, RunsToNumber, RunsToUnit, RunsToValue}
 use Rattle.lq_runs.proofs.Framing.{runs_in}
 use Rattle.lq_runs.proofs.Lower.{Lower}
 use Rattle.lq_runs.proofs.Meeting.{extends_self, extends_on, agrees_as, meets_less, meets_bind, meets_guard, thin_new, thick_new}
@@ -64,16 +64,22 @@ module _ (law : Lower) (S : Scene) where
       runs_step j (let_in q d B) (close ((x, v) ∷ ps) b) z z (LandsIn S W (shut σ by u)) refl (go ∙ ap (λ k. Some (goes k z)) (law.behind (x ∷ []) ((x, v) ∷ []) ps b (law.one x v))) (λ k eq.
       runs_map k (close ((x, v) ∷ ps) b) z (LandsIn S r.0 (shut (given (symbol_of x) v ∷ σ) by u)) (LandsIn S W (shut σ by u)) (λ i y a le2 s. (s.0, extends_on W r.0 s.0 r.1 s.1, thin_new law S is Γ (symbol_of x) v σ by u t c o i s.0 y s.2, s.3)) (body k r.0 (given (symbol_of x) v ∷ σ) z (meets_bind law S is by (suc n) (suc k) W r.0 Γ σ (symbol_of x) t v (omega (numbers, le, eq)) r.1 c m (law.smaller S j (suc k) r.0 (shut σ by t) v (omega (numbers, eq)) r.2)) (law.stores S j k r.0 z (omega (numbers, eq)) r.3))))
 
-  read_at : (by : Shuts) (p : Place) (n : ℕ) (W : Table) (σ : Givens) (w : World) → Agrees S n W w → (is : List ℤ) → w.input ≡ is → RunsWell n (one (read p) (val v_unit)) w (LandsIn S W (shut σ by (int_with [])))
-  read_at by p n W σ w ag [] is =
-      runs_ends n (one (read p) (val v_unit)) w (Some (ends p)) (LandsIn S W (shut σ by (int_with []))) refl (ap (λ i. Some (done (read_act p i w))) is) (λ F go. tt)
-  read_at by p n W σ w ag (i ∷ is) e =
+  -- what the input has left says whether it is a number or the end
+  read_at : (by : Shuts) (p : Place) (c : Core) (n : ℕ) (W : Table) (σ : Givens) (w : World) → as_value c ≡ Some v_unit → Agrees S n W w → (is : List ℤ) → w.input ≡ is → RunsWell n (one (read p) c) w (LandsIn S W (shut σ by (int_with [])))
+  read_at by p c n W σ w at ag [] e =
+      let go : step (one (read p) c) w ≡ Some (done (read_act p w.input w)) = rw at in
+      runs_ends n (one (read p) c) w (Some (ends p)) (LandsIn S W (shut σ by (int_with []))) refl (go ∙ ap (λ i. Some (done (read_act p i w))) e) (λ F go. tt)
+  read_at by p c n W σ w at ag (i ∷ is) e =
       let u : World = record w { input = is } in
-      runs_step n (one (read p) (val v_unit)) (val (v_whole i)) w u (LandsIn S W (shut σ by (int_with []))) refl (ap (λ i. Some (done (read_act p i w))) e) (λ k eq.
+      let go : step (one (read p) c) w ≡ Some (done (read_act p w.input w)) = rw at in
+      runs_step n (one (read p) c) (val (v_whole i)) w u (LandsIn S W (shut σ by (int_with []))) refl (go ∙ ap (λ i. Some (done (read_act p i w))) e) (λ k eq.
       runs_value k (val (v_whole i)) u (v_whole i) (LandsIn S W (shut σ by (int_with []))) refl (W, extends_self W, (tt, (tt, tt)), agrees_as law S k W w u refl (law.stores S n k W w (omega (numbers, eq)) ag)))
 
-  pub read_ok : (by : Shuts) (Γ : Context) (p : Place) → RunsTo S by Γ (one (read p) (val v_unit)) (int_with [])
-  read_ok by Γ p n W σ w m ag = read_at by p n W σ w ag w.input refl
+  pub read_ok : (by : Shuts) (Γ : Context) (p : Place) (c : Core) → RunsToUnit S by Γ c → RunsTo S by Γ (one (read p) c) (int_with [])
+  read_ok by Γ p c runs n W σ w m ag =
+      let Q = LandsIn S W (shut σ by (int_with [])) in
+      runs_in law (in_one (read p)) tt n (close (pairs σ) c) w (Exactly v_unit w) Q (runs n W σ m n w) (λ j d u x le is q.
+      subst (λ y. RunsWell j (one (read p) d) y Q) (sym q.1) (read_at by p d j W σ w (is ∙ ap Some q.0) (law.stores S n j W w le ag) w.input refl))
 
   -- ---- conditions
 

@@ -8,7 +8,7 @@ use Rattle.lq_parts.specs.Part.{known}
 use Rattle.lq_refined.specs.Context.{Context, guard}
 use Rattle.lq_refined.specs.Refined.{Refined, int_with, unit_type, function}
 use Rattle.lq_subtype.specs.Subtype.{facts, IsSubtype}
-use Rattle.lq_model.specs.Core.{Core, variable, val, one, assert, print, read, let_in, let_rec, fun, call, if_else, Value, v_unit, v_rec, without, close}
+use Rattle.lq_model.specs.Core.{Core, variable, one, assert, print, read, let_in, let_rec, fun, call, if_else, Value, v_rec, without, close}
 use Rattle.lq_model.specs.Operations.{World}
 use Rattle.lq_inhabits.specs.Truth.{Givens, Scene}
 use Rattle.lq_inhabits.specs.Shut.{shut, Shuts, with_argument}
@@ -20,7 +20,7 @@ use Rattle.lq_included.specs.Laws.{IsScene}
 use Rattle.lq_included.specs.Symbols.{TypeOn}
 use Rattle.lq_runs.specs.Closed.{names_in, bound, IsClosed}
 use Rattle.lq_runs.specs.Meets.{pairs, Meets}
-use Rattle.lq_runs.specs.Runs.{RunsTo, RunsToValue, Exactly, RunsToTruth, RunsToNumber}
+use Rattle.lq_runs.specs.Runs.{RunsTo, RunsToValue, Exactly, RunsToTruth, RunsToNumber, RunsToUnit}
 
 -- an expression of a type has its supertypes
 abbrev pub SubtypeRuns : Type 0
@@ -35,7 +35,7 @@ LetRuns =
     → TypeOn S.assignment u (names_in Γ) → RunsTo S by Γ e t → RunsTo S by (bound x t Γ) b u → RunsTo S by Γ (let_in (variable x) e b) u
 
 abbrev pub ReadRuns : Type 0
-ReadRuns = (S : Scene) (by : Shuts) (Γ : Context) (p : Place) → RunsTo S by Γ (one (read p) (val v_unit)) (int_with [])
+ReadRuns = (S : Scene) (by : Shuts) (Γ : Context) (p : Place) (c : Core) → RunsToUnit S by Γ c → RunsTo S by Γ (one (read p) c) (int_with [])
 
 -- `if`, whose branches run under the condition and under its negation
 abbrev pub IfRuns : Type 0

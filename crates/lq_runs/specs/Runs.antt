@@ -3,7 +3,7 @@ use Rattle.std.specs.Prelude.{◌≡◌, ℕ, suc}
 use Rattle.lq_pred.specs.Formula.{Formula}
 use Rattle.lq_pred.specs.Sum.{Sum}
 use Rattle.lq_pred.specs.Truth.{term_value, truth_of}
-use Rattle.lq_model.specs.Core.{Core, Value, v_whole, v_flag, close}
+use Rattle.lq_model.specs.Core.{Core, Value, v_whole, v_flag, v_unit, close}
 use Rattle.lq_model.specs.Operations.{World}
 use Rattle.lq_refined.specs.Context.{Context}
 use Rattle.lq_refined.specs.Refined.{Refined}
@@ -40,3 +40,7 @@ RunsToTruth S by Γ e p = RunsExactly S by Γ e (λ σ. v_flag (truth_of (meanin
 
 abbrev pub RunsToNumber : Scene → Shuts → Context → Core → Sum → Type 0
 RunsToNumber S by Γ e t = RunsExactly S by Γ e (λ σ. v_whole (term_value (meaning_of S.objects σ) t))
+
+-- what is of type unit, to unit
+abbrev pub RunsToUnit : Scene → Shuts → Context → Core → Type 0
+RunsToUnit S by Γ e = RunsExactly S by Γ e (λ σ. v_unit)

@@ -43,7 +43,7 @@ use Rattle.lq_runs.specs.Forms.{SubtypeRuns, LetRuns, ReadRuns, IfRuns, AssertRu
 use Rattle.lq_quotients.specs.Quotients.{QuotientRuns, RemainderRuns}
 use Rattle.lq_pures.proofs.Values.{sum_over}
 use Rattle.lq_pures.specs.Cores.{pure_core, operation_core, block_core, arms_core}
-use Rattle.lq_pures.specs.Pures.{KnowsLengths, scene_of, UseOver, NumbersRun, ConditionsRun}
+use Rattle.lq_pures.specs.Pures.{KnowsLengths, scene_of, UseOver, NumbersRun, ConditionsRun, UnitsRun}
 use Rattle.lq_pures.specs.Values.{ConditionsGuard}
 use Rattle.lq_calls.specs.Operands.{IsUsable, OperandsRun, CallsRun}
 use Rattle.lq_arrays.specs.Arrays.{FetchRuns, MakeRuns, StoreRuns}
@@ -71,6 +71,7 @@ pub record Forms : Type 0 where
   pub prints : PrintRuns
   pub numbers : NumbersRun
   pub conditions : ConditionsRun
+  pub units : UnitsRun
   pub operands : OperandsRun
   pub calls : CallsRun
   pub functions : FunctionRuns
@@ -242,7 +243,9 @@ module _ (forms : Forms) (P : Basis) (A : Assignment) (O : Objects) (is : IsScen
         let S = scene_of P A O in
         forms.asserts S by Γ l (pure_core z) (formula_of z) (forms.conditions S is lengths by Q Δ Γ f c z h s) r
     operation_runs (tree.assert_false p) l Δ Γ t a f c h e r k s = impossible_ok Γ (operation_core l (tree.assert_false p)) (P.template p) r
-    operation_runs tree.read l Δ Γ t a f c h e r k s = forms.reads (scene_of P A O) by Γ l
+    operation_runs (tree.read z) l Δ Γ t a f c h e r k s =
+        let S = scene_of P A O in
+        forms.reads S by Γ l (pure_core z) (forms.units S is lengths by Q Δ Γ f c z h s)
     operation_runs (tree.print z) l Δ Γ t a f c h e r k s =
         let S = scene_of P A O in
         forms.prints S by Γ (pure_core z) (sum_of z) (forms.numbers S is lengths by Q Δ Γ f c z h s)

@@ -19,7 +19,7 @@ use Rattle.lq_tree.specs.Types.{Constructor}
 use Rattle.lq_tree.specs.Signatures.{constructor_in, predeclared}
 use Rattle.lq_subtype.specs.Subtype.{Setting, IsSubtype, sub, in_bool, in_unit}
 use Rattle.lq_checks.specs.Checks.{Checks, obeys_pure, obeys_fun, obeys_if, obeys_call, obeys_assert, obeys_read, obeys_print, against_last, against_binding, gives_last, checks_none, checks_define, checks_unit}
-use Rattle.lq_checks.specs.Typing.{AreTemplates, HasProgram, has_use, has_whole, has_compare, has_pure, has_fun, has_if, has_call, has_assert, has_read, has_print, has_last, has_binding, end_last, has_no_items, has_define, has_run_unit}
+use Rattle.lq_checks.specs.Typing.{AreTemplates, HasProgram, has_use, has_unit, has_whole, has_compare, has_pure, has_fun, has_if, has_call, has_assert, has_read, has_print, has_last, has_binding, end_last, has_no_items, has_define, has_run_unit}
 use Rattle.lq_inhabits.specs.Truth.{Scene}
 use Rattle.lq_inhabits.specs.Datatypes.{AllCovariantIn, AnyVariable, AreCovariant}
 use Rattle.lq_included.specs.Apart.{Apart}
@@ -73,7 +73,7 @@ typed : HasProgram example_basis example_points [] example_program
 typed =
     has_define {a = ml.arrow ml.bool ml.unit} (λ e. refl) (end_last (has_fun {a = ml.bool} (has_last (has_assert has_use))) refl)
     (has_run_unit
-    (has_binding {a = ml.int} has_read tt
+    (has_binding {a = ml.int} (has_read has_unit) tt
     (has_binding {a = ml.bool} (has_pure (has_compare has_use has_whole)) tt
     (has_last (has_if has_use (has_last (has_call {a = ml.bool} has_use has_use)) (has_last (has_print has_use))))))
     has_no_items)

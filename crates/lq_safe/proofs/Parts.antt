@@ -40,7 +40,7 @@ module _ (P : Basis) (A : Assignment) where
   ObeysParts Γ (remainder x y) t = Demanded P A Γ (not_zero y)
   ObeysParts Γ (assert e) t = Demanded P A Γ (formula_of e)
   ObeysParts Γ (assert_false p) t = Demanded P A Γ falsity
-  ObeysParts Γ read t = Unit {0}
+  ObeysParts Γ (read e) t = Unit {0}
   ObeysParts Γ (print e) t = Unit {0}
   ObeysParts Γ (map_empty p) t = Unit {0}
   ObeysParts Γ (map_add p k e m) t = Unit {0}
@@ -99,7 +99,7 @@ module _ (P : Basis) (Q : Points) where
   OperationHas Δ (remainder x y) a = HasPure Q Δ x ml.int × HasPure Q Δ y ml.int
   OperationHas Δ (assert e) a = HasPure Q Δ e ml.bool
   OperationHas Δ (assert_false p) a = Unit {0}
-  OperationHas Δ read a = Unit {0}
+  OperationHas Δ (read e) a = HasPure Q Δ e ml.unit
   OperationHas Δ (print e) a = HasPure Q Δ e ml.int
   OperationHas Δ (map_empty p) a = Unit {0}
   OperationHas Δ (map_add p k e m) a = Unit {0}
@@ -120,7 +120,7 @@ module _ (P : Basis) (Q : Points) where
   operation_has (has_remainder x y) = (x, y)
   operation_has (has_assert e) = e
   operation_has (has_assert_false p) = tt
-  operation_has has_read = tt
+  operation_has (has_read e) = e
   operation_has (has_print e) = e
   operation_has (has_map_empty p) = tt
   operation_has (has_map_add p k e m) = tt

@@ -90,13 +90,13 @@ mutual
   operation_same (tree.if_else p e a b) l V ps qs f k u =
       ap (λ z. core.if_else z (close ps (block_core a)) (close ps (block_core b))) (pure_same V ps qs f e u.0) ∙ ap₂ (core.if_else (close qs (pure_core e))) (block_same a V ps qs f k.0 u.1) (block_same b V ps qs f k.1 u.2)
   operation_same (tree.assert e) l V ps qs f k u = ap (core.one (core.assert l)) (pure_same V ps qs f e u)
+  operation_same (tree.read e) l V ps qs f k u = ap (core.one (core.read l)) (pure_same V ps qs f e u)
   operation_same (tree.print e) l V ps qs f k u = ap (core.one core.print) (pure_same V ps qs f e u)
   operation_same (tree.divide x y) l V ps qs f k u =
       ap₂ (core.two (core.arithmetic (core.quotient l))) (pure_same V ps qs f x u.0) (pure_same V ps qs f y u.1)
   operation_same (tree.remainder x y) l V ps qs f k u =
       ap₂ (core.two (core.arithmetic (core.remainder l))) (pure_same V ps qs f x u.0) (pure_same V ps qs f y u.1)
   operation_same (tree.assert_false p) l V ps qs f k u = refl
-  operation_same tree.read l V ps qs f k u = refl
   operation_same (tree.fun p y b) l V ps qs f k u =
       ap (core.fun (core.variable y)) (block_same b (with_symbol V (symbol_of y)) (without (y ∷ []) ps) (without (y ∷ []) qs) (same_without V ps qs y f) k u)
   operation_same (tree.match_on p x arms) l V ps qs f k u =

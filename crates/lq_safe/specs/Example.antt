@@ -14,7 +14,7 @@ use Rattle.lq_model.specs.Program.{IsSafe}
 use Rattle.lq_checks.specs.Basis.{Basis}
 use Rattle.lq_checks.specs.Checks.{Checks}
 use Rattle.lq_checks.specs.Sample.{at, variable, amount, basis}
-use Rattle.lq_checks.specs.Tree.{Program, no_items, define, run_unit, last, binding, pure, compare, fun, if_else, call, assert, read, print}
+use Rattle.lq_checks.specs.Tree.{Program, no_items, define, run_unit, last, binding, pure, unit, compare, fun, if_else, call, assert, read, print}
 use Rattle.lq_checks.specs.Typing.{Points, AreTemplates, HasProgram}
 use Rattle.lq_inhabits.specs.Truth.{Objects}
 use Rattle.lq_included.specs.Laws.{IsScene}
@@ -44,7 +44,7 @@ abbrev pub example_program : Program
 example_program =
     define 10 (at 1) 0 (last (at 2) (fun 0 12 (last (at 3) (assert (variable 12)))))
     (run_unit
-    (binding 13 (at 4) read
+    (binding 13 (at 4) (read unit)
     (binding 14 (at 5) (pure (compare op.Lt (variable 13) (amount 100)))
     (last (at 6)
     (if_else 1 (variable 14) (last (at 7) (call (variable 10) (variable 14))) (last (at 8) (print (variable 13)))))))
@@ -67,7 +67,7 @@ abbrev pub unguarded_program : Program
 unguarded_program =
     define 10 (at 1) 0 (last (at 2) (fun 0 12 (last (at 3) (assert (variable 12)))))
     (run_unit
-    (binding 13 (at 4) read
+    (binding 13 (at 4) (read unit)
     (binding 14 (at 5) (pure (compare op.Lt (variable 13) (amount 100))) (last (at 6) (call (variable 10) (variable 14)))))
     no_items)
 

@@ -42,6 +42,7 @@ abbrev mutual
   UsesOnly V (divide x y) = PureOver V x × PureOver V y
   UsesOnly V (remainder x y) = PureOver V x × PureOver V y
   UsesOnly V (assert e) = PureOver V e
+  UsesOnly V (read e) = PureOver V e
   UsesOnly V (print e) = PureOver V e
   UsesOnly V (fun p y b) = BlockUsesOnly (with_symbol V (symbol_of y)) b
   UsesOnly V (match_on p u arms) = UseOver V u × ArmsUseOnly V arms
@@ -52,7 +53,6 @@ abbrev mutual
   UsesOnly V (fetch u i) = UseOver V u × PureOver V i
   UsesOnly V (store u i e) = UseOver V u × PureOver V i × PureOver V e
   UsesOnly V (assert_false p) = Unit {0}
-  UsesOnly V read = Unit {0}
   UsesOnly V (map_empty p) = Unit {0}
   UsesOnly V (map_add p k e m) = Unit {0}
   UsesOnly V (map_find k m) = Unit {0}

@@ -42,7 +42,7 @@ abbrev mutual
   IsCovered (remainder x y) = Unit {0}
   IsCovered (assert e) = Unit {0}
   IsCovered (assert_false p) = Unit {0}
-  IsCovered read = Unit {0}
+  IsCovered (read e) = Unit {0}
   IsCovered (print e) = Unit {0}
   IsCovered (map_empty p) = ⊥
   IsCovered (map_add p k e m) = ⊥
@@ -108,6 +108,7 @@ module _ (P : Basis) (A : Assignment) (O : Objects) where
     IsScoped Γ (divide x y) t = PureOver (names_in Γ) x × PureOver (names_in Γ) y
     IsScoped Γ (remainder x y) t = PureOver (names_in Γ) x × PureOver (names_in Γ) y
     IsScoped Γ (assert e) t = PureOver (names_in Γ) e
+    IsScoped Γ (read e) t = PureOver (names_in Γ) e
     IsScoped Γ (print e) t = PureOver (names_in Γ) e
     IsScoped Γ (match_on p u arms) t =
         UseOver (names_in Γ) u × IsUsable (scene_of P A O) Γ (type_in Γ (symbol_of u.name)) × TypeOn A t (names_in Γ)
@@ -125,7 +126,6 @@ module _ (P : Basis) (A : Assignment) (O : Objects) where
         UseOver (names_in Γ) u × PureOver (names_in Γ) i × IsOperand Γ e
         × ((d : IsSubtype P.setting A Γ (pure_type P Γ e) (element_of (type_of_use P Γ u))) → Apart (scene_of P A O) d)
     IsScoped Γ (assert_false p) t = Unit {0}
-    IsScoped Γ read t = Unit {0}
     IsScoped Γ (map_empty p) t = Unit {0}
     IsScoped Γ (map_add p k e m) t = Unit {0}
     IsScoped Γ (map_find k m) t = Unit {0}

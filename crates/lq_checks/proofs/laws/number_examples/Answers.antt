@@ -37,6 +37,9 @@ returns-clause-known_part c = refl
 pub returns-clause-known : goal.returns-clause-known
 returns-clause-known c = refl
 
+pub returns-clause-read_of : goal.returns-clause-read_of
+returns-clause-read_of c = refl
+
 pub returns-clause-own_block : goal.returns-clause-own_block
 returns-clause-own_block c = refl
 

@@ -1,5 +1,5 @@
 use Rattle.lq_runs.proofs.Lower.{Lower}
-use Rattle.lq_pures.proofs.Pures.{pure_is, number_runs, condition_runs}
+use Rattle.lq_pures.proofs.Pures.{pure_is, number_runs, condition_runs, unit_runs}
 use Rattle.lq_pures.proofs.Values.{value_runs, pure_over, condition_guards}
 use Rattle.lq_tree.specs.MlType as ml
 use Rattle.lq_pures.proofs.laws.pures_run.Goals as goal
@@ -13,6 +13,11 @@ pub returns-clause-conditions : goal.returns-clause-conditions
 returns-clause-conditions c = λ S is l by Q Δ Γ f k e h o.
     let law : Lower = record { valid = c.whole_numbers_are_a_point.ensures.valid; truth-by = c.truth_under_substitution.ensures; under-by = c.substitutions.ensures.under; smaller = c.inhabitants_stay.ensures.smaller; extended = c.inhabitants_stay.ensures.extended; stores = c.inhabitants_stay.ensures.stores; calls = c.numbers_below.ensures.calls; elements = c.numbers_below.ensures.elements; subtypes = c.subtypes_fit.ensures.subtypes; bound = c.subtypes_fit.ensures.bound; thin = c.like_types_fit.ensures.thin; put = c.like_types_fit.ensures.put; inside = c.parts_step.ensures.inside; wait = c.parts_step.ensures.wait; behind = c.closing.ensures.behind; one = c.closing.ensures.one; join = c.closing.ensures.together } in
     condition_runs law S is l by Q Δ Γ f k e (pure_is Q Δ e ml.bool h) o
+
+pub returns-clause-units : goal.returns-clause-units
+returns-clause-units c = λ S is l by Q Δ Γ f k e h o.
+    let law : Lower = record { valid = c.whole_numbers_are_a_point.ensures.valid; truth-by = c.truth_under_substitution.ensures; under-by = c.substitutions.ensures.under; smaller = c.inhabitants_stay.ensures.smaller; extended = c.inhabitants_stay.ensures.extended; stores = c.inhabitants_stay.ensures.stores; calls = c.numbers_below.ensures.calls; elements = c.numbers_below.ensures.elements; subtypes = c.subtypes_fit.ensures.subtypes; bound = c.subtypes_fit.ensures.bound; thin = c.like_types_fit.ensures.thin; put = c.like_types_fit.ensures.put; inside = c.parts_step.ensures.inside; wait = c.parts_step.ensures.wait; behind = c.closing.ensures.behind; one = c.closing.ensures.one; join = c.closing.ensures.together } in
+    unit_runs law S is l by Q Δ Γ f k e (pure_is Q Δ e ml.unit h) o
 
 pub returns-clause-values : goal.returns-clause-values
 returns-clause-values c = λ P A O is l by Q Δ Γ f k e a h o b.

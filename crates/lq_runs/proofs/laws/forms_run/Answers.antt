@@ -16,7 +16,7 @@ returns-clause-lets c =
 pub returns-clause-reads : goal.returns-clause-reads
 returns-clause-reads c =
     let law : Lower = record { valid = c.whole_numbers_are_a_point.ensures.valid; truth-by = c.truth_under_substitution.ensures; under-by = c.substitutions.ensures.under; smaller = c.inhabitants_stay.ensures.smaller; extended = c.inhabitants_stay.ensures.extended; stores = c.inhabitants_stay.ensures.stores; calls = c.numbers_below.ensures.calls; elements = c.numbers_below.ensures.elements; subtypes = c.subtypes_fit.ensures.subtypes; bound = c.subtypes_fit.ensures.bound; thin = c.like_types_fit.ensures.thin; put = c.like_types_fit.ensures.put; inside = c.parts_step.ensures.inside; wait = c.parts_step.ensures.wait; behind = c.closing.ensures.behind; one = c.closing.ensures.one; join = c.closing.ensures.together } in
-    λ S by Γ p. read_ok law S by Γ p
+    λ S by Γ p k f. read_ok law S by Γ p k f
 
 pub returns-clause-ifs : goal.returns-clause-ifs
 returns-clause-ifs c =

@@ -13,8 +13,8 @@ use Rattle.lq_reading.specs.Operations.{operation_read}
 use Rattle.lq_reading.specs.Pures.{pure_form_read}
 use Rattle.lq_reading.specs.State.{count_of, seen_of}
 use Rattle.lq_reading.proofs.Composing.{one, reads_nothing}
-use Rattle.lq_reading.proofs.Forms.{pure_operation, seen_build, seen_fun, seen_if, seen_match, seen_pure, seen_read}
-use Rattle.lq_reading.proofs.Made.{made_pure, made_read, made_unit, said}
+use Rattle.lq_reading.proofs.Forms.{pure_operation, seen_build, seen_fun, seen_if, seen_match, seen_pure}
+use Rattle.lq_reading.proofs.Made.{made_pure, made_unit, said}
 use Rattle.lq_reading.proofs.state.State.simple.Goals as goal
 
 pub returns-in_ok-pure-in-Pure : goal.returns-in_ok-pure-in-Pure
@@ -45,15 +45,6 @@ returns-in_ok-made-in-Build c =
     ∙ (ap (operation_read m old i) (seen_build name w fields)
     ∙ ap (λ l. operation_read m old i (form.build name.0 w (atoms_view l))) (sym c.deref-in-Build.ensures.value)))
     (c.in_ok-made-in-Build.ensures w)
-
-pub returns-in-Read : goal.returns-in-Read
-returns-in-Read c =
-    let m = c.args.notes.now in
-    let old = c.args.self.now in
-    let i = c.args.id in
-    said m old old (operation_view operation.Read) t.read (without_points t.read) (operation_read m old i (operation_node_view c.args.node.now)) made_read
-    (ap (λ n. operation_read m old i (operation_node_view n)) c.in-Read.is ∙ ap (operation_read m old i) (seen_read c.in-Read.field-0))
-    (reads_nothing m old t.read c.requires)
 
 pub returns-in-Fun : goal.returns-in-Fun
 returns-in-Fun c =
