@@ -8,7 +8,7 @@ use Rattle.lq_tree.specs.Types.{Signature, KnowsLists, Scheme, plain, general, N
 use Rattle.lq_tree.specs.TypingRules.{Annotation, DefinesBy, ItemIs, ItemPatternIs, ItemsAre, named, type_in}
 use Rattle.lq_normal.specs.Naming.{behind}
 use Rattle.lq_normal.specs.OnePass.{normal, tree_of}
-use Rattle.lq_normal_types.specs.Laws.{ProgramsKeepTypes}
+use Rattle.lq_normal_types.specs.Laws.{ProgramsKeepGivenTypes, ProgramsKeepTypes}
 use Rattle.lq_normal_types.specs.Made.{Gives, domain, made, parameter_made, with_made}
 use Rattle.lq_normal_types.specs.Plain.{AreBelow, ItemIsPlain, ItemsArePlain}
 use Rattle.lq_normal_types.specs.Programs.{IsSchemeOf, NormalItemIs, NormalItemsAre, item_made, items_made, next_item, next_items, normal_item, normal_items}
@@ -63,3 +63,6 @@ pub keep-types-of-programs : ProgramsKeepTypes
 keep-types-of-programs g n k is lists fine h =
     let xs = items_made g n.nodes k is in let m = with_made k xs n in
     items-keep g n m.binders k (agrees-below n xs k) lists is k [] fine h (gives-made n xs k (next_items k is) (all-run g n.nodes is k))
+
+pub keep-given-types-of-programs : ProgramsKeepGivenTypes
+keep-given-types-of-programs g n k is lists fine h given = items-keep g n n.binders k (λ x low. refl) lists is k [] fine h given

@@ -27,6 +27,11 @@ abbrev pub ProgramsKeepTypes : Type 0
 ProgramsKeepTypes = (g : Signature) (n : Annotation) (k : ℕ) (is : List ItemTree)
     → KnowsLists g → ItemsArePlain k is → ItemsAre g n [] is → NormalItemsAre g (with_made k (items_made g n.nodes k is) n) [] (normal_items k is)
 
+-- The same with any types for names that give made names those of what they are bound to.
+abbrev pub ProgramsKeepGivenTypes : Type 0
+ProgramsKeepGivenTypes = (g : Signature) (n : Annotation) (k : ℕ) (is : List ItemTree)
+    → KnowsLists g → ItemsArePlain k is → ItemsAre g n [] is → Gives n (items_made g n.nodes k is) → NormalItemsAre g n [] (normal_items k is)
+
 -- The made names of a program are numbered from the first one on in the order in which they are bound, up to the next one.
 abbrev pub MadeNamesRun : Type 0
 MadeNamesRun = (g : Signature) (nodes : ℕ → MlType) (k : ℕ) (is : List ItemTree) → Runs k (items_made g nodes k is) (next_items k is)

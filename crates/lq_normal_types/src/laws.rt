@@ -1,6 +1,6 @@
 // Laws of the definitions. Nothing is run.
 ghost use Rattle.lq_normal_types.specs.Examples.{FunctionExample, ListExample, MatchExample, ReadsExample, RefusedExample};
-ghost use Rattle.lq_normal_types.specs.Laws.{MadeNamesRun, NormalFormKeepsTypes, ProgramsKeepTypes, ScopedProgramsArePlain};
+ghost use Rattle.lq_normal_types.specs.Laws.{MadeNamesRun, NormalFormKeepsTypes, ProgramsKeepGivenTypes, ProgramsKeepTypes, ScopedProgramsArePlain};
 
 /// The normal form of an expression that obeys the rules of types obeys them, where made names have the types of what they are bound to,
 /// and has the same type.
@@ -11,6 +11,11 @@ pub fn normal_form_keeps_types()
 /// The same of the definitions of a program, with the types of made names that its nodes give.
 pub fn programs_keep_types()
     ensures { ProgramsKeepTypes }
+{}
+
+/// The same with any types for names that give made names those of what they are bound to.
+pub fn programs_keep_given_types()
+    ensures { ProgramsKeepGivenTypes }
 {}
 
 /// A scoped program whose trees are as texts have them meets the premise on names of the other laws.

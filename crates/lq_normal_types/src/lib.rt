@@ -4,6 +4,6 @@
 mod laws;
 
 pub use laws::{
-    examples, made_names_run, normal_form_keeps_types, programs_keep_types,
-    scoped_programs_are_plain,
+    examples, made_names_run, normal_form_keeps_types, programs_keep_given_types,
+    programs_keep_types, scoped_programs_are_plain,
 };
