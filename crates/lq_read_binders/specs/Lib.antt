@@ -1,0 +1,2 @@
+-- What a program that is read binds: laws.
+pub mod Laws
