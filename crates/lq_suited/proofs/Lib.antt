@@ -1,0 +1,5 @@
+mod Patterns
+mod Reading
+mod Binding
+mod Parsed
+mod Suiting
