@@ -1,0 +1,2 @@
+-- Laws of programs that are ready for their implications.
+pub mod Laws
