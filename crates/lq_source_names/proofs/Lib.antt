@@ -1,0 +1,4 @@
+mod Normal
+mod Pures
+mod Reading
+mod Resolving
