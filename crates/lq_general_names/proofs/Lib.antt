@@ -1,0 +1,3 @@
+-- Lemmas.
+mod Inside
+mod Uses

@@ -1,0 +1,2 @@
+-- Source names of the generalised definitions that a program uses: definitions.
+pub mod Laws

@@ -1,0 +1,7 @@
+// A law of the definitions. Nothing is run.
+ghost use Rattle.lq_general_names.specs.Laws.{GeneralUsesHaveTexts};
+
+/// A generalised definition that a program uses has a source name, where what the program defines has source names.
+pub fn general_uses_have_texts()
+    ensures { GeneralUsesHaveTexts }
+{}
