@@ -53,6 +53,20 @@ impl Instantiated {
         &self.annotated
     }
 
+    /// The types that stand for variables, by their numbers in the table of the annotation, node by node.
+    pub fn rows(&self) -> &[u32]
+        ensures { result.now ≡ self.now.rows.items }
+    {
+        &self.rows
+    }
+
+    /// Where the types of each node begin among these, and at last their end.
+    pub fn starts(&self) -> &[usize]
+        ensures { result.now ≡ self.now.starts.items }
+    {
+        &self.starts
+    }
+
     /// The types that stand for the variables 0, 1, .. of a generalised definition's type where a node is a use of it, by their numbers
     /// in the table of the annotation; none for a node that is no such use.
     pub fn instance_of(&self, id: u32) -> &[u32]
