@@ -1,0 +1,4 @@
+-- Lemmas.
+mod Fronts
+mod Noting
+mod Slots
