@@ -36,7 +36,7 @@ module _ (one_pass : OnePassIsBoth) where
   next_same k (let_of q e) = sym (goes e k)
   next_same k (let_rec_of f r) = sym (goes r.body (behind k r.parameter))
 
-  program_same : (is : List ItemTree) (k : ℕ) → normal_of k is ≡ normal_items k is
+  pub program_same : (is : List ItemTree) (k : ℕ) → normal_of k is ≡ normal_items k is
   program_same [] k = refl
   program_same (i ∷ is) k =
       ap₂ (λ f (js : List ItemTree). record { place = i.place; form = f } ∷ js) (form_same k i.form)

@@ -4,6 +4,7 @@
 mod bodies;
 mod definitions;
 mod frames;
+mod laws;
 mod matches;
 mod nested;
 mod operands;
@@ -12,4 +13,5 @@ mod program;
 mod rows;
 mod running;
 
+pub use laws::programs_are_one_pass;
 pub use program::{NormalProgram, normal};
