@@ -1,0 +1,5 @@
+-- Lemmas.
+mod Composing
+mod Given
+mod Once
+mod Seen

@@ -1,0 +1,47 @@
+// Laws of typed texts. Nothing is run.
+ghost use Rattle.lq_text_ready.specs.Laws.{NotedTextsAreReady, ReadyIsOnce};
+
+use lq_apart::scoped_items_own_slots;
+use lq_general_names::general_uses_have_texts;
+use lq_normal_read::normal_forms_can_be_read;
+use lq_normal_texts::parsed_programs_are_written;
+use lq_normal_types::{made_names_run, programs_keep_types, scoped_programs_are_plain};
+use lq_normal_uses::{normal_uses_fit, typed_uses_fit};
+use lq_normalize::programs_are_one_pass;
+use lq_read_binders::binders_of_normal_forms_differ;
+use lq_ready::normal_programs_are_ready;
+use lq_source_names::{
+    made_names_are_not_read, normal_forms_keep_texts, resolved_programs_define_texts,
+};
+use lq_suited::typed_texts_suit;
+use lq_typings::renamed_are_principal;
+
+/// That a program is ready for its implications is a proposition.
+pub fn ready_is_once()
+    ensures { ReadyIsOnce }
+{}
+
+/// What is read of the normal form of a typed program, whose text was read from tokens, is ready for its implications, over the
+/// constructors of its datatypes, by what is known of its nodes and binders.
+pub fn noted_texts_are_ready()
+    ensures { NotedTextsAreReady }
+{
+    ready_is_once();
+    renamed_are_principal();
+    scoped_items_own_slots();
+    parsed_programs_are_written();
+    scoped_programs_are_plain();
+    programs_keep_types();
+    made_names_run();
+    typed_texts_suit();
+    normal_forms_can_be_read();
+    typed_uses_fit();
+    normal_uses_fit();
+    general_uses_have_texts();
+    resolved_programs_define_texts();
+    normal_forms_keep_texts();
+    made_names_are_not_read();
+    binders_of_normal_forms_differ();
+    normal_programs_are_ready();
+    programs_are_one_pass();
+}
