@@ -1,3 +1,6 @@
+mod FitsSteps
+mod LevelSteps
 mod Names
-mod Shows
+mod NextScope
+mod OneHidden
 mod Walks

@@ -8,10 +8,10 @@ use Rattle.lq_points.specs.Annotation.{Annotation, is_text}
 use Rattle.lq_points.specs.Seen.{Seen, hiding, is_before, names_at}
 use Rattle.lq_visible.specs.Walking.{has_new_text, is_among, walked_texts}
 
-same_text : (t r : ℕ) → (t == r) ≡ true → t ≡ r
+pub same_text : (t r : ℕ) → (t == r) ≡ true → t ≡ r
 same_text t r h = grind (arith, nat_tests)
 
-flip_text : (t r : ℕ) → (t == r) ≡ (r == t)
+pub flip_text : (t r : ℕ) → (t == r) ≡ (r == t)
 flip_text t r = grind (arith, nat_tests)
 
 among-push : (ts : List Name) (t : Name) (r : ℕ) → is_among (ts ++ t ∷ []) r ≡ (is_among ts r || (r == t.0))
@@ -26,7 +26,7 @@ among-push (x ∷ ts) t r = ap (λ b. (r == x.0) || b) (among-push ts t r) ∙ b
     by true b c = refl
     by false b c = refl
 
-filter-both : (p q : ℕ → Bool) (xs : List ℕ) → filter p (filter q xs) ≡ filter (λ y. q y && p y) xs
+pub filter-both : (p q : ℕ → Bool) (xs : List ℕ) → filter p (filter q xs) ≡ filter (λ y. q y && p y) xs
 filter-both p q [] = refl
 filter-both p q (x ∷ xs) = by (filter-both p q xs) (q x)
   where

@@ -1,15 +1,17 @@
 // Names that are bound, and the scope that is visible at a node.
-ghost use Rattle.std.specs.Prelude.{◌≡◌, ◌<◌, ◌≤◌, List, [], ◌++◌, IfOk, length, take};
-ghost use Rattle.lq_instances.specs.Scopes.{Scope, scope_in};
+ghost use Rattle.std.specs.Prelude.{◌≡◌, ◌+◌, ◌<◌, ◌≤◌, true, List, [], ◌∷◌, ◌++◌, IfOk, OnOk, OnErr, Some, None, length, reverse, take};
+ghost use Rattle.lq_instances.specs.Scopes.{Scope, is_once, scope_in, without};
+ghost use Rattle.lq_instances.specs.Seen.{visible_view};
 ghost use Rattle.lq_instances.specs.Views.{scopes_view};
-ghost use Rattle.lq_points.specs.Seen.{is_before, names_at, symbols_of};
+ghost use Rattle.lq_points.specs.Seen.{names_at, symbols_of};
+ghost use Rattle.lq_visible.specs.Latest.{changed, if_any, latest_in, name_number, name_shown, of_text, text_number, text_shown};
 ghost use Rattle.lq_visible.specs.Notes.{annotation_view, IsRight};
-ghost use Rattle.lq_visible.specs.Showing.{shown_names, IsCommon, Shows};
-ghost use Rattle.lq_visible.specs.Scopes.{symbol_if, visible_if, Longer};
+ghost use Rattle.lq_visible.specs.Scopes.{visible_if, Longer};
 ghost use Rattle.lq_visible.specs.Stack.{entry_view, names_view, stacked};
 
+use crate::level::{Level, Span, is_before};
 use crate::notes::Notes;
-use indexmap::IndexSet;
+use indexmap::{IndexMap, IndexSet};
 use lq_instances::{Scopes, Visible};
 use lq_name::{Binder, Name};
 use lq_pred::Symbol;
@@ -22,24 +24,21 @@ pub(crate) struct Entry {
     pub(crate) until: Option<u32>,
 }
 
-// A name that was visible, and the scope of the names up to it.
-#[derive(Clone, Copy, Debug, PartialEq, Eq)]
-pub(crate) struct Shown {
-    pub(crate) name: Binder,
-    pub(crate) scope: u64,
-}
-
-/// The names that are bound, the last one last, and the names that were visible where a scope was asked for last.
+/// The names that are bound, the last one last. Of the first ones it is remembered what was visible where a scope was asked for last, with
+/// the name that was visible of each text.
 #[derive(Drop)]
 pub struct Bound {
     entries: Vec<Entry>,
-    shown: Vec<Shown>,
+    levels: Vec<Level>,
+    latest: IndexMap<Name, Option<Binder>>,
 }
 
 impl Bound {
-    ghost use Rattle.std.specs.Prelude.{◌∷◌, ◌-◌, drop, OnOk, OnErr};
+    ghost use Rattle.std.specs.Prelude.{◌-◌, drop};
     ghost use Rattle.lq_points.specs.Seen.{scope_at};
     ghost use Rattle.lq_visible.specs.Fits.{Fits};
+    ghost use Rattle.lq_visible.specs.Levels.{top_of};
+    ghost use Rattle.lq_visible.specs.Spans.{IsIn};
     ghost use Rattle.lq_visible.specs.Stack.{seen_view};
     ghost use Rattle.lq_visible.specs.declared.notes.Notes.{Notes};
 
@@ -50,7 +49,8 @@ impl Bound {
     {
         Bound {
             entries: Vec::new(alloc),
-            shown: Vec::new(alloc),
+            levels: Vec::new(alloc),
+            latest: IndexMap::new(alloc),
         }
     }
 
@@ -76,6 +76,9 @@ impl Bound {
         ensures left { seen_view self.new ≡ drop (length (seen_view self.old) - len) (seen_view self.old) }
         ensures fits { (m : Notes) (all : List Scope) → Fits m all self.old → Fits m all self.new }
     {
+        while self.levels.len() > len {
+            self.forget();
+        }
         self.entries.truncate(len);
     }
 
@@ -95,82 +98,196 @@ impl Bound {
         ensures kept { seen_view self.new ≡ seen_view self.old }
         ensures fits { Fits notes.now (scopes_view scopes.new) self.new }
     {
-        let names = names_at(alloc, &self.entries, notes, node)?;
-        let scope = self.show(scopes, notes, &names)?;
-        Ok(scope)
+        self.forget_others(node);
+        while self.levels.len() < self.entries.len() {
+            self.remember(alloc, scopes, notes, node)?;
+        }
+        Ok(self.top().scope)
     }
 
-    // The number of the scope of these names. The scopes of the names that were visible the last time are taken again.
-    fn show(
+    // What is remembered of the last name of which anything is. Where there is none, nothing is visible at any node.
+    fn top(&self) -> Level
+        ensures { result ≡ top_of (reverse self.now.levels.items) }
+    {
+        match self.levels.last() {
+            Some(level) => *level,
+            None => Level {
+                scope: 0,
+                span: Span { from: 0, end: None },
+                text: None,
+                hides: None,
+            },
+        }
+    }
+
+    // Forgets what is remembered of that name.
+    fn forget(&mut self)
+        ensures fits { (m : Notes) (all : List Scope) → Fits m all self.old → Fits m all self.new }
+        ensures fewer { self.new.levels.items ≡ take (length self.old.levels.items - 1) self.old.levels.items }
+        ensures kept { self.new.entries ≡ self.old.entries }
+    {
+        if let Some(level) = self.levels.pop() {
+            let _refused = set_latest(&mut self.latest, level.text, level.hides);
+        }
+    }
+
+    // Forgets what is not so at a node.
+    fn forget_others(&mut self, node: u32)
+        ensures fits { (m : Notes) (all : List Scope) → Fits m all self.old → Fits m all self.new }
+        ensures holds { IsIn (top_of (reverse self.new.levels.items)).span node }
+        ensures kept { self.new.entries ≡ self.old.entries }
+    {
+        while !self.top().span.holds(node) {
+            self.forget();
+        }
+    }
+
+    // Remembers what is visible at a node up to one name more.
+    fn remember(
         &mut self,
+        alloc: Global,
         scopes: &mut Scopes,
         notes: &Notes<'_>,
-        names: &[Binder],
-    ) -> Result<u64, AllocError>
+        node: u32,
+    ) -> Result<(), AllocError>
         requires right { IsRight notes.now }
         requires fits { Fits notes.now (scopes_view scopes.old) self.old }
-        ensures scope { IfOk result (λ s. scope_in (scopes_view scopes.new) s ≡ symbols_of (annotation_view notes.now) (names_view names.now)) }
+        requires more { length self.old.levels.items < length self.old.entries.items }
+        requires holds { IsIn (top_of (reverse self.old.levels.items)).span node }
+        ensures fits { Fits notes.now (scopes_view scopes.new) self.new }
+        ensures holds { OnOk result (IsIn (top_of (reverse self.new.levels.items)).span node) }
+        ensures more { OnOk result (length self.new.levels.items ≡ length self.old.levels.items + 1) }
+        ensures grown { Longer (scopes_view scopes.old) (scopes_view scopes.new) }
+        ensures kept { self.new.entries ≡ self.old.entries }
+    {
+        let entry = self.entries[self.levels.len()];
+        let scope = self.next_scope(alloc, scopes, notes, node)?;
+        let text = text_at(notes, entry, node);
+        let level = Level {
+            scope,
+            span: self.top().span.narrowed(entry.until, node),
+            text,
+            hides: latest_of(&self.latest, text),
+        };
+        self.add(level, entry.name)?;
+        Ok(())
+    }
+
+    // The number of the scope that is visible at a node, of the names up to the first of which nothing is remembered.
+    fn next_scope(
+        &self,
+        alloc: Global,
+        scopes: &mut Scopes,
+        notes: &Notes<'_>,
+        node: u32,
+    ) -> Result<u64, AllocError>
+        requires right { IsRight notes.now }
+        requires fits { Fits notes.now (scopes_view scopes.old) self.now }
+        requires more { length self.now.levels.items < length self.now.entries.items }
+        requires holds { IsIn (top_of (reverse self.now.levels.items)).span node }
+        ensures scope { IfOk result (λ s. scope_in (scopes_view scopes.new) s
+            ≡ scope_at (annotation_view notes.now) (stacked [] (take (length self.now.levels.items + 1) self.now.entries.items)) node) }
         ensures there { IfOk result (λ s. s < length (scopes_view scopes.new)) }
         ensures grown { Longer (scopes_view scopes.old) (scopes_view scopes.new) }
-        ensures kept { seen_view self.new ≡ seen_view self.old }
-        ensures fits { Fits notes.now (scopes_view scopes.new) self.new }
     {
-        let (count, scope) = common(&self.shown, names);
-        self.shown.truncate(count);
-        let scope = extend(&mut self.shown, scopes, notes, names, scope)?;
-        Ok(scope)
+        let at = self.levels.len();
+        let entry = self.entries[at];
+        let below = self.top().scope;
+        let hidden = visible_of(notes, latest_of(&self.latest, text_at(notes, entry, node)));
+        let visible = visible_of(notes, name_at(entry, node));
+        match hidden {
+            None => with_visible(scopes, below, visible),
+            Some(hidden) => match visible {
+                Some(visible) => with_hidden(scopes, below, visible, hidden),
+                None => {
+                    let names = names_at(alloc, &self.entries[..at + 1], notes, node)?;
+                    scope_of(scopes, notes, &names)
+                }
+            },
+        }
+    }
+
+    // One level more, with its name.
+    fn add(&mut self, level: Level, name: Binder) -> Result<(), AllocError>
+        ensures levels { OnOk result (self.new.levels.items ≡ self.old.levels.items ++ level ∷ []) }
+        ensures latest { OnOk result (latest_in self.new.latest.entries
+            ≡ changed (text_number level.text) (Some name.0) (latest_in self.old.latest.entries)) }
+        ensures levels_kept { OnErr result (self.new.levels.items ≡ self.old.levels.items) }
+        ensures latest_kept { OnErr result (latest_in self.new.latest.entries ≡ latest_in self.old.latest.entries) }
+        ensures kept { self.new.entries ≡ self.old.entries }
+    {
+        self.levels.push(level)?;
+        match set_latest(&mut self.latest, level.text, Some(name)) {
+            Ok(()) => Ok(()),
+            Err(refused) => {
+                self.levels.pop();
+                Err(refused)
+            }
+        }
     }
 }
 
-// How many first names are the same, and the scope of these.
-fn common(shown: &[Shown], names: &[Binder]) -> (usize, u64)
-    ensures { IsCommon shown.now names.now result.0 result.1 }
+// The text of a name, where it is visible at a node.
+fn text_at(notes: &Notes<'_>, entry: Entry, node: u32) -> Option<Name>
+    ensures { text_number result ≡ text_shown (annotation_view notes.now) node (entry_view entry) }
 {
-    let mut at = 0;
-    let mut scope = 0;
-    while at < shown.len() && at < names.len() && shown[at].name.0 == names[at].0 {
-        scope = shown[at].scope;
-        at += 1;
+    if is_before(node, entry.until) {
+        notes.text(entry.name)
+    } else {
+        None
     }
-    (at, scope)
 }
 
-// Shows the names behind those that are shown, of which this is the scope.
-fn extend(
-    shown: &mut Vec<Shown>,
-    scopes: &mut Scopes,
-    notes: &Notes<'_>,
-    names: &[Binder],
-    scope: u64,
-) -> Result<u64, AllocError>
-    requires right { IsRight notes.now }
-    requires within { length shown.old.items ≤ length names.now }
-    requires shows { Shows (annotation_view notes.now) (scopes_view scopes.old) [] shown.old.items }
-    requires same { shown_names shown.old.items ≡ names_view (take (length shown.old.items) names.now) }
-    requires there { scope < length (scopes_view scopes.old) }
-    requires is { scope_in (scopes_view scopes.old) scope ≡ symbols_of (annotation_view notes.now) (shown_names shown.old.items) }
+// A name, where it is visible at a node.
+fn name_at(entry: Entry, node: u32) -> Option<Binder>
+    ensures { name_number result ≡ name_shown node (entry_view entry) }
+{
+    if is_before(node, entry.until) {
+        Some(entry.name)
+    } else {
+        None
+    }
+}
+
+// The name that is visible of a text.
+fn latest_of(latest: &IndexMap<Name, Option<Binder>>, text: Option<Name>) -> Option<Binder>
+    ensures { name_number result ≡ of_text (latest_in latest.now.entries) (text_number text) }
+{
+    match latest.get(&text?) {
+        Some(found) => *found,
+        None => None,
+    }
+}
+
+// Another name is visible of a text, or none. Memory is refused only where there is no name of it.
+fn set_latest(
+    latest: &mut IndexMap<Name, Option<Binder>>,
+    text: Option<Name>,
+    to: Option<Binder>,
+) -> Result<(), AllocError>
+    ensures set { OnOk result (latest_in latest.new.entries
+        ≡ changed (text_number text) (name_number to) (latest_in latest.old.entries)) }
+    ensures kept { OnErr result (latest_in latest.new.entries ≡ latest_in latest.old.entries) }
+    ensures absent { OnErr result (of_text (latest_in latest.old.entries) (text_number text) ≡ None) }
+{
+    if let Some(text) = text {
+        latest.insert(text, to)?;
+    }
+    Ok(())
+}
+
+// The symbols of names, one after another.
+fn scope_of(scopes: &mut Scopes, notes: &Notes<'_>, names: &[Binder]) -> Result<u64, AllocError>
+    requires { IsRight notes.now }
     ensures scope { IfOk result (λ s. scope_in (scopes_view scopes.new) s ≡ symbols_of (annotation_view notes.now) (names_view names.now)) }
     ensures there { IfOk result (λ s. s < length (scopes_view scopes.new)) }
     ensures grown { Longer (scopes_view scopes.old) (scopes_view scopes.new) }
-    ensures shows { Shows (annotation_view notes.now) (scopes_view scopes.new) [] shown.new.items }
 {
-    let mut scope = scope;
-    for at in shown.len()..names.len() {
-        let name = names[at];
-        scope = with_visible(scopes, scope, visible_of(notes, name))?;
-        shown.push(Shown { name, scope })?;
+    let mut scope = 0;
+    for at in 0..names.len() {
+        scope = with_visible(scopes, scope, visible_of(notes, Some(names[at])))?;
     }
     Ok(scope)
-}
-
-// Whether a node lies before another one, where there is that.
-fn is_before(node: u32, until: Option<u32>) -> bool
-    ensures { result ≡ is_before node until }
-{
-    match until {
-        Some(until) => node < until,
-        None => true,
-    }
 }
 
 // The names of the source that are visible at a node, the last one first, and their texts.
@@ -181,7 +298,8 @@ struct Walked {
 }
 
 impl Walked {
-    ghost use Rattle.std.specs.Prelude.{if◌then◌else◌, ◌&&◌, ◌∷◌, OnOk};
+    ghost use Rattle.std.specs.Prelude.{if◌then◌else◌, ◌&&◌};
+    ghost use Rattle.lq_points.specs.Seen.{is_before};
     ghost use Rattle.lq_visible.specs.Walking.{has_new_text, walked_texts};
     ghost use Rattle.lq_visible.specs.Takes.{Takes};
 
@@ -242,10 +360,11 @@ fn names_at(
 }
 
 // The symbol that a name is, with its shape, where predicates speak of it.
-fn visible_of(notes: &Notes<'_>, name: Binder) -> Option<Visible>
+fn visible_of(notes: &Notes<'_>, name: Option<Binder>) -> Option<Visible>
     requires { IsRight notes.now }
-    ensures { visible_if result ≡ symbol_if (annotation_view notes.now) name.0 }
+    ensures { visible_if result ≡ symbols_of (annotation_view notes.now) (if_any (name_number name)) }
 {
+    let name = name?;
     if !notes.is_spoken_of(name) {
         return None;
     }
@@ -276,4 +395,22 @@ fn with_visible(
         }
         None => Ok(scope),
     }
+}
+
+// The number of a scope without one symbol and with one more.
+fn with_hidden(
+    scopes: &mut Scopes,
+    scope: u64,
+    visible: Visible,
+    hidden: Visible,
+) -> Result<u64, AllocError>
+    requires parent { scope < length (scopes_view scopes.old) }
+    requires once { is_once (visible_view hidden) (scope_in (scopes_view scopes.old) scope) ≡ true }
+    ensures scope { IfOk result (λ s. scope_in (scopes_view scopes.new) s
+        ≡ without (Some (visible_view hidden)) (scope_in (scopes_view scopes.old) scope) ++ visible_view visible ∷ []) }
+    ensures there { IfOk result (λ s. s < length (scopes_view scopes.new)) }
+    ensures grown { Longer (scopes_view scopes.old) (scopes_view scopes.new) }
+{
+    let added = scopes.add_hiding(scope, visible, hidden)?;
+    Ok(added)
 }

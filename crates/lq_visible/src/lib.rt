@@ -2,6 +2,7 @@
 #![tactic(auto)]
 
 mod bound;
+mod level;
 mod notes;
 
 pub use bound::Bound;

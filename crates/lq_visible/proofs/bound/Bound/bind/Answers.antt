@@ -1,5 +1,10 @@
-use Rattle.std.proofs.Common.{◌∙◌, [], ap}
+use Rattle.std.proofs.Common.{◌≡◌, ◌∙◌, [], length, reverse, take, sym, ap, subst}
+use Rattle.std.proofs.lemmas.List.{take-append-le}
+use Rattle.lq_visible.specs.Latest.{latest_in}
+use Rattle.lq_visible.specs.Levels.{AreLevels}
+use Rattle.lq_visible.specs.Notes.{annotation_view}
 use Rattle.lq_visible.specs.Stack.{stacked}
+use Rattle.lq_visible.proofs.LevelSteps.{levels_within}
 use Rattle.lq_visible.proofs.Names.{stacked-push}
 use Rattle.lq_visible.proofs.bound.Bound.bind.Goals as goal
 
@@ -7,3 +12,13 @@ pub returns-clause-bound : goal.returns-clause-bound
 returns-clause-bound c =
     ap (stacked []) c.in_ok-push.ensures.items
     ∙ stacked-push [] c.args.self.now.entries.items record { name = c.args.name; until = c.args.until }
+
+pub returns-clause-fits : goal.returns-clause-fits
+returns-clause-fits c = λ m all h.
+    let es = c.args.self.now.entries.items in
+    let ls = c.args.self.now.levels.items in
+    let f = latest_in c.args.self.now.latest.entries in
+    let within = levels_within (annotation_view m) all ls es f h.levels in
+    let same : take (length ls) c.push.new.self.items ≡ take (length ls) es =
+    ap (take (length ls)) c.in_ok-push.ensures.items ∙ take-append-le (length ls) es _ within in
+    record { levels = subst (λ ys. AreLevels (annotation_view m) all (reverse ls) (stacked [] ys) f) (sym same) h.levels }
