@@ -34,14 +34,15 @@ pub fn generate(
     basis: &Basis<'_>,
     program: &[Item],
 ) -> Result<Generated, GenerateError>
-    ghost rules: { checks.Basis }
     requires there { IsThere (count_of types) basis.now }
-    requires stands { Stands rules basis.now types }
-    requires ready { IsReady rules [] (program_view program.now) }
-    ensures implications { IfOk result (λ g. implications_of g.implications
+    // What stands in memory is a basis of the rules, and the program is ready over it.
+    requires ready { (rules : checks.Basis) × Stands rules basis.now types × IsReady rules [] (program_view program.now) }
+    ensures implications { IfOk result (λ g. (rules : checks.Basis) → Stands rules basis.now types → implications_of g.implications
         ≡ listing.implications_of rules [] (program_view program.now)) }
-    ensures few { IfOk result (λ g. length (listing.implications_of rules [] (program_view program.now)) ≤ 262144) }
-    ensures refused { IfErr result (IsRefused (listing.implications_of rules [] (program_view program.now))) }
+    ensures few { IfOk result (λ g. (rules : checks.Basis) → Stands rules basis.now types
+        → length (listing.implications_of rules [] (program_view program.now)) ≤ 262144) }
+    ensures refused { IfErr result (λ e. (rules : checks.Basis) → Stands rules basis.now types
+        → IsRefused (listing.implications_of rules [] (program_view program.now)) e) }
     ensures grows { IfOk result (λ g. Grows types g.types) }
 {
     obligations_are_implications();
