@@ -1,0 +1,4 @@
+-- Lemmas.
+mod Making
+mod Refused
+mod Standing

@@ -1,0 +1,43 @@
+use Rattle.std.proofs.Common.{◌++◌, length, map, ap, ap₂, ◌∙◌}
+use Rattle.lq_annotated.specs.Whole as annotated
+use Rattle.lq_block.specs.BlockView.{definitions_view}
+use Rattle.lq_fresh.specs.Views.{scopes_of}
+use Rattle.lq_instances.specs.Views.{scopes_view}
+use Rattle.lq_normalize.specs.Made.{normal_view}
+use Rattle.lq_notes.specs.Noted.{annotation_of}
+use Rattle.lq_points.specs.Templates.{templates_from, unknowns_from}
+use Rattle.lq_scoped.specs.Views.{data_view}
+use Rattle.lq_visible.specs.Notes.{annotation_view, types_in}
+use Rattle.lq_problem.proofs.Making.{described, points_same}
+use Rattle.lq_problem.proofs.made.templates_of.Goals as goal
+
+pub returns-clause-templates : goal.returns-clause-templates
+returns-clause-templates c D constructors ordered scopes =
+    let m = c.args.noted.now in
+    let same = c.datatypes.ensures ∙ ap (λ s. s.datatypes) (c.scoped.ensures.program ∙ ap annotated.program_of (c.annotated.ensures ∙ ap (λ i. i.annotated) c.program.ensures)) in
+    let ds = map data_view c.datatypes.result.now in
+    let describes =
+    described c.in_ok-datatypes.datatypes D ds (annotated.program_of m.program.annotated).datatypes same c.requires.differ c.in_ok-datatypes.ensures constructors
+    ordered in
+    let points =
+    points_same (scopes_of c.over-templates.result) (scopes_view c.read.new.scopes) (types_in c.notes-notes.result) c.deref.result.now
+    c.in_ok-reading.reading.points.items (annotation_view c.notes-notes.result) (annotation_of m) (definitions_view c.definitions.result.now)
+    (normal_view c.args.normal.now).items c.over-templates.ensures.scopes c.deref.ensures.value c.in_ok-reading.ensures.points c.notes-notes.ensures.view
+    c.definitions.ensures in
+    c.in_ok-rows.ensures.refined D describes scopes ∙ ap₂ (λ us ps. templates_from D (length us) ps) c.over-templates.ensures.unknowns points
+
+pub returns-clause-unknowns : goal.returns-clause-unknowns
+returns-clause-unknowns c D constructors ordered =
+    let m = c.args.noted.now in
+    let same = c.datatypes.ensures ∙ ap (λ s. s.datatypes) (c.scoped.ensures.program ∙ ap annotated.program_of (c.annotated.ensures ∙ ap (λ i. i.annotated) c.program.ensures)) in
+    let ds = map data_view c.datatypes.result.now in
+    let describes =
+    described c.in_ok-datatypes.datatypes D ds (annotated.program_of m.program.annotated).datatypes same c.requires.differ c.in_ok-datatypes.ensures constructors
+    ordered in
+    let points =
+    points_same (scopes_of c.over-templates.result) (scopes_view c.read.new.scopes) (types_in c.notes-notes.result) c.deref.result.now
+    c.in_ok-reading.reading.points.items (annotation_view c.notes-notes.result) (annotation_of m) (definitions_view c.definitions.result.now)
+    (normal_view c.args.normal.now).items c.over-templates.ensures.scopes c.deref.ensures.value c.in_ok-reading.ensures.points c.notes-notes.ensures.view
+    c.definitions.ensures in
+    let made = c.in_ok-rows.ensures.made D describes in
+    made.unknowns ∙ ap₂ (λ us ps. us ++ unknowns_from D (length us) ps) c.over-templates.ensures.unknowns points

@@ -1,0 +1,3 @@
+-- What is to be solved for a typed program: definitions.
+pub mod Posed
+pub mod Refusing

@@ -1,0 +1,110 @@
+// What is to be solved for a typed program.
+ghost use Rattle.std.specs.Prelude.{◌≡◌, ◌<◌, [], All, IfErr, IfOk, map};
+ghost use Rattle.lq_annotated.specs.Whole as annotated;
+ghost use Rattle.lq_checks.specs.Listing as listing;
+ghost use Rattle.lq_checks.specs.Ready.{IsReady};
+ghost use Rattle.lq_fresh.specs.Defined.{ConstructorsDiffer};
+ghost use Rattle.lq_implications.specs.Views.{implications_of};
+ghost use Rattle.lq_instances.specs.Instances.{all_instances_of};
+ghost use Rattle.lq_instances.specs.Views.{instances_view, measure_name};
+ghost use Rattle.lq_refinements.specs.Whole.{count_of};
+ghost use Rattle.lq_substitution.specs.Views.{scopes_view};
+ghost use Rattle.lq_normalize.specs.Made.{normal_view};
+ghost use Rattle.lq_notes.specs.Noted.{annotation_of};
+ghost use Rattle.lq_pointed.specs.BlockView.{program_view};
+ghost use Rattle.lq_sorted.specs.Views.{measure_view, qualifier_view};
+ghost use Rattle.lq_problem.specs.Posed.{basis_for, read_of, templates_for, unknowns_for, HasTemplates};
+ghost use Rattle.lq_problem.specs.Refusing.{IsRefused};
+
+use crate::error::ProblemError;
+use crate::made::{Made, templates_of};
+use lq_checking::Basis;
+use lq_declared::declare;
+use lq_generate::generate;
+use lq_implications::Implications;
+use lq_instances::{Instances, all_instances};
+use lq_made::unknown_scopes;
+use lq_normalize::NormalProgram;
+use lq_notes::Noted;
+use lq_pointed::Item;
+use lq_refinements::RefinedTypes;
+use lq_sorted::{ScopedMeasure, ScopedQualifier};
+use lq_substitution::Scopes;
+use std::alloc::Global;
+
+/// What is to be solved for a program: its implications over the instances of its unknowns, and the templates that the solution is put into.
+#[derive(Drop)]
+pub struct Problem {
+    /// As the typing rules have it, with the numbers of its points.
+    pub program: Vec<Item>,
+    /// Refined types, those of the templates among them.
+    pub types: RefinedTypes,
+    /// The numbers of the templates of each point.
+    pub templates: Vec<Vec<usize>>,
+    /// Of what the instances of each unknown may speak.
+    pub scopes: Scopes,
+    pub instances: Instances,
+    pub implications: Implications,
+}
+
+/// What is to be solved for a typed program and its normal form, with these measures and qualifiers. Past 262,144 replacements of
+/// placeholders or implications it is refused, the replacements first.
+pub fn pose(
+    alloc: Global,
+    noted: &Noted,
+    normal: &NormalProgram,
+    measures: &[ScopedMeasure],
+    qualifiers: &[ScopedQualifier],
+) -> Result<Problem, ProblemError>
+    requires differ { ConstructorsDiffer (annotated.program_of noted.now.program.annotated).datatypes }
+    requires ready { IsReady (basis_for (annotated.program_of noted.now.program.annotated).datatypes (map measure_view measures.now)
+        (annotation_of noted.now) (normal_view normal.now).items) [] (read_of (annotation_of noted.now) (normal_view normal.now).items) }
+    ensures program { IfOk result (λ p. program_view p.program.items
+        ≡ read_of (annotation_of noted.now) (normal_view normal.now).items) }
+    ensures templates { IfOk result (λ p. HasTemplates p.types p.templates.items
+        (templates_for (annotated.program_of noted.now.program.annotated).datatypes (map measure_view measures.now)
+        (annotation_of noted.now) (normal_view normal.now).items)) }
+    ensures there { IfOk result (λ p. All (λ row. All (λ r. r < count_of p.types) row.items) p.templates.items) }
+    ensures scopes { IfOk result (λ p. scopes_view p.scopes
+        ≡ (basis_for (annotated.program_of noted.now.program.annotated).datatypes (map measure_view measures.now)
+        (annotation_of noted.now) (normal_view normal.now).items).setting.scopes) }
+    ensures instances { IfOk result (λ p. instances_view p.instances
+        ≡ all_instances_of (map measure_name measures.now) (map qualifier_view qualifiers.now)
+        (unknowns_for (annotated.program_of noted.now.program.annotated).datatypes (map measure_view measures.now)
+        (annotation_of noted.now) (normal_view normal.now).items)) }
+    ensures implications { IfOk result (λ p. implications_of p.implications
+        ≡ listing.implications_of (basis_for (annotated.program_of noted.now.program.annotated).datatypes (map measure_view measures.now)
+        (annotation_of noted.now) (normal_view normal.now).items) [] (read_of (annotation_of noted.now) (normal_view normal.now).items)) }
+    ensures refused { IfErr result (IsRefused (map qualifier_view qualifiers.now)
+        (unknowns_for (annotated.program_of noted.now.program.annotated).datatypes (map measure_view measures.now)
+        (annotation_of noted.now) (normal_view normal.now).items)
+        (listing.implications_of (basis_for (annotated.program_of noted.now.program.annotated).datatypes (map measure_view measures.now)
+        (annotation_of noted.now) (normal_view normal.now).items) [] (read_of (annotation_of noted.now) (normal_view normal.now).items))) }
+{
+    let Made {
+        program,
+        points: _points,
+        templates,
+        rows,
+    } = templates_of(alloc, noted, normal)?;
+    let (mut types, unknowns) = templates.into_parts();
+    let instances = all_instances(alloc, qualifiers, measures, &unknowns)?;
+    let scopes = unknown_scopes(alloc, &unknowns)?;
+    let datatypes = noted.program().annotated().scoped().datatypes();
+    let known = declare(alloc, &mut types, datatypes, measures)?;
+    let basis = Basis {
+        scopes: &scopes,
+        fields: &known.fields,
+        declared: &known.declared,
+        templates: &rows,
+    };
+    let generated = generate(alloc, types, &basis, &program)?;
+    Ok(Problem {
+        program,
+        types: generated.types,
+        templates: rows,
+        scopes,
+        instances,
+        implications: generated.implications,
+    })
+}
