@@ -1,0 +1,3 @@
+-- Lemmas.
+mod Binding
+mod Posable

@@ -1,0 +1,2 @@
+-- What holds of the programs of cases.
+pub mod Cases

@@ -1,0 +1,187 @@
+// Cases as typed programs in normal form.
+ghost use Rattle.std.specs.Prelude.{IfOk, IfSome};
+ghost use Rattle.lq_rule_cases.specs.Cases.{IsPosable};
+
+use crate::calling::{Labels, labels_of, name_of, sources_of};
+use crate::case::Case;
+use crate::texts::texts_of;
+use lq_annotated::infer;
+use lq_assignment::{Assignment, Given};
+use lq_instantiated::instantiate;
+use lq_name::{Name, NameTable};
+use lq_normal_texts::typed_texts_have_rules;
+use lq_normalize::{NormalProgram, normal};
+use lq_notes::{Noted, note, noted_are_known};
+use lq_refinements::RefinedTypes;
+use lq_scoped::{DataType, Scoped};
+use lq_sorted::{ScopedMeasure, ScopedQualifier};
+use lq_substitution::Scopes;
+use lq_text_ready::noted_texts_are_ready;
+use lq_texts::ScopedTexts;
+use lq_type_text::{Parameters, Shown, shown};
+use std::alloc::{AllocError, Global};
+
+/// A typed program with its normal form, and its measures and qualifiers.
+#[derive(Drop)]
+pub(crate) struct Typed {
+    pub(crate) noted: Noted,
+    pub(crate) normal: NormalProgram,
+    pub(crate) measures: Vec<ScopedMeasure>,
+    pub(crate) qualifiers: Vec<ScopedQualifier>,
+}
+
+impl Typed {
+    /// The program with its names bound.
+    pub(crate) fn scoped(&self) -> &Scoped {
+        self.noted.program().annotated().scoped()
+    }
+}
+
+// What a case is, or None where a text of it is refused.
+fn typed_case(
+    alloc: Global,
+    names: &mut NameTable,
+    case: &Case,
+) -> Result<Option<Typed>, AllocError>
+    ensures { IfOk result (λ found. IfSome found IsPosable) }
+{
+    typed_texts_have_rules();
+    noted_are_known();
+    noted_texts_are_ready();
+    let Some(texts) = texts_of(alloc, names, case)? else {
+        return Ok(None);
+    };
+    let ScopedTexts {
+        program,
+        measures,
+        qualifiers,
+    } = texts;
+    let normal = normal(alloc, &program)?;
+    let Ok(annotated) = infer(alloc, program) else {
+        return Ok(None);
+    };
+    let Some(value) = name_of(names, "v")? else {
+        return Ok(None);
+    };
+    let program = instantiate(alloc, annotated)?;
+    let noted = note(alloc, program, value)?;
+    Ok(Some(Typed {
+        noted,
+        normal,
+        measures,
+        qualifiers,
+    }))
+}
+
+// Puts a row at a number, behind empty ones.
+fn put_row(
+    alloc: Global,
+    rows: &mut Vec<Vec<Name>>,
+    number: usize,
+    row: Vec<Name>,
+) -> Result<(), AllocError> {
+    for _ in 0..u32::MAX {
+        if rows.len() > number {
+            break;
+        }
+        rows.push(Vec::new(alloc))?;
+    }
+    if let Some(place) = rows.get_mut(number) {
+        *place = row;
+    }
+    Ok(())
+}
+
+fn copy_of(alloc: Global, names: &[Name]) -> Result<Vec<Name>, AllocError> {
+    let mut row = Vec::new(alloc);
+    row.extend_from_slice(names)?;
+    Ok(row)
+}
+
+/// The names of the parameters of the predeclared datatypes and of these.
+pub(crate) fn parameters_of(
+    alloc: Global,
+    datatypes: &[DataType],
+) -> Result<Parameters, AllocError> {
+    let mut rows = Vec::new(alloc);
+    let single = vec![in alloc; Name::TYPE_VARIABLE_A]?;
+    put_row(
+        alloc,
+        &mut rows,
+        Name::LIST.0 as usize,
+        copy_of(alloc, &single)?,
+    )?;
+    put_row(alloc, &mut rows, Name::OPTION.0 as usize, single)?;
+    for datatype in datatypes {
+        let row = copy_of(alloc, &datatype.parameters)?;
+        put_row(alloc, &mut rows, datatype.name.0 as usize, row)?;
+    }
+    Ok(Parameters { rows })
+}
+
+/// The type of a number of a table under an assignment; None where there is no such number.
+pub(crate) fn tree_of(
+    alloc: Global,
+    types: &mut RefinedTypes,
+    scopes: &Scopes,
+    assignment: &Assignment,
+    row: usize,
+) -> Result<Option<Shown>, AllocError> {
+    if row >= types.len() {
+        return Ok(None);
+    }
+    let given = Given { scopes, assignment };
+    let tree = shown(alloc, types, &given, row);
+    let Given {
+        scopes: _scopes,
+        assignment: _assignment,
+    } = given;
+    Ok(Some(tree?))
+}
+
+/// A typed program, and what its names are called.
+#[derive(Drop)]
+pub(crate) struct Labelled {
+    pub(crate) typed: Typed,
+    pub(crate) labels: Labels,
+}
+
+// What the binders of a program are called.
+fn labels_for(alloc: Global, mut names: NameTable, scoped: &Scoped) -> Result<Labels, AllocError> {
+    let labels = labels_of(alloc, &mut names, scoped)?;
+    let sources = sources_of(alloc, scoped)?;
+    let parameters = parameters_of(alloc, scoped.datatypes())?;
+    Ok(Labels {
+        names,
+        labels,
+        sources,
+        parameters,
+    })
+}
+
+/// What a case is, and what its names are called.
+pub(crate) fn labelled_case(alloc: Global, case: &Case) -> Result<Option<Labelled>, AllocError>
+    ensures { IfOk result (λ found. IfSome found (λ l. IsPosable l.typed)) }
+{
+    let mut names = NameTable::new(alloc)?;
+    let Some(typed) = typed_case(alloc, &mut names, case)? else {
+        return Ok(None);
+    };
+    let labels = labels_for(alloc, names, typed.scoped())?;
+    Ok(Some(Labelled { typed, labels }))
+}
+
+/// One line alone.
+pub(crate) fn one_line(alloc: Global, line: &str) -> Result<Vec<String>, AllocError> {
+    let line = String::from_str(alloc, line)?;
+    let lines = vec![in alloc; line]?;
+    Ok(lines)
+}
+
+/// Bytes as text.
+pub(crate) fn text_from(alloc: Global, bytes: Vec<u8>) -> Result<String, AllocError> {
+    match String::from_utf8(bytes) {
+        Ok(text) => Ok(text),
+        Err(_) => String::from_str(alloc, "?"),
+    }
+}
