@@ -1,0 +1,3 @@
+-- Lemmas.
+mod Putting
+mod Keeping

@@ -1,0 +1,3 @@
+-- What operations on types keep: definitions and laws.
+pub mod Puts
+pub mod Laws
