@@ -1,0 +1,3 @@
+-- Lemmas.
+mod Names
+mod Demands

@@ -1,0 +1,2 @@
+-- What is demanded in scope: definitions and a law.
+pub mod Laws

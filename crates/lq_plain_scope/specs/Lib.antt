@@ -1,0 +1,2 @@
+-- Templates in scope, in environments: laws.
+pub mod Laws

@@ -1,0 +1,3 @@
+-- Lemmas.
+mod Matrices
+mod Variables

@@ -1,0 +1,2 @@
+-- Matrices under an assignment: laws.
+pub mod Laws
