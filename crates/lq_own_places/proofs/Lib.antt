@@ -1,0 +1,3 @@
+-- Lemmas.
+mod Entries
+mod Templates

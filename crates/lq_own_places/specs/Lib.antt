@@ -1,0 +1,2 @@
+-- Templates as subtypes of themselves: laws.
+pub mod Laws

@@ -1,0 +1,3 @@
+-- Lemmas.
+mod Exclusive
+mod Reflexive

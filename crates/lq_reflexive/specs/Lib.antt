@@ -1,0 +1,2 @@
+-- Types as subtypes of themselves: definitions and a law.
+pub mod Laws
