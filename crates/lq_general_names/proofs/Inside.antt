@@ -1,5 +1,5 @@
 -- The items that a program's visits leave are its items: inside of an item none is left, a case a shape.
-use Rattle.std.proofs.Common.{ℕ, Bool, true, false, List, [], ◌∷◌, ◌++◌, Option}
+use Rattle.std.proofs.Common.{ℕ, Bool, true, false, List, [], ◌∷◌, ◌++◌}
 use Rattle.lq_name.specs.declared.place.Place.{Place}
 use Rattle.lq_tree.specs.Items.{ItemTree, ItemForm, type_of, let_of, let_rec_of}
 use Rattle.lq_tree.specs.Pattern.{Pattern}
@@ -8,12 +8,20 @@ use Rattle.lq_tree.specs.Tree.{Tree, tree, Form, Trees, no_trees, more_trees, Ca
 use Rattle.lq_tree.specs.TreeView.{Recursive}
 use Rattle.lq_walk.specs.Fold.{Arm, fold_all, fold_cases}
 use Rattle.lq_walk.specs.Visits.{Visit, enter_item, leave_item, enter, leave, leave_function, declare, show, hide, show_name, hide_name, visiting, visits_of, visits_of_form, visits_of_items, around, under, in_row, in_arms, in_match, in_function, is_let}
-use Rattle.lq_source_names.specs.Texts.{DefinesTexts, ItemHasTexts}
+use Rattle.lq_general_names.specs.Defined.{Defines}
 
-module _ (text : ℕ → Option ℕ) where
-  -- what an item that is left defines has source names; of other visits nothing is asked
+module _ (Named : ℕ → Type 0) where
+  -- each name that an item defines is of these
+  abbrev pub FormDefines : ItemForm → Type 0
+  FormDefines f = (x : ℕ) → Defines f x → Named x
+
+  abbrev pub FormsDefine : List ItemTree → Type 0
+  FormsDefine [] = Unit {0}
+  FormsDefine (i ∷ is) = FormDefines i.form × FormsDefine is
+
+  -- so it is of an item that is left; of other visits nothing is asked
   abbrev pub VisitDefines : Visit → Type 0
-  VisitDefines (leave_item i) = ItemHasTexts text i.form
+  VisitDefines (leave_item i) = FormDefines i.form
   VisitDefines v = Unit {0}
 
   abbrev pub AllDefine : List Visit → Type 0
@@ -123,9 +131,9 @@ module _ (text : ℕ → Option ℕ) where
   inside (let_of q e) = begun (declare q) tt (ended (show q) tt (in_tree e))
   inside (let_rec_of f r) = begun (show_name f) tt (function r (in_tree r.body))
 
-  items : (is : List ItemTree) → DefinesTexts text is → Define (visits_of_items is)
+  items : (is : List ItemTree) → FormsDefine is → Define (visits_of_items is)
   items [] h = nothing
   items (i ∷ is) h = both (begun (enter_item i) tt (ended (leave_item i) h.0 (inside i.form))) (items is h.1)
 
-  pub items_define : (is : List ItemTree) → DefinesTexts text is → AllDefine (visits_of_items is)
+  pub items_define : (is : List ItemTree) → FormsDefine is → AllDefine (visits_of_items is)
   items_define is h = (items is h).all

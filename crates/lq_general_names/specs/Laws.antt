@@ -1,9 +1,14 @@
--- The generalised definitions that a program uses have source names.
+-- The generalised definitions that a program uses are items of it, and have source names.
 use Rattle.std.specs.Prelude.{◌≡◌, ℕ, true, All, Option}
 use Rattle.std.specs.Option.{is_some}
 use Rattle.lq_scoped.specs.Scoping.{Scoping}
 use Rattle.lq_instantiated.specs.Uses.{uses_of}
 use Rattle.lq_source_names.specs.Texts.{DefinesTexts}
+use Rattle.lq_general_names.specs.Defined.{IsDefined}
+
+-- Each use of a generalised definition is of a name that an item defines.
+abbrev pub GeneralUsesAreDefined : Type 0
+GeneralUsesAreDefined = (s : Scoping) → All (λ u. IsDefined s.items u.binder) (uses_of s)
 
 -- Where what a program defines has source names, each use of a generalised definition is of a name of the source.
 abbrev pub GeneralUsesHaveTexts : Type 0

@@ -1,2 +1,3 @@
--- Source names of the generalised definitions that a program uses: definitions.
+-- The generalised definitions that a program uses: definitions.
+pub mod Defined
 pub mod Laws

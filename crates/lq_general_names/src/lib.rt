@@ -1,6 +1,6 @@
-//! Source names of the generalised definitions that a program uses: a law.
+//! The generalised definitions that a program uses: laws.
 #![tactic(auto)]
 
 mod laws;
 
-pub use laws::general_uses_have_texts;
+pub use laws::{general_uses_are_defined, general_uses_have_texts};

@@ -1,11 +1,11 @@
 // What is to be solved for a typed program.
-ghost use Rattle.std.specs.Prelude.{◌≡◌, ◌<◌, [], All, IfErr, IfOk, map};
+ghost use Rattle.std.specs.Prelude.{◌≡◌, ◌<◌, ◌≤◌, [], All, IfErr, IfOk, length, map};
 ghost use Rattle.lq_annotated.specs.Whole as annotated;
 ghost use Rattle.lq_checks.specs.Listing as listing;
 ghost use Rattle.lq_checks.specs.Ready.{IsReady};
 ghost use Rattle.lq_fresh.specs.Defined.{ConstructorsDiffer};
 ghost use Rattle.lq_implications.specs.Views.{implications_of};
-ghost use Rattle.lq_instances.specs.Instances.{all_instances_of};
+ghost use Rattle.lq_instances.specs.Instances.{all_instances_of, total_count};
 ghost use Rattle.lq_instances.specs.Views.{instances_view, measure_name};
 ghost use Rattle.lq_refinements.specs.Whole.{count_of};
 ghost use Rattle.lq_substitution.specs.Views.{scopes_view};
@@ -75,6 +75,13 @@ pub fn pose(
     ensures implications { IfOk result (λ p. implications_of p.implications
         ≡ listing.implications_of (basis_for (annotated.program_of noted.now.program.annotated).datatypes (map measure_view measures.now)
         (annotation_of noted.now) (normal_view normal.now).items) [] (read_of (annotation_of noted.now) (normal_view normal.now).items)) }
+    // There is something to be solved only where there are no more replacements and implications than the limits.
+    ensures few { IfOk result (λ _. (total_count (map qualifier_view qualifiers.now)
+        (unknowns_for (annotated.program_of noted.now.program.annotated).datatypes (map measure_view measures.now)
+        (annotation_of noted.now) (normal_view normal.now).items) ≤ 262144)
+        × (length (listing.implications_of (basis_for (annotated.program_of noted.now.program.annotated).datatypes
+        (map measure_view measures.now) (annotation_of noted.now) (normal_view normal.now).items) []
+        (read_of (annotation_of noted.now) (normal_view normal.now).items)) ≤ 262144)) }
     ensures refused { IfErr result (IsRefused (map qualifier_view qualifiers.now)
         (unknowns_for (annotated.program_of noted.now.program.annotated).datatypes (map measure_view measures.now)
         (annotation_of noted.now) (normal_view normal.now).items)

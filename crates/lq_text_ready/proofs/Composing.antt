@@ -1,10 +1,11 @@
 -- The laws on the way to what is ready, put together.
 use mathlib.Core.Path.{fun_ext}
 use Rattle.std.proofs.Common.{◌≡◌, ℕ, ◌+◌, ◌<◌, ◌≤◌, List, [], ◌∷◌, length, get_or, slice_get, Option, Some, None, refl, sym, ap, subst, ◌∙◌, arith}
-use Rattle.std.proofs.Math.Logic.{∥∥₁_elim}
+use Rattle.std.proofs.Math.Logic.{∥∥₁_elim, ∥∥₁_map}
 use Rattle.std.proofs.lemmas.Option.{slice_get_past, slice_get_within}
 use Rattle.lq_annotated.specs.Whole.{program_of, table_of, types_of}
 use Rattle.lq_apart.specs.Laws.{ScopedItemsOwnSlots}
+use Rattle.lq_checks.specs.Binders.{AllDiffer, binders}
 use Rattle.lq_checks.specs.Ready.{IsReady}
 use Rattle.lq_general_names.specs.Laws.{GeneralUsesHaveTexts}
 use Rattle.lq_instantiated.specs.Instances.{rows_of, AreFound}
@@ -17,7 +18,7 @@ use Rattle.lq_normal_texts.specs.Laws.{ParsedProgramsAreWritten}
 use Rattle.lq_normal_types.specs.Laws.{MadeNamesRun, ProgramsKeepTypes, ScopedProgramsArePlain}
 use Rattle.lq_normal_types.specs.Made.{Given, with_made}
 use Rattle.lq_normal_types.specs.Plain.{ItemsArePlain}
-use Rattle.lq_normal_types.specs.Programs.{items_made, next_items, normal_items}
+use Rattle.lq_normal_types.specs.Programs.{items_made, next_items, normal_items, NormalItemsAre}
 use Rattle.lq_normal_types.specs.Written.{ItemsAreWritten}
 use Rattle.lq_normal_uses.specs.Fits.{SourceUsesFit}
 use Rattle.lq_normal_uses.specs.Instances.{types_if, AreInstances, Annotates}
@@ -27,6 +28,7 @@ use Rattle.lq_notes.specs.Known.{Knows}
 use Rattle.lq_points.specs.Annotation.{Annotation}
 use Rattle.lq_points.specs.Reading as reading
 use Rattle.lq_points.specs.Templates.{Datatypes, basis_of}
+use Rattle.lq_read.specs.Laws.{types_of as types_in}
 use Rattle.lq_read.specs.Normal.{AreNormal}
 use Rattle.lq_read_binders.specs.Laws.{BindersOfNormalFormsDiffer}
 use Rattle.lq_ready.specs.Laws.{IsReadReady, NormalProgramsAreReady}
@@ -43,12 +45,11 @@ use Rattle.lq_typings.specs.Inference.{typed, IsInference}
 use Rattle.lq_typings.specs.Principal.{node_count, IsAnnotation}
 use Rattle.lq_typings.specs.Renaming.{RenamedArePrincipal}
 use Rattle.lq_visible.specs.Notes.{types_if_any}
-use Rattle.lq_text_ready.specs.Laws.{IsOfText, NotedTextsAreReady, ReadyIsOnce}
+use Rattle.lq_text_ready.specs.Laws.{IsOfText, IsReadTyped, NotedTextsAreReady, NotedTextsAreTyped, ReadyIsOnce}
 use Rattle.lq_text_ready.proofs.Given.{as_before, given}
 use Rattle.lq_text_ready.proofs.Seen.{seen_obeys}
 
-pub record Laws : Type 1 where
-  pub once : ReadyIsOnce
+pub record TypedLaws : Type 1 where
   pub renamed : RenamedArePrincipal
   pub owners : ScopedItemsOwnSlots
   pub written : ParsedProgramsAreWritten
@@ -63,6 +64,13 @@ pub record Laws : Type 1 where
   pub defined : ResolvedProgramsDefineTexts
   pub kept : NormalFormsKeepTexts
   pub unread : MadeNamesAreNotRead
+  pub one_pass : ProgramsAreOnePass
+
+pub record ReadyLaws : Type 1 where
+  pub once : ReadyIsOnce
+  pub typed : NotedTextsAreTyped
+  pub written : ParsedProgramsAreWritten
+  pub plain : ScopedProgramsArePlain
   pub differ : BindersOfNormalFormsDiffer
   pub ready : NormalProgramsAreReady
   pub one_pass : ProgramsAreOnePass
@@ -79,8 +87,11 @@ source_known : (o : Option (Option ℕ)) (s : ℕ) → source_of o ≡ Some s �
 source_known None s h = absurd (cc)
 source_known (Some t) s h = ap Some h
 
-module _ (L : Laws) (i : Instantiated) (n : Annotation) (D : Datatypes) (t : IsOfText (program_of i.annotated))
-    (same : D.constructors ≡ signature_in (program_of i.annotated).datatypes) (knows : Knows i n) where
+module _ (written : ParsedProgramsAreWritten) (s : Scoping) (t : IsOfText s) where
+  items_written : ItemsAreWritten s.items
+  items_written = subst (λ (r : Scoping). ItemsAreWritten r.items) (sym t.bound) (written t.text t.names t.tokens t.trees t.read t.known)
+
+module _ (L : TypedLaws) (i : Instantiated) (n : Annotation) (t : IsOfText (program_of i.annotated)) (knows : Knows i n) where
   abbrev s : Scoping
   s = program_of i.annotated
 
@@ -91,16 +102,13 @@ module _ (L : Laws) (i : Instantiated) (n : Annotation) (D : Datatypes) (t : IsO
   types = types_of i.annotated
 
   abbrev g : Signature
-  g = D.constructors
+  g = signature_in s.datatypes
 
   scoped : IsScoped s
   scoped = i.annotated.program.scoped
 
-  written : ItemsAreWritten s.items
-  written = subst (λ (r : Scoping). ItemsAreWritten r.items) (sym t.bound) (L.written t.text t.names t.tokens t.trees t.read t.known)
-
   plain : ItemsArePlain k s.items
-  plain = L.plain s scoped written
+  plain = L.plain s scoped (items_written L.written s t)
 
   text_is : n.text ≡ text_in s.sources
   text_is = fun_ext knows.texts
@@ -168,24 +176,45 @@ module _ (L : Laws) (i : Instantiated) (n : Annotation) (D : Datatypes) (t : IsO
     source_fits : SourceUsesFit whole s.items
     source_fits = L.source_uses s types (table_of i.annotated) numbers whole scoped inference.0.obeys instances annotates
 
-    ready_whole : IsReadReady D whole (normal_items k s.items)
-    ready_whole =
-        L.ready D whole (normal_items k s.items) normal
-        (L.keep g base k s.items (subst KnowsLists (sym same) (knows_lists s.datatypes)) plain
-        (subst (λ h. rules.ItemsAre h base [] s.items) (sym same) obeys))
-        (L.uses g s whole scoped plain source_fits made_no_text
-        (given base given_types k (next_items k s.items) (L.run g n.types k s.items)))
-        (L.differ s scoped plain normal whole)
+    typed_there : IsReadTyped g n (normal_of k s.items)
+    typed_there = subst (IsReadTyped g n) (sym (L.one_pass k s.items)) (record {
+      by = whole;
+      same = L.unread n with_types.binders (normal_items k s.items) agrees (L.kept n.text k s.items defines);
+      normal = normal;
+      obeys = L.keep g base k s.items (knows_lists s.datatypes) plain obeys;
+      uses =
+          L.uses g s whole scoped plain source_fits made_no_text
+          (given base given_types k (next_items k s.items) (L.run g n.types k s.items));
+    })
 
-    pub ready_there : IsReadReady D n (normal_of k s.items)
-    ready_there =
-        subst (IsReadReady D n) (sym (L.one_pass k s.items))
-        (subst (λ p. IsReady (basis_of D p.points) [] p.read)
-        (L.unread n with_types.binders (normal_items k s.items) agrees (L.kept n.text k s.items defines)) ready_whole)
+pub noted_typed : TypedLaws → NotedTextsAreTyped
+noted_typed L i n t knows =
+    ∥∥₁_elim i.annotated.answer squash₁ (λ inference. ∥∥₁_map i.found (λ found. typed_there L i n t knows inference found))
 
-pub noted_ready : Laws → NotedTextsAreReady
+-- ---- ready
+
+module _ (L : ReadyLaws) (s : Scoping) (n : Annotation) (D : Datatypes) (t : IsOfText s) (scoped : IsScoped s)
+    (same : D.constructors ≡ signature_in s.datatypes) (typed : IsReadTyped (signature_in s.datatypes) n (normal_of (length s.sources) s.items)) where
+  abbrev first_made : ℕ
+  first_made = length s.sources
+
+  one : normal_of first_made s.items ≡ normal_items first_made s.items
+  one = L.one_pass first_made s.items
+
+  differ : AllDiffer (binders (reading.program_of typed.by (normal_of first_made s.items)).read)
+  differ =
+      subst (λ is. AllDiffer (binders (reading.program_of typed.by is).read)) (sym one)
+      (L.differ s scoped (L.plain s scoped (items_written L.written s t)) (subst AreNormal one typed.normal) typed.by)
+
+  ready_there : IsReadReady D n (normal_of first_made s.items)
+  ready_there =
+      subst (λ p. IsReady (basis_of D p.points) [] p.read) typed.same
+      (L.ready D typed.by (normal_of first_made s.items) typed.normal
+      (subst (λ h. NormalItemsAre h (types_in typed.by) [] (normal_of first_made s.items)) (sym same) typed.obeys) typed.uses differ)
+
+pub noted_ready : ReadyLaws → NotedTextsAreReady
 noted_ready L i n D t same knows =
     let s = program_of i.annotated in
     let p = reading.program_of n (normal_of (length s.sources) s.items) in
-    let prop = L.once (basis_of D p.points) [] p.read in
-    ∥∥₁_elim i.annotated.answer prop (λ inference. ∥∥₁_elim i.found prop (λ found. ready_there L i n D t same knows inference found))
+    ∥∥₁_elim (L.typed i n t knows) (L.once (basis_of D p.points) [] p.read)
+    (λ typed. ready_there L s n D t i.annotated.program.scoped same typed)

@@ -1,5 +1,5 @@
 // Laws of typed texts. Nothing is run.
-ghost use Rattle.lq_text_ready.specs.Laws.{NotedTextsAreReady, ReadyIsOnce};
+ghost use Rattle.lq_text_ready.specs.Laws.{NotedTextsAreReady, NotedTextsAreTyped, ReadyIsOnce};
 
 use lq_apart::scoped_items_own_slots;
 use lq_general_names::general_uses_have_texts;
@@ -21,12 +21,11 @@ pub fn ready_is_once()
     ensures { ReadyIsOnce }
 {}
 
-/// What is read of the normal form of a typed program, whose text was read from tokens, is ready for its implications, over the
-/// constructors of its datatypes, by what is known of its nodes and binders.
-pub fn noted_texts_are_ready()
-    ensures { NotedTextsAreReady }
+/// The normal form of a typed program, whose text was read from tokens, obeys the rules of types for normal trees, and its uses fit, by an
+/// annotation by which the same is read as by what is known of the program's nodes and binders.
+pub fn noted_texts_are_typed()
+    ensures { NotedTextsAreTyped }
 {
-    ready_is_once();
     renamed_are_principal();
     scoped_items_own_slots();
     parsed_programs_are_written();
@@ -41,6 +40,18 @@ pub fn noted_texts_are_ready()
     resolved_programs_define_texts();
     normal_forms_keep_texts();
     made_names_are_not_read();
+    programs_are_one_pass();
+}
+
+/// What is read of the normal form of a typed program, whose text was read from tokens, is ready for its implications, over the
+/// constructors of its datatypes, by what is known of its nodes and binders.
+pub fn noted_texts_are_ready()
+    ensures { NotedTextsAreReady }
+{
+    ready_is_once();
+    noted_texts_are_typed();
+    parsed_programs_are_written();
+    scoped_programs_are_plain();
     binders_of_normal_forms_differ();
     normal_programs_are_ready();
     programs_are_one_pass();

@@ -1,6 +1,6 @@
-//! What is read of the normal form of a typed text is ready for its implications: laws.
+//! What is read of the normal form of a typed text is simply typed, and ready for its implications: laws.
 #![tactic(auto)]
 
 mod laws;
 
-pub use laws::{noted_texts_are_ready, ready_is_once};
+pub use laws::{noted_texts_are_ready, noted_texts_are_typed, ready_is_once};

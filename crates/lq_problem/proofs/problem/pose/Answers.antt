@@ -1,4 +1,4 @@
-use Rattle.std.proofs.Common.{◌≤◌, [], IfErr, map, refl, sym, ap, subst, ◌∙◌}
+use Rattle.std.proofs.Common.{◌≤◌, [], IfErr, length, map, refl, sym, ap, subst, ◌∙◌}
 use Rattle.std.proofs.lemmas.Result.{err_from_is_err_and}
 use Rattle.lq_annotated.specs.Whole as annotated
 use Rattle.lq_checks.specs.Listing.{implications_of}
@@ -194,3 +194,37 @@ returns-clause-implications c =
     let P = basis_for s.datatypes ms n is in
     c.in_ok-generated.ensures.implications P stands
     ∙ ap (implications_of P []) (ap program_view c.deref-2.ensures.value ∙ c.in_ok-program.ensures.program)
+
+pub returns-clause-few : goal.returns-clause-few
+returns-clause-few c =
+    let m = c.args.noted.now in
+    let s = annotated.program_of m.program.annotated in
+    let ms = map measure_view c.args.measures.now in
+    let n = annotation_of m in
+    let is = (normal_view c.args.normal.now).items in
+    let t = c.in_ok-program.field-0.templates in
+    let rows = c.in_ok-program.field-0.rows.items in
+    let D = datatypes_of s.datatypes ms in
+    let made : IsMadeFor s.datatypes ms n is t rows = record {
+      templates_are = λ S. c.in_ok-program.ensures.templates D refl refl S;
+      unknowns_are = c.in_ok-program.ensures.unknowns D refl refl;
+      there = c.in_ok-program.ensures.there;
+    } in
+    let types = c.declare.new.types in
+    let grows : Grows t.types types = subst (λ o. Grows o types) c.into_parts-types.ensures.types c.declare.ensures.grows in
+    let scopes = scopes_same s.datatypes ms n is t rows made c.into_parts-types.result.1 (scopes_view c.in_ok-scopes.scopes) c.into_parts-types.ensures.unknowns c.in_ok-scopes.ensures in
+    let same =
+    c.datatypes-datatypes.ensures ∙ ap (λ r. r.datatypes) (c.scoped.ensures.program ∙ ap annotated.program_of (c.annotated.ensures ∙ ap (λ i. i.annotated) c.program.ensures)) in
+    let ds = map data_view c.datatypes-datatypes.result.now in
+    let known = c.in_ok-known.ensures in
+    let declared =
+    declared_same ds s.datatypes ms _ types same c.requires.differ
+    (λ h. record { fields = known.fields h; constructors = known.constructors; equations = known.equations h }) in
+    let stands = basis_stands s.datatypes ms n is t rows made _ types grows c.deref.ensures.value scopes declared in
+    let P = basis_for s.datatypes ms n is in
+    let qs = map qualifier_view c.args.qualifiers.now in
+    let us = unknowns_for s.datatypes ms n is in
+    let within =
+    subst (λ l. total_count qs l ≤ 262144) (ap unknowns_view c.into_parts-types.ensures.unknowns ∙ made.unknowns_are) c.in_ok-instances.ensures.within in
+    let same_program = ap program_view c.deref-2.ensures.value ∙ c.in_ok-program.ensures.program in
+    (within, subst (λ q. length (implications_of P [] q) ≤ 262144) same_program (c.in_ok-generated.ensures.few P stands))
