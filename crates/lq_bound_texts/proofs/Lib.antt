@@ -1,0 +1,3 @@
+-- Lemmas.
+pub mod Dues
+mod Staged

@@ -1,0 +1,5 @@
+-- Lemmas.
+mod Numbers
+mod Problems
+mod Staged
+mod Types
