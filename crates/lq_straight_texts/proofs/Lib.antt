@@ -1,0 +1,5 @@
+-- Lemmas.
+mod Normal
+mod Plain
+mod Uses
+mod Texts

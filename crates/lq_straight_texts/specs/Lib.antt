@@ -1,0 +1,3 @@
+-- Straight-line texts: definitions and laws.
+pub mod Straight
+pub mod Laws

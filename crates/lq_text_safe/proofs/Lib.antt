@@ -1,0 +1,5 @@
+-- Lemmas.
+pub mod Outcomes
+mod Texts
+mod Instances
+mod Predeclared
