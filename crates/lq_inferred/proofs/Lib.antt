@@ -1,0 +1,3 @@
+pub mod Blocks
+pub mod Picking
+pub mod Texts

@@ -1,0 +1,11 @@
+use Rattle.std.proofs.Common.{ℕ, List, ◌++◌, ap₂, ◌∙◌}
+use Rattle.lq_refined.specs.Refined.{Refined}
+use Rattle.lq_type_text.specs.Types.{type_line}
+use Rattle.lq_type_text.specs.Views.{writing_view}
+use Rattle.lq_inferred.proofs.lines.push_named.Goals as goal
+
+pub returns-clause-text : goal.returns-clause-text
+returns-clause-text c =
+    let W = writing_view c.args.solution.now.writing.now in
+    c.in_ok-push_line.ensures
+    ∙ ap₂ (λ (n : List ℕ) (t : Refined). c.args.line.now.items ++ type_line W n t) (c.as_bytes-text.ensures.value ∙ c.text_of.ensures) c.in_ok-tree.ensures.shown

@@ -1,0 +1,8 @@
+//! The types of a program's definitions as lines.
+#![tactic(auto)]
+
+mod assigning;
+mod lines;
+
+pub use assigning::assignment_of;
+pub use lines::types_text;
