@@ -1,5 +1,5 @@
 // The prover as who says which implications are valid.
-ghost use Rattle.std.specs.Prelude.{◌≡◌, ◌<◌, length, slice_get, IfOk, IfErr, IfSome};
+ghost use Rattle.std.specs.Prelude.{◌≡◌, ◌<◌, length, slice_get, IfOk, IfErr, IfSome, IsTrue};
 ghost use Rattle.lq_literals.specs.Gathered.{CanBeGathered};
 ghost use Rattle.lq_parts.specs.Assignment.{goal_under};
 ghost use Rattle.lq_point.specs.Values.{as_point};
@@ -16,6 +16,7 @@ use crate::refuting::refuted;
 use lq_implications::Implications;
 use lq_instances::Instances;
 use lq_literals::sources_have_the_literals;
+use lq_nearest::follows;
 use lq_point::Point;
 use lq_pred::{Closed, Stop};
 use lq_prove::{Answer, valid};
@@ -117,7 +118,27 @@ impl Questions<'_> {
         Ok(Failure { point, refuted })
     }
 
-    /// Whether an implication is valid under the chosen instances.
+    /// Whether an implication is known to follow from its nearest hypotheses.
+    fn follows_nearby(&self, at: u64, chosen: &Chosen) -> bool
+        requires { at < length (constraints_of self.now.implications.now) }
+        ensures { IsTrue result → HoldsThere (instances_in self.now.instances.now)
+            (constraints_of self.now.implications.now) (chosen_in chosen.now) at }
+    {
+        match follows(
+            self.alloc,
+            self.implications,
+            at,
+            self.instances,
+            chosen,
+            self.limit,
+        ) {
+            Ok(found) => found,
+            Err(AllocError) => false,
+        }
+    }
+
+    /// Whether an implication is valid under the chosen instances. The prover is asked where it isn't known to follow from its nearest
+    /// hypotheses.
     fn judged(&self, at: u64, chosen: &Chosen) -> Result<Asked, Stop>
         requires { at < length (constraints_of self.now.implications.now) }
         ensures holds { IfOk result (λ asked. IfHolds asked (HoldsThere (instances_in self.now.instances.now)
@@ -127,6 +148,9 @@ impl Questions<'_> {
         ensures stop { IfErr result (MayStop self.now.limit (instances_in self.now.instances.now)
             (constraints_of self.now.implications.now) at) }
     {
+        if self.follows_nearby(at, chosen) {
+            return Ok(Asked::Holds);
+        }
         some_instances_gather();
         sources_have_the_literals();
         let Ok(closed) = self.closed(at, chosen) else {

@@ -6,6 +6,7 @@ ghost use Rattle.lq_weakening.specs.Chosen.{chosen_in};
 ghost use Rattle.lq_weaken.specs.Gathering.{AreGathered, HasAll, IsFirstUngathered, IsGatheredAt, IsPastAt};
 
 use crate::counts::instance_counts;
+use lq_fitting::all_fit;
 use lq_implications::Implications;
 use lq_instances::Instances;
 use lq_literals::first_past;
@@ -62,7 +63,7 @@ fn past_at(
 }
 
 /// The first implication with a literal that can't be gathered, all instances in place, and its first predicate with such a literal; None
-/// exactly where each literal of each implication can be gathered.
+/// exactly where each literal of each implication can be gathered. Where numbers are small, that is known by one look at each hypothesis.
 pub fn first_ungathered(
     alloc: Global,
     implications: &Implications,
@@ -73,6 +74,10 @@ pub fn first_ungathered(
     ensures none { IfOk result (λ found. IfNone found (AreGathered (instances_in instances.now)
         (constraints_of implications.now))) }
 {
+    let fits = all_fit(alloc, implications, instances)?;
+    if fits {
+        return Ok(None);
+    }
     let all = all_chosen(alloc, instances)?;
     for at in 0..implications.len() as u32 {
         match past_at(alloc, implications, at, instances, &all)? {

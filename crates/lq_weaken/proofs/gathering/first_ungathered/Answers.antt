@@ -31,3 +31,6 @@ returns-clause-none c =
     let cs = constraints_of c.args.implications.now in
     let e = length-map (implications_of c.args.implications.now) constraint_of in
     let past : length cs ≤ c.loop-at.at = omega (arith, e) in gathered_all (instances_in c.args.instances.now) cs c.loop-at.at past c.loop-at.invariant
+
+pub returns-then-fits-clause-none : goal.returns-then-fits-clause-none
+returns-then-fits-clause-none c = c.in_ok-fits.ensures c.if-fits.true

@@ -1,0 +1,61 @@
+-- Facts that hold, more facts behind them, and facts that clash.
+use Rattle.std.proofs.Common.{◌≡◌, ◌∙◌, ◌≤◌, ℕ, zero, suc, arith, length, length-append, take, List, [], ◌∷◌, ◌++◌, Option, Some, slice_get, IsTrue, refl, sym, ap, subst, append_assoc}
+use Rattle.std.proofs.lemmas.List.{append-nil}
+use Rattle.lq_combine.specs.Met.{AllHold, EachAgree, FactHolds, MeetsPath}
+use Rattle.lq_combine.specs.Path.{Fact, Path}
+use Rattle.lq_combine.specs.Proves.{Clashes, Numbering, Proves, by_clash}
+use Rattle.lq_combine.specs.Tree.{Clash, Tree, leaf}
+use Rattle.lq_linear.specs.Row.{Valuation}
+use Rattle.lq_pred.specs.Points.{Point}
+use Rattle.lq_pred.specs.RowMeaning.{AgreesOn}
+use Rattle.lq_pred.specs.Sum.{Sum}
+use Rattle.lq_pred.specs.Table.{Extends, all_differ}
+use Rattle.lq_known.specs.Facts.{Grows}
+
+pub hold_more : (v : Valuation) (p : Point) (old new : List Fact) (f : Fact) → new ≡ old ++ f ∷ [] → AllHold v p old → FactHolds v p f → AllHold v p new
+hold_more v p old new f e h k = subst (AllHold v p) (sym e) (along old h)
+  where
+    along : (fs : List Fact) → AllHold v p fs → AllHold v p (fs ++ f ∷ [])
+    along [] g = (k, tt)
+    along (x ∷ fs) g = (g.0, along fs g.1)
+
+pub hold_same : (v : Valuation) (p : Point) (old new : List Fact) → new ≡ old → AllHold v p old → AllHold v p new
+hold_same v p old new e h = subst (AllHold v p) (sym e) h
+
+-- no point meets a path that a tree proves
+abbrev pub NoPoint : Type 0
+NoPoint =
+    (n : Numbering) (v : Valuation) (p : Point) (path : Path) (tree : Tree) → IsTrue (all_differ n.terms) → AgreesOn n.terms v p → EachAgree p n.applications → MeetsPath v p path → Proves n path tree → ⊥
+
+pub clash_none : NoPoint → (v : Valuation) (p : Point) (facts : List Fact) (k : Clash) → Clashes facts k → AllHold v p facts → ⊥
+clash_none law v p facts k c h =
+    let path : Path = record { facts = facts; choices = [] } in
+    let n : Numbering = record { terms = []; applications = [] } in
+    law n v p path (leaf k) refl (λ i t e. cc) (λ s t e. cc) (record { facts = h; choices = tt }) (by_clash path k c)
+
+pub grows_same : (old new : List Fact) → new ≡ old → Grows old new
+grows_same old new e = record { more = []; is = e ∙ sym (append-nil old) }
+
+pub grows_push : (old new : List Fact) (f : Fact) → new ≡ old ++ f ∷ [] → Grows old new
+grows_push old new f e = record { more = f ∷ []; is = e }
+
+pub grows_then : (a b c : List Fact) → Grows a b → Grows b c → Grows a c
+grows_then a b c g h = record { more = g.more ++ h.more; is = h.is ∙ ap (λ l. l ++ h.more) g.is ∙ append_assoc a g.more h.more }
+
+get_append : (ts us : List Sum) (k : ℕ) (t : Sum) → slice_get ts k ≡ Some t → slice_get (ts ++ us) k ≡ Some t
+get_append [] us k t e = absurd (cc)
+get_append (x ∷ ts) us zero t e = e
+get_append (x ∷ ts) us (suc k) t e = get_append ts us k t e
+
+pub agrees_before : (old new : List Sum) (v : Valuation) (p : Point) → Extends old new → AgreesOn new v p → AgreesOn old v p
+agrees_before old new v p x a k t e = a k t (subst (λ l. slice_get l k ≡ Some t) (sym x.is) (get_append old x.more k t e))
+
+pub grows_length : (a b : List Fact) → Grows a b → length a ≤ length b
+grows_length a b g = let e = ap length g.is in let f = length-append a g.more in omega (arith, e, f)
+
+pub grows_take : (a b : List Fact) (n : ℕ) → Grows a b → n ≡ length a → take n b ≡ a
+grows_take a b n g e = ap (λ m. take m b) e ∙ ap (take (length a)) g.is ∙ front a g.more
+  where
+    front : (xs ys : List Fact) → take (length xs) (xs ++ ys) ≡ xs
+    front [] ys = refl
+    front (x ∷ xs) ys = ap (λ l. x ∷ l) (front xs ys)

@@ -1,0 +1,19 @@
+use Rattle.lq_implications.specs.Views.{hypotheses_left}
+use Rattle.lq_parts.specs.Assignment.{part_under, parts_under}
+use Rattle.lq_pred.specs.ClosedImplication.{MeetsEach}
+use Rattle.lq_pred.specs.Points.{Point}
+use Rattle.lq_questions.specs.Assigned.{assignment_of}
+use Rattle.lq_substitution.specs.Views.{part_view}
+use Rattle.lq_nearest.proofs.Meeting.{last_split}
+use Rattle.lq_nearest.proofs.adding.add_last.Goals as goal
+
+pub loop-init : goal.loop-init
+loop-init c = record { holds = λ p h m. h; less = λ p m. m }
+
+pub loop-preserved : goal.loop-preserved
+loop-preserved c =
+    let A = assignment_of c.args.instances.now c.args.chosen.now in
+    let before = c.loop.invariant in
+    let split : (p : Point) → MeetsEach p (parts_under A (hypotheses_left c.args.left.now)) → MeetsEach p (parts_under A (hypotheses_left c.take_last.new.self)) × MeetsEach p (part_under A (part_view c.in-Some.part.now))
+    = λ p m. last_split A p (hypotheses_left c.loop.left) (hypotheses_left c.take_last.new.self) (part_view c.in-Some.part.now) c.in-Some.ensures (before.less p m) in
+    record { holds = λ p h m. c.in_ok-add_part.ensures p (before.holds p h m) (split p m).1; less = λ p m. (split p m).0 }

@@ -1,0 +1,14 @@
+-- What is known holds where the hypotheses are met, and those that are left are met then.
+use Rattle.lq_implications.specs.Views.{hypotheses_left}
+use Rattle.lq_known.specs.Known.{Hold}
+use Rattle.lq_parts.specs.Assignment.{parts_under}
+use Rattle.lq_pred.specs.ClosedImplication.{MeetsEach}
+use Rattle.lq_pred.specs.Points.{Point}
+use Rattle.lq_questions.specs.Assigned.{assignment_of}
+use Rattle.lq_nearest.proofs.adding.add_last.Given as goal
+
+abbrev pub invariant-loop : goal.invariant-loop
+invariant-loop l = record {
+  holds : (p : Point) → Hold l.fn.known p → MeetsEach p (parts_under (assignment_of l.instances l.chosen) (hypotheses_left l.fn.left)) → Hold l.known p;
+  less : (p : Point) → MeetsEach p (parts_under (assignment_of l.instances l.chosen) (hypotheses_left l.fn.left)) → MeetsEach p (parts_under (assignment_of l.instances l.chosen) (hypotheses_left l.left));
+}

@@ -1,0 +1,29 @@
+use Rattle.std.proofs.Common.{OnOk, map, subst, sym}
+use Rattle.lq_instances.specs.Views.{instances_view, list_view}
+use Rattle.lq_known.specs.Known.{Hold}
+use Rattle.lq_parts.specs.Assignment.{part_under}
+use Rattle.lq_parts.specs.Flowing.{picked}
+use Rattle.lq_parts.specs.Substitution.{formula_by}
+use Rattle.lq_pred.specs.ClosedImplication.{MeetsEach}
+use Rattle.lq_pred.specs.Points.{Point}
+use Rattle.lq_questions.specs.Assigned.{assignment_of}
+use Rattle.lq_substitution.specs.Views.{part_view, subst_view}
+use Rattle.lq_substitution.specs.declared.parts.Part as code
+use Rattle.lq_weakening.specs.Chosen.{chosen_in}
+use Rattle.lq_nearest.proofs.Meeting.{listed}
+use Rattle.lq_nearest.proofs.adding.add_part.Goals as goal
+
+pub returns-in-Known : goal.returns-in-Known
+returns-in-Known c = λ p h m.
+    c.add.ensures p h (subst (λ (q : code.Part). MeetsEach p (part_under (assignment_of c.args.instances.now c.args.chosen.now) (part_view q))) c.in-Known.is m).0
+
+pub returns-in-Some : goal.returns-in-Some
+returns-in-Some c =
+    let f = formula_by (subst_view c.in-Unknown.by) in
+    let chosen = chosen_in c.args.chosen.now c.in-Unknown.unknown in
+    let all = instances_view c.args.instances.now in
+    let l = list_view c.in-Some.list.now in
+    subst (λ (q : code.Part). OnOk c.add_list.result ((p : Point) → Hold c.args.known.now p
+    → MeetsEach p (part_under (assignment_of c.args.instances.now c.args.chosen.now) (part_view q)) → Hold c.add_list.new.known p)) (sym c.in-Unknown.is)
+    (subst (λ x. OnOk c.add_list.result ((p : Point) → Hold c.args.known.now p → MeetsEach p (map f (picked chosen 0 x)) → Hold c.add_list.new.known p))
+    (sym (listed all c.in-Unknown.unknown l c.in-Some.ensures)) c.add_list.ensures)

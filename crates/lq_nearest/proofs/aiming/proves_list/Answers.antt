@@ -1,0 +1,24 @@
+use Rattle.std.proofs.Common.{◌≡◌, ◌≤◌, true, sym, subst, arith, length}
+use Rattle.lq_instances.specs.Views.{list_view}
+use Rattle.lq_pred.specs.PredView.{formula_of}
+use Rattle.lq_substitution.specs.Views.{subst_view}
+use Rattle.lq_weakening.specs.Chosen.{chosen_in}
+use Rattle.lq_nearest.proofs.Meeting.{none_against, none_next, none_past}
+use Rattle.lq_nearest.proofs.aiming.proves_list.Goals as goal
+
+pub loop-at-init : goal.loop-at-init
+loop-at-init c = record { kept = λ p h. h; none = λ p h i q w. absurd (omega (arith, w)) }
+
+pub loop-at-preserved : goal.loop-at-preserved
+loop-at-preserved c =
+    let before = c.loop-at.invariant in record {
+      kept = λ p h. c.in_ok-proved.ensures.kept p (before.kept p h);
+      none = λ p h. none_next p (chosen_in c.args.chosen.now c.args.unknown) (subst_view c.args.by.now) c.loop-at.at (list_view c.args.list.now) (formula_of c.in-Some.instance.now) c.in-Some.ensures
+          (before.none p h) (λ t. c.in_ok-proved.ensures.proved c.if-not-proved.false p (before.kept p h) (subst (λ b. b ≡ true) (sym c.has-is_chosen.ensures) t));
+    }
+
+pub returns-clause-proved : goal.returns-clause-proved
+returns-clause-proved c = λ _ p h.
+    let past : length (list_view c.args.list.now) ≤ c.loop-at.at = omega arith in
+    none_against p (chosen_in c.args.chosen.now c.args.unknown) (subst_view c.args.by.now) (list_view c.args.list.now)
+    (none_past p (chosen_in c.args.chosen.now c.args.unknown) (subst_view c.args.by.now) c.loop-at.at (list_view c.args.list.now) past (c.loop-at.invariant.none p h))

@@ -1,0 +1,110 @@
+// What parts stand for becomes known.
+ghost use Rattle.std.specs.Prelude.{◌≡◌, IfOk, IsTrue, OnOk, map, true};
+ghost use Rattle.lq_implications.specs.Views.{hypotheses_left};
+ghost use Rattle.lq_instances.specs.Views.{list_view};
+ghost use Rattle.lq_known.specs.Known.{Hold};
+ghost use Rattle.lq_parts.specs.Assignment.{part_under, parts_under};
+ghost use Rattle.lq_parts.specs.Flowing.{picked};
+ghost use Rattle.lq_parts.specs.Substitution.{formula_by};
+ghost use Rattle.lq_pred.specs.ClosedImplication.{MeetsEach};
+ghost use Rattle.lq_pred.specs.PredView.{formula_of};
+ghost use Rattle.lq_pred.specs.Points.{Meets, Point};
+ghost use Rattle.lq_pred.specs.Reading.{reading_of};
+ghost use Rattle.lq_questions.specs.Assigned.{assignment_of};
+ghost use Rattle.lq_substitution.specs.Views.{part_view, subst_view};
+ghost use Rattle.lq_weakening.specs.Chosen.{chosen_in};
+
+use lq_implications::Hypotheses;
+use lq_instances::{InstanceList, Instances};
+use lq_known::Known;
+use lq_pred::Pred;
+use lq_substitution::{Part, Subst, substitute};
+use lq_weakening::Chosen;
+use std::alloc::{AllocError, Global};
+
+/// Adds what is known of an instance with something put for its symbols, where it is chosen.
+fn add_instance(
+    alloc: Global,
+    known: &mut Known,
+    instance: &Pred,
+    is_chosen: bool,
+    by: &Subst,
+) -> Result<(), AllocError>
+    ensures { OnOk result ((p : Point) → Hold known.old p
+        → (is_chosen ≡ true → Meets p (reading_of true (formula_by (subst_view by.now) (formula_of instance.now))))
+        → Hold known.new p) }
+{
+    if is_chosen {
+        let made = substitute(alloc, instance, by)?;
+        known.add(&made);
+    }
+    Ok(())
+}
+
+/// Adds what is known of the chosen ones of some instances.
+fn add_list(
+    alloc: Global,
+    known: &mut Known,
+    unknown: u64,
+    by: &Subst,
+    list: &InstanceList,
+    chosen: &Chosen,
+) -> Result<(), AllocError>
+    ensures { OnOk result ((p : Point) → Hold known.old p → MeetsEach p (map (formula_by (subst_view by.now))
+        (picked (chosen_in chosen.now unknown) 0 (list_view list.now))) → Hold known.new p) }
+{
+    for at in 0..list.len() {
+        let Some(instance) = list.get(at) else {
+            unreachable!()
+        };
+        add_instance(alloc, known, instance, chosen.has(unknown, at as u64), by)?;
+    }
+    Ok(())
+}
+
+/// Adds what is known of a part as a hypothesis.
+fn add_part(
+    alloc: Global,
+    known: &mut Known,
+    part: &Part,
+    instances: &Instances,
+    chosen: &Chosen,
+) -> Result<(), AllocError>
+    ensures { OnOk result ((p : Point) → Hold known.old p
+        → MeetsEach p (part_under (assignment_of instances.now chosen.now) (part_view part.now)) → Hold known.new p) }
+{
+    match part {
+        Part::Known(pred) => {
+            known.add(pred);
+            Ok(())
+        }
+        Part::Unknown(unknown, by) => match instances.get(*unknown as usize) {
+            Some(list) => add_list(alloc, known, *unknown, by, list, chosen),
+            None => Ok(()),
+        },
+    }
+}
+
+/// Adds what is known of so many of the last hypotheses. The answer is whether there were as many.
+pub(crate) fn add_last(
+    alloc: Global,
+    known: &mut Known,
+    left: &mut Hypotheses<'_>,
+    count: u64,
+    instances: &Instances,
+    chosen: &Chosen,
+) -> Result<bool, AllocError>
+    ensures holds { OnOk result ((p : Point) → Hold known.old p
+        → MeetsEach p (parts_under (assignment_of instances.now chosen.now) (hypotheses_left left.old)) → Hold known.new p) }
+    ensures less { IfOk result (λ more. IsTrue more → (p : Point)
+        → MeetsEach p (parts_under (assignment_of instances.now chosen.now) (hypotheses_left left.old))
+        → MeetsEach p (parts_under (assignment_of instances.now chosen.now) (hypotheses_left left.new))) }
+{
+    for _ in 0..count {
+        let Some(part) = left.take_last() else {
+            return Ok(false);
+        };
+        add_part(alloc, known, part, instances, chosen)?;
+    }
+    Ok(true)
+}

@@ -1,0 +1,87 @@
+// Whether what is known proves a goal.
+ghost use Rattle.std.specs.Prelude.{◌≡◌, IfOk, IsTrue, false, map, true};
+ghost use Rattle.lq_instances.specs.Views.{list_view};
+ghost use Rattle.lq_known.specs.Known.{Hold};
+ghost use Rattle.lq_parts.specs.Assignment.{all_joined, goal_under};
+ghost use Rattle.lq_parts.specs.Flowing.{picked};
+ghost use Rattle.lq_parts.specs.Substitution.{formula_by};
+ghost use Rattle.lq_pred.specs.Points.{Meets, Point};
+ghost use Rattle.lq_pred.specs.PredView.{formula_of};
+ghost use Rattle.lq_pred.specs.Reading.{reading_of};
+ghost use Rattle.lq_questions.specs.Assigned.{assignment_of};
+ghost use Rattle.lq_substitution.specs.Views.{part_view, subst_view};
+ghost use Rattle.lq_weakening.specs.Chosen.{chosen_in};
+
+use lq_instances::{InstanceList, Instances};
+use lq_known::Known;
+use lq_pred::Pred;
+use lq_substitution::{Part, Subst, substitute};
+use lq_weakening::Chosen;
+use std::alloc::{AllocError, Global};
+
+/// Whether an instance with something put for its symbols is proved, where it is chosen.
+fn proves_instance(
+    alloc: Global,
+    known: &mut Known,
+    instance: &Pred,
+    is_chosen: bool,
+    by: &Subst,
+) -> Result<bool, AllocError>
+    ensures proved { IfOk result (λ b. IsTrue b → (p : Point) → Hold known.old p → is_chosen ≡ true
+        → Meets p (reading_of false (formula_by (subst_view by.now) (formula_of instance.now))) → ⊥) }
+    ensures kept { (p : Point) → Hold known.old p → Hold known.new p }
+{
+    if is_chosen {
+        let made = substitute(alloc, instance, by)?;
+        return Ok(known.proves(&made));
+    }
+    Ok(true)
+}
+
+/// Whether each chosen one of some instances is proved.
+fn proves_list(
+    alloc: Global,
+    known: &mut Known,
+    unknown: u64,
+    by: &Subst,
+    list: &InstanceList,
+    chosen: &Chosen,
+) -> Result<bool, AllocError>
+    ensures proved { IfOk result (λ b. IsTrue b → (p : Point) → Hold known.old p
+        → Meets p (reading_of false (all_joined (map (formula_by (subst_view by.now))
+        (picked (chosen_in chosen.now unknown) 0 (list_view list.now))))) → ⊥) }
+    ensures kept { (p : Point) → Hold known.old p → Hold known.new p }
+{
+    for at in 0..list.len() {
+        let Some(instance) = list.get(at) else {
+            unreachable!()
+        };
+        let is_chosen = chosen.has(unknown, at as u64);
+        let proved = proves_instance(alloc, known, instance, is_chosen, by)?;
+        if !proved {
+            return Ok(false);
+        }
+    }
+    Ok(true)
+}
+
+/// Whether a part as a goal is proved.
+pub(crate) fn proves_part(
+    alloc: Global,
+    known: &mut Known,
+    part: &Part,
+    instances: &Instances,
+    chosen: &Chosen,
+) -> Result<bool, AllocError>
+    ensures proved { IfOk result (λ b. IsTrue b → (p : Point) → Hold known.old p
+        → Meets p (reading_of false (goal_under (assignment_of instances.now chosen.now) (part_view part.now))) → ⊥) }
+    ensures kept { (p : Point) → Hold known.old p → Hold known.new p }
+{
+    match part {
+        Part::Known(pred) => Ok(known.proves(pred)),
+        Part::Unknown(unknown, by) => match instances.get(*unknown as usize) {
+            Some(list) => proves_list(alloc, known, *unknown, by, list, chosen),
+            None => Ok(true),
+        },
+    }
+}
