@@ -1,0 +1,4 @@
+-- The proofs of this crate.
+mod Rows
+mod Walking
+mod Parsing

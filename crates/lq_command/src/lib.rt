@@ -1,0 +1,10 @@
+//! The words of the command line, and the command that they are.
+#![tactic(auto)]
+
+mod command;
+mod line;
+mod number;
+mod words;
+
+pub use command::{Command, Judge, Mode};
+pub use words::Words;

@@ -1,0 +1,31 @@
+// The lines of a sample program's counts.
+ghost use Rattle.std.specs.Prelude.{◌≡◌, ◌++◌, OnOk};
+ghost use Rattle.lq_sample.specs.Sample.{count_line, counts_text};
+
+use crate::number::push_numbered;
+use std::alloc::AllocError;
+
+/// Writes the four counts, a line each, behind the bytes.
+pub fn push_counts(
+    text: &mut Vec<u8>,
+    functions: u64,
+    unknowns: u64,
+    instances: u64,
+    implications: u64,
+) -> Result<(), AllocError>
+    ensures { OnOk result (text.new.items ≡ text.old.items
+        ++ counts_text functions unknowns instances implications) }
+{
+    push_count(text, b"functions ", functions)?;
+    push_count(text, b"unknowns ", unknowns)?;
+    push_count(text, b"instances ", instances)?;
+    push_count(text, b"implications ", implications)
+}
+
+// Writes a line with a word and a number.
+fn push_count(text: &mut Vec<u8>, word: &[u8], n: u64) -> Result<(), AllocError>
+    ensures { OnOk result (text.new.items ≡ text.old.items ++ count_line word.now n) }
+{
+    push_numbered(text, word, n)?;
+    text.extend_from_slice(b"\n")
+}
