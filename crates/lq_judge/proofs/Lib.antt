@@ -1,0 +1,6 @@
+-- Lemmas.
+mod Agreement
+mod Safe
+mod Selections
+mod Texts
+mod Verdicts

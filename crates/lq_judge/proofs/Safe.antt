@@ -1,0 +1,93 @@
+-- What is accepted is safe, and what is small is decided.
+use Rattle.std.proofs.Common.{ℕ, List, [], Ok, map, sym, subst}
+use Rattle.lq_annotated.specs.Whole as annotated
+use Rattle.lq_bound_texts.specs.Stages.{Bytes}
+use Rattle.lq_inhabits.specs.Datatypes.{AreCovariant}
+use Rattle.lq_inhabits.specs.Truth.{Objects}
+use Rattle.lq_notes.specs.Noted.{annotation_of, NotedAreKnown}
+use Rattle.lq_notes.specs.declared.noted.Noted.{Noted}
+use Rattle.lq_parts.specs.Assignment.{Assignment}
+use Rattle.lq_parts.specs.Flowing.{assigned}
+use Rattle.lq_plain.specs.Plain.{IsPlainProgram}
+use Rattle.lq_points.specs.Annotation.{Annotation}
+use Rattle.lq_points.specs.Reading.{program_of}
+use Rattle.lq_posed_texts.specs.Stages.{PosesTo, Typed, constraints_in, normal_in, program_in}
+use Rattle.lq_pred.specs.declared.pred.Stop.{Stop}
+use Rattle.lq_pred.specs.declared.pred.Stop.TheVariants.{Number, Gather, Pivots, Memory as MemoryStop}
+use Rattle.lq_problem.specs.Posed.{datatypes_of}
+use Rattle.lq_safe.specs.Programs.{no_symbols}
+use Rattle.lq_scoped.specs.Scoping.{Scoping}
+use Rattle.lq_scoped.specs.Signature.{signature_in}
+use Rattle.lq_straight_texts.specs.Laws.{StraightTextsAreSafe}
+use Rattle.lq_straight_texts.specs.Straight.{AreStraight}
+use Rattle.lq_text_ready.specs.Laws.{IsOfText}
+use Rattle.lq_text_safe.specs.Instances.{InstancesAreScoped}
+use Rattle.lq_text_safe.specs.Safety as texts
+use Rattle.lq_text_safe.specs.Safety.{CheckedTextsAreSafe, IsSafe, IsSolvedBy}
+use Rattle.lq_weaken.specs.Stops.{StopsSolving}
+use Rattle.lq_weakening.specs.declared.error.SolveError.TheVariants.{At}
+use Rattle.lq_judge.specs.Agreeing.{IsOfProver}
+use Rattle.lq_judge.specs.Judgement.{IsAccepted, instances_of}
+use Rattle.lq_judge.specs.Safety.{IsNotedOf, IsSafeIfPlain, IsSafeIfStraight, SmallAreDecided}
+use Rattle.lq_judge.proofs.Texts.{of_text}
+
+pub record Laws : Type 1 where
+  pub known : NotedAreKnown
+  pub scoped : InstancesAreScoped
+  pub checked : CheckedTextsAreSafe
+  pub straight : StraightTextsAreSafe
+
+module _ (laws : Laws) (m : Noted) (b : Bytes) (t : Typed) (types : List ℕ) (noted : IsNotedOf m t) (posed : PosesTo b (Ok t)) (is : IsAccepted t types) where
+  abbrev assignment : Assignment
+  assignment = assigned (instances_of t) is.solution
+
+  -- the assignment solves what is read by this annotation
+  solved : IsSolvedBy (program_in t) t.bound.texts.measures t.annotation assignment
+  solved =
+      record {
+        holds = is.strongest.meets;
+        scoped = laws.scoped (datatypes_of (program_in t).datatypes t.bound.texts.measures) (program_of t.annotation (normal_in t)).points
+            (map (λ x. x.name) t.bound.texts.measures) t.bound.texts.qualifiers is.solution;
+      }
+
+  -- of the program and the annotation that stand in memory
+  abbrev there : Scoping
+  there = annotated.program_of m.program.annotated
+
+  solved_there : IsSolvedBy there t.bound.texts.measures (annotation_of m) assignment
+  solved_there =
+      subst (λ (s : Scoping). IsSolvedBy s t.bound.texts.measures (annotation_of m) assignment) (sym noted.program)
+      (subst (λ (n : Annotation). IsSolvedBy (program_in t) t.bound.texts.measures n assignment) (sym noted.annotation) solved)
+
+  text_there : IsOfText there
+  text_there = subst IsOfText (sym noted.program) (of_text b t posed)
+
+  safe_straight : IsSafeIfStraight t
+  safe_straight straight covariant =
+      subst (λ (s : Scoping). IsSafe s.items) noted.program
+      (laws.straight m.program (annotation_of m) t.bound.texts.measures assignment text_there (laws.known m)
+      (subst (λ (s : Scoping). AreStraight s.items) (sym noted.program) straight)
+      (subst (λ (s : Scoping). AreCovariant (signature_in s.datatypes)) (sym noted.program) covariant) solved_there)
+
+  abbrev PlainBy : Objects → Scoping → Annotation → Type 0
+  PlainBy O s n = IsPlainProgram (texts.basis_in s t.bound.texts.measures n) assignment O no_symbols [] (program_of n (texts.normal_in s)).read
+
+  safe_plain : IsSafeIfPlain t is.solution
+  safe_plain O lengths covariant plain =
+      let plain_there = subst (λ (s : Scoping). PlainBy O s (annotation_of m)) (sym noted.program)
+      (subst (λ (n : Annotation). PlainBy O (program_in t) n) (sym noted.annotation) plain) in
+      subst (λ (s : Scoping). IsSafe s.items) noted.program
+      (laws.checked m.program (annotation_of m) t.bound.texts.measures assignment O text_there (laws.known m)
+      (subst (λ (s : Scoping). AreCovariant (signature_in s.datatypes)) (sym noted.program) covariant) solved_there lengths plain_there)
+
+  pub safe : IsSafeIfStraight t × IsSafeIfPlain t is.solution
+  safe = (safe_straight, safe_plain)
+
+pub decided : SmallAreDecided
+decided limit t cause is small prover = by_stop is.stop is.stops prover
+  where
+    by_stop : (s : Stop) → StopsSolving limit (instances_of t) (constraints_in t) (At is.at s) → IsOfProver s → ⊥
+    by_stop (Number e) stops p = stops.1.large (small stops.1.selection is.at stops.1.constraint stops.1.here)
+    by_stop (Pivots n) stops p = stops.1.large (small stops.1.selection is.at stops.1.constraint stops.1.here)
+    by_stop (Gather q) stops p = p
+    by_stop MemoryStop stops p = p

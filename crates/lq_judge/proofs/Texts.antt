@@ -1,0 +1,30 @@
+-- What is to be solved is of a text.
+use Rattle.std.proofs.Common.{◌≡◌, Ok, ap, sym, subst, ◌∙◌}
+use Rattle.lq_bound_texts.specs.Stages.{BindsTo, Bound, Bytes}
+use Rattle.lq_posed_texts.specs.Stages.{PosesTo, Typed, program_in}
+use Rattle.lq_resolved.specs.Resolution.{scoping_of}
+use Rattle.lq_text_ready.specs.Laws.{IsOfText}
+
+bound_text : (bytes : Bytes) (b : Bound) → BindsTo bytes (Ok b) → IsOfText b.texts.program
+bound_text bytes b is =
+    let read = is.1 in
+    let two = read.1 in
+    let program = two.1 in
+    let items = ap (λ s. s.items) is.2.0 ∙ ap (λ x. x.0.tree) read.2.0 ∙ ap (λ x. x.tree) two.2.0 in
+    record {
+      text = bytes.program;
+      names = two.0.names;
+      tokens = program.0;
+      trees = two.0.tree;
+      read = program.2.1;
+      known = b.read.names;
+      bound = ap (λ x. x.program) is.2.1.3 ∙ ap (scoping_of b.read.names) items;
+    }
+
+pub of_text : (bytes : Bytes) (t : Typed) → PosesTo bytes (Ok t) → IsOfText (program_in t)
+of_text bytes t posed =
+    let typed = posed.1 in
+    let same : t ≡ posed.0 = posed.2.0 in
+    let bound : posed.0.bound ≡ typed.0 = typed.2.0 in
+    let there = bound_text bytes typed.0 typed.1 in
+    subst (λ (b : Bound). IsOfText b.texts.program) (sym bound ∙ sym (ap (λ x. x.bound) same)) there

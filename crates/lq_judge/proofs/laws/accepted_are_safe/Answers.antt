@@ -1,0 +1,12 @@
+use Rattle.lq_judge.proofs.Safe.{safe}
+use Rattle.lq_judge.proofs.laws.accepted_are_safe.Goals as goal
+
+pub returns : goal.returns
+returns c =
+    safe
+    record {
+      known = c.noted_are_known.ensures;
+      scoped = c.instances_are_scoped.ensures;
+      checked = c.checked_texts_are_safe.ensures;
+      straight = c.straight_texts_are_safe.ensures;
+    }

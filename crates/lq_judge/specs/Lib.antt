@@ -1,0 +1,5 @@
+-- Judgements on three texts: definitions.
+pub mod Names
+pub mod Judgement
+pub mod Agreeing
+pub mod Safety

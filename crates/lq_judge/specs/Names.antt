@@ -1,0 +1,30 @@
+-- What binders and the parameters of datatypes are called in reports.
+use Rattle.std.specs.Prelude.{ℕ, true, false, ◌==◌, List, [], ◌∷◌, Option, if◌then◌else◌}
+use Rattle.lq_scoped.specs.Signature.{DataTree}
+use Rattle.lq_pretty.specs.Calling.{Calling}
+use Rattle.lq_type_text.specs.Types.{Writing}
+use Rattle.lq_posed_texts.specs.Stages.{Typed, names_in, program_in}
+
+-- the parameters of the last of these datatypes with the name, or else these
+abbrev pub parameters_among : List ℕ → List DataTree → ℕ → List ℕ
+parameters_among known [] d = known
+parameters_among known (x ∷ xs) d = parameters_among (if x.name == d then x.parameters else known) xs d
+
+-- of `list` and `option`, whose numbers are 4 and 5, it is `'a`
+abbrev pub parameters_in : List DataTree → ℕ → List ℕ
+parameters_in ds d = if 5 == d then 11 ∷ [] else (if 4 == d then 11 ∷ [] else parameters_among [] ds d)
+
+-- implications tell binders of one name apart
+abbrev pub called_by : List (List ℕ) → List (Option ℕ) → Calling
+called_by names sources = record { names = names; sources = sources; told_apart = true }
+
+abbrev pub called_in : Typed → Calling
+called_in t = called_by (names_in t.bound) (program_in t).sources
+
+-- types don't
+abbrev pub written_by : List (List ℕ) → List (Option ℕ) → (ℕ → List ℕ) → Writing
+written_by names sources parameters =
+    record { calling = record { names = names; sources = sources; told_apart = false }; parameters = parameters }
+
+abbrev pub writing_in : Typed → Writing
+writing_in t = written_by (names_in t.bound) (program_in t).sources (parameters_in (program_in t).datatypes)

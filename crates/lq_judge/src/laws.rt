@@ -1,0 +1,36 @@
+// What holds of the definitions. Nothing is run.
+ghost use Rattle.lq_judge.specs.Agreeing.{IsOneJudgement};
+ghost use Rattle.lq_judge.specs.Safety.{AcceptedAreSafe, SmallAreDecided};
+
+use lq_failure::failures_differ_in_values;
+use lq_literals::sources_have_the_literals;
+use lq_notes::noted_are_known;
+use lq_posed_texts::one_posing;
+use lq_straight_texts::straight_texts_are_safe;
+use lq_text_safe::{checked_texts_are_safe, instances_are_scoped};
+use lq_weaken::some_instances_gather;
+
+/// Two judgements on three texts that are due agree, but for the values in the lines on a point, unless the prover stopped for one of them.
+pub fn one_judgement()
+    ensures { IsOneJudgement }
+{
+    one_posing();
+    sources_have_the_literals();
+    some_instances_gather();
+    failures_differ_in_values();
+}
+
+/// What is accepted is safe by the meaning of the language, where it is straight-line, or plain as soundness asks for it.
+pub fn accepted_are_safe()
+    ensures { AcceptedAreSafe }
+{
+    noted_are_known();
+    instances_are_scoped();
+    checked_texts_are_safe();
+    straight_texts_are_safe();
+}
+
+/// Where all implications are of differences and their constants small, the prover stops on none.
+pub fn small_are_decided()
+    ensures { SmallAreDecided }
+{}
