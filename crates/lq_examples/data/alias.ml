@@ -1,0 +1,4 @@
+let prices = Array.make 3 5
+let copy = Array.make 3 5
+let () = copy.(0) <- 0
+let () = print_int (100 / prices.(0))

@@ -1,0 +1,7 @@
+type door = Shut | Ajar | Locked
+let lock d = match d with Shut -> Locked
+let unlock d = match d with Locked -> Shut
+let push d = match d with Shut -> Ajar
+let pull d = match d with Ajar -> Shut
+let locked = lock (push Shut)
+let ajar = push (unlock locked)

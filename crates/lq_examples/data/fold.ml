@@ -1,0 +1,7 @@
+let rec fold f acc xs =
+  match xs with
+  | [] -> acc
+  | x :: r -> fold f (f acc x) r
+let larger a b = if a < b then b else a
+let best = fold larger 0 [3; 9; 4]
+let () = assert (0 <= best)
