@@ -1,6 +1,10 @@
 -- Lemmas.
 mod Agreement
+mod Answering
+mod Posed
 mod Safe
 mod Selections
+mod Taken
 mod Texts
+mod Totals
 mod Verdicts

@@ -2,6 +2,7 @@
 use Rattle.std.proofs.Common.{ℕ, List, [], Ok, map, sym, subst}
 use Rattle.lq_annotated.specs.Whole as annotated
 use Rattle.lq_bound_texts.specs.Stages.{Bytes}
+use Rattle.lq_covariant.specs.Covariant.{NamedProgramsAreCovariant}
 use Rattle.lq_inhabits.specs.Datatypes.{AreCovariant}
 use Rattle.lq_inhabits.specs.Truth.{Objects}
 use Rattle.lq_notes.specs.Noted.{annotation_of, NotedAreKnown}
@@ -29,13 +30,14 @@ use Rattle.lq_weakening.specs.declared.error.SolveError.TheVariants.{At}
 use Rattle.lq_judge.specs.Agreeing.{IsOfProver}
 use Rattle.lq_judge.specs.Judgement.{IsAccepted, instances_of}
 use Rattle.lq_judge.specs.Safety.{IsNotedOf, IsSafeIfPlain, IsSafeIfStraight, SmallAreDecided}
-use Rattle.lq_judge.proofs.Texts.{of_text}
+use Rattle.lq_judge.proofs.Texts.{named_text, of_text}
 
 pub record Laws : Type 1 where
   pub known : NotedAreKnown
   pub scoped : InstancesAreScoped
   pub checked : CheckedTextsAreSafe
   pub straight : StraightTextsAreSafe
+  pub covariant : NamedProgramsAreCovariant
 
 module _ (laws : Laws) (m : Noted) (b : Bytes) (t : Typed) (types : List ℕ) (noted : IsNotedOf m t) (posed : PosesTo b (Ok t)) (is : IsAccepted t types) where
   abbrev assignment : Assignment
@@ -62,23 +64,28 @@ module _ (laws : Laws) (m : Noted) (b : Bytes) (t : Typed) (types : List ℕ) (n
   text_there : IsOfText there
   text_there = subst IsOfText (sym noted.program) (of_text b t posed)
 
+  covariant_there : AreCovariant (signature_in there.datatypes)
+  covariant_there =
+      let named = named_text b t posed in
+      let all = laws.covariant named.names named.items named.none in
+      subst (λ (s : Scoping). AreCovariant (signature_in s.datatypes)) (sym noted.program)
+      (subst (λ ds. AreCovariant (signature_in ds)) (sym named.datatypes) all)
+
   safe_straight : IsSafeIfStraight t
-  safe_straight straight covariant =
+  safe_straight straight =
       subst (λ (s : Scoping). IsSafe s.items) noted.program
       (laws.straight m.program (annotation_of m) t.bound.texts.measures assignment text_there (laws.known m)
-      (subst (λ (s : Scoping). AreStraight s.items) (sym noted.program) straight)
-      (subst (λ (s : Scoping). AreCovariant (signature_in s.datatypes)) (sym noted.program) covariant) solved_there)
+      (subst (λ (s : Scoping). AreStraight s.items) (sym noted.program) straight) covariant_there solved_there)
 
   abbrev PlainBy : Objects → Scoping → Annotation → Type 0
   PlainBy O s n = IsPlainProgram (texts.basis_in s t.bound.texts.measures n) assignment O no_symbols [] (program_of n (texts.normal_in s)).read
 
   safe_plain : IsSafeIfPlain t is.solution
-  safe_plain O lengths covariant plain =
+  safe_plain O lengths plain =
       let plain_there = subst (λ (s : Scoping). PlainBy O s (annotation_of m)) (sym noted.program)
       (subst (λ (n : Annotation). PlainBy O (program_in t) n) (sym noted.annotation) plain) in
       subst (λ (s : Scoping). IsSafe s.items) noted.program
-      (laws.checked m.program (annotation_of m) t.bound.texts.measures assignment O text_there (laws.known m)
-      (subst (λ (s : Scoping). AreCovariant (signature_in s.datatypes)) (sym noted.program) covariant) solved_there lengths plain_there)
+      (laws.checked m.program (annotation_of m) t.bound.texts.measures assignment O text_there (laws.known m) covariant_there solved_there lengths plain_there)
 
   pub safe : IsSafeIfStraight t × IsSafeIfPlain t is.solution
   safe = (safe_straight, safe_plain)

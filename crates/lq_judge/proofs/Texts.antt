@@ -1,9 +1,13 @@
--- What is to be solved is of a text.
-use Rattle.std.proofs.Common.{◌≡◌, Ok, ap, sym, subst, ◌∙◌}
+-- What is to be solved is of a text, with whose names nothing is wrong.
+use Rattle.std.proofs.Common.{◌≡◌, ℕ, List, [], Ok, ap, sym, subst, ◌∙◌}
 use Rattle.lq_bound_texts.specs.Stages.{BindsTo, Bound, Bytes}
+use Rattle.lq_datatypes.specs.Datatypes.{datatypes_in}
 use Rattle.lq_posed_texts.specs.Stages.{PosesTo, Typed, program_in}
 use Rattle.lq_resolved.specs.Resolution.{scoping_of}
+use Rattle.lq_scope.specs.Uses.{of_program}
+use Rattle.lq_scoped.specs.Scoping.{IsScoped, Scoping}
 use Rattle.lq_text_ready.specs.Laws.{IsOfText}
+use Rattle.lq_tree.specs.Items.{ItemTree}
 
 bound_text : (bytes : Bytes) (b : Bound) → BindsTo bytes (Ok b) → IsOfText b.texts.program
 bound_text bytes b is =
@@ -28,3 +32,31 @@ of_text bytes t posed =
     let bound : posed.0.bound ≡ typed.0 = typed.2.0 in
     let there = bound_text bytes typed.0 typed.1 in
     subst (λ (b : Bound). IsOfText b.texts.program) (sym bound ∙ sym (ap (λ x. x.bound) same)) there
+
+pub scoped_text : (bytes : Bytes) (t : Typed) → PosesTo bytes (Ok t) → IsScoped (program_in t)
+scoped_text bytes t posed =
+    let typed = posed.1 in
+    let same : t ≡ posed.0 = posed.2.0 in
+    let bound : posed.0.bound ≡ typed.0 = typed.2.0 in
+    subst (λ (b : Bound). IsScoped b.texts.program) (sym bound ∙ sym (ap (λ x. x.bound) same)) typed.2.1
+
+-- the datatypes are those of items of which nothing is complained
+pub record IsNamed (s : Scoping) : Type 0 where
+  pub names : List (List ℕ)
+  pub items : List ItemTree
+  pub none : of_program names items ≡ []
+  pub datatypes : s.datatypes ≡ datatypes_in items
+
+pub named_text : (bytes : Bytes) (t : Typed) → PosesTo bytes (Ok t) → IsNamed (program_in t)
+named_text bytes t posed =
+    let typed = posed.1 in
+    let same : t ≡ posed.0 = posed.2.0 in
+    let bound : posed.0.bound ≡ typed.0 = typed.2.0 in
+    let resolved = typed.1.2.1 in
+    let there : IsNamed typed.0.texts.program = record {
+      names = typed.0.read.names;
+      items = typed.0.read.items;
+      none = resolved.0;
+      datatypes = ap (λ x. x.program.datatypes) resolved.3;
+    } in
+    subst (λ (b : Bound). IsNamed b.texts.program) (sym bound ∙ sym (ap (λ x. x.bound) same)) there

@@ -2,7 +2,6 @@
 use Rattle.std.specs.Prelude.{◌≡◌, ℕ, List, [], Ok, Some, slice_get}
 use Rattle.lq_annotated.specs.Whole as annotated
 use Rattle.lq_bound_texts.specs.Stages.{Bytes}
-use Rattle.lq_inhabits.specs.Datatypes.{AreCovariant}
 use Rattle.lq_inhabits.specs.Truth.{Objects}
 use Rattle.lq_notes.specs.Noted.{annotation_of}
 use Rattle.lq_notes.specs.declared.noted.Noted.{Noted}
@@ -14,7 +13,6 @@ use Rattle.lq_prove.specs.Stopping.{IsSmallDifference}
 use Rattle.lq_pures.specs.Pures.{KnowsLengths}
 use Rattle.lq_questions.specs.Assigned.{closed_under}
 use Rattle.lq_safe.specs.Programs.{no_symbols}
-use Rattle.lq_scoped.specs.Signature.{signature_in}
 use Rattle.lq_straight_texts.specs.Straight.{AreStraight}
 use Rattle.lq_text_safe.specs.Safety.{IsSafe}
 use Rattle.lq_judge.specs.Agreeing.{IsOfProver}
@@ -22,14 +20,14 @@ use Rattle.lq_judge.specs.Judgement.{IsAccepted, IsUndecided, instances_of}
 
 -- ---- safety: on every input no number of steps meets a fault or gets stuck
 
--- Of a straight-line program, where in its type definitions no parameter stands left of an arrow or under `array`.
+-- Of a straight-line program.
 abbrev pub IsSafeIfStraight : Typed → Type 0
-IsSafeIfStraight t = AreStraight (program_in t).items → AreCovariant (signature_in (program_in t).datatypes) → IsSafe (program_in t).items
+IsSafeIfStraight t = AreStraight (program_in t).items → IsSafe (program_in t).items
 
 -- Of one whose normal form is plain under the instances that are chosen, over objects that know the lengths of arrays.
 abbrev pub IsSafeIfPlain : Typed → Selection → Type 0
 IsSafeIfPlain t c =
-    (O : Objects) → KnowsLengths O → AreCovariant (signature_in (program_in t).datatypes)
+    (O : Objects) → KnowsLengths O
     → IsPlainProgram (basis_in t) (assigned (instances_of t) c) O no_symbols [] (read_in t) → IsSafe (program_in t).items
 
 -- the texts are accepted with these types, and safe so

@@ -2,6 +2,7 @@
 ghost use Rattle.lq_judge.specs.Agreeing.{IsOneJudgement};
 ghost use Rattle.lq_judge.specs.Safety.{AcceptedAreSafe, SmallAreDecided};
 
+use lq_covariant::named_programs_are_covariant;
 use lq_failure::failures_differ_in_values;
 use lq_literals::sources_have_the_literals;
 use lq_notes::noted_are_known;
@@ -28,6 +29,7 @@ pub fn accepted_are_safe()
     instances_are_scoped();
     checked_texts_are_safe();
     straight_texts_are_safe();
+    named_programs_are_covariant();
 }
 
 /// Where all implications are of differences and their constants small, the prover stops on none.

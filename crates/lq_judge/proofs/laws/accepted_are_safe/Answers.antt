@@ -9,4 +9,5 @@ returns c =
       scoped = c.instances_are_scoped.ensures;
       checked = c.checked_texts_are_safe.ensures;
       straight = c.straight_texts_are_safe.ensures;
+      covariant = c.named_programs_are_covariant.ensures;
     }

@@ -1,0 +1,3 @@
+-- Lemmas.
+mod Datatypes
+mod Written

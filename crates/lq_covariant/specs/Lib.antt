@@ -1,0 +1,2 @@
+-- Datatypes of programs with whose names nothing is wrong.
+pub mod Covariant

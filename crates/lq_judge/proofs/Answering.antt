@@ -1,0 +1,32 @@
+-- What is answered, by what is judged of what was posed.
+use Rattle.std.proofs.Common.{inl, inr, ℕ, Ok}
+use Rattle.lq_bound_texts.specs.Stages.{Bytes}
+use Rattle.lq_posed_texts.specs.Stages.{PosesTo, Typed}
+use Rattle.lq_posed_texts.specs.Views.{IsPosedView}
+use Rattle.lq_posed_texts.specs.declared.posing.PosedTexts.{PosedTexts}
+use Rattle.lq_judge.specs.Agreeing.{IsOneJudgement}
+use Rattle.lq_judge.specs.Answers.{IsDecided, IsExact, IsSafe}
+use Rattle.lq_judge.specs.Judgement.{IsJudgement, IsVerdictOn}
+use Rattle.lq_judge.specs.Safety.{AcceptedAreSafe, SmallAreDecided}
+use Rattle.lq_judge.specs.declared.judgement.Judgement.{Judgement}
+use Rattle.lq_judge.specs.declared.judgement.Judgement.TheVariants.{Accepted, Rejected, Undecided}
+
+pub safe_of : AcceptedAreSafe → (m : PosedTexts) (limit : ℕ) (b : Bytes) (t : Typed) (j : Judgement) → PosesTo b (Ok t) → IsPosedView m t
+    → IsVerdictOn limit t j → IsSafe b j
+safe_of law m limit b t (Accepted types) poses view is =
+    let both = law m.texts.noted b t types (record { program = view.program; annotation = view.annotation }) poses is in
+    (t, poses, (is, both.0, both.1))
+safe_of law m limit b t (Rejected failure explained) poses view is = tt
+safe_of law m limit b t (Undecided cause) poses view is = tt
+
+pub decided_of : SmallAreDecided → (limit : ℕ) (b : Bytes) (j : Judgement) → IsJudgement limit b (Ok j) → IsDecided limit b j
+decided_of law limit b (Accepted types) is = tt
+decided_of law limit b (Rejected failure explained) is = tt
+decided_of law limit b (Undecided cause) is = (is.0, is.1, (is.2, law limit is.0 cause is.2))
+
+pub exact_ok : IsOneJudgement → (limit : ℕ) (b : Bytes) (j : Judgement) → IsJudgement limit b (Ok j) → IsExact limit b (Ok j)
+exact_ok law limit b j is due of_due =
+    elim (law limit b (Ok j) due is of_due) [
+      | inl same ↦ inl same
+      | inr stopped ↦ inr (inr stopped)
+    ]
