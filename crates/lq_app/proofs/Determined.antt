@@ -1,246 +1,186 @@
 -- At most one status and one report are due.
-use Rattle.std.proofs.Common.{◌≡◌, ◌⊎◌, ⊎_elim, inl, inr, ℕ, ◌<◌, ◌-◌, ◌^◌, List, [], length, Option, Some, None, Result, Ok, Err, refl, sym, ap, ◌∙◌, subst, arith}
-use Rattle.std.specs.Prelude.{codes}
-use Rattle.lq_io.specs.Folder.{Files}
-use Rattle.lq_app.specs.declared.verdict.Judgement.{Judgement}
-use Rattle.lq_app.specs.declared.verdict.Judgement.TheVariants as judgement
-use Rattle.lq_app.specs.declared.verdict.Refusal.{Refusal}
-use Rattle.lq_app.specs.declared.verdict.Refusal.TheVariants as refusal
+use Rattle.std.proofs.Common.{◌≡◌, ◌⊎◌, inl, inr, ℕ, List, ◌++◌, Option, Some, None, Result, Ok, Err, refl, sym, ap, ◌∙◌, subst, append_assoc}
+use Rattle.lq_bound_texts.specs.Stages.{Bytes}
+use Rattle.lq_command.specs.Command.{Request, command_of, judge, sample}
+use Rattle.lq_command.specs.declared.command.Mode.{Mode}
+use Rattle.lq_command.specs.declared.command.Mode.TheVariants.{Check, Types, Explain}
+use Rattle.lq_failure.specs.PointLines.{point_lines}
+use Rattle.lq_inputs.specs.Once.{FaultsAreOne, IsFaultOrHanded, HandedAreOne}
+use Rattle.lq_inputs.specs.Visits.{Visit}
+use Rattle.lq_judge.specs.Agreeing.{Agree, DifferAlike, IsOneJudgement, IsStopped}
+use Rattle.lq_judge.specs.Counting.{HasCounts}
+use Rattle.lq_judge.specs.declared.counting.Counts.{Counts}
+use Rattle.lq_judge.specs.declared.judgement.Judgement.{Judgement}
+use Rattle.lq_judge.specs.declared.judgement.Judgement.TheVariants as judgement
+use Rattle.lq_judge.specs.declared.judgement.Refusal.{Refusal}
+use Rattle.lq_judge.specs.declared.judgement.Refusal.TheVariants as refusal
+use Rattle.lq_posed_texts.specs.Stages.{PosesTo, Typed}
+use Rattle.lq_report.specs.Stages.{HasOneAnswer}
+use Rattle.lq_sample.specs.Sample.{counts_text}
+use Rattle.lq_app.specs.Asked.{AreTexts, WasFileFault, limit_of, wanted}
+use Rattle.lq_app.specs.Once.{IsKnown, SameReport, StopsHere, IsDetermined}
+use Rattle.lq_app.specs.Report.{AreCounts, IsDueFor, IsPrinted, IsVerdict, rejected_text, status_of}
 use Rattle.lq_app.specs.declared.status.Status.{Status}
-use Rattle.lq_app.specs.declared.status.Status.TheVariants.{Good, Rejected, Undecided, Refused, Usage, File, SinkFault, Memory}
-use Rattle.lq_app.specs.Ends.{Ends, WritesAll}
-use Rattle.lq_app.specs.Command.{file_named, usage_line}
-use Rattle.lq_sound.specs.Safety.{ValidIsSafe}
-use Rattle.lq_app.specs.Judgement.{IsAccepted, IsSafeText, IsUngathered, IsPastNumber, IsJudgement, IsByNumber, Agree, IsOneJudgement, HasSmallDemands}
-use Rattle.lq_app.proofs.Judged.{decided_is, safe_text}
-use Rattle.lq_app.specs.Report.{Visit, IsHanded, IsFileFault, IsVerdict, IsDue, WasHanded, IsByNumberHere, SameReport, IsDetermined, IsOrFault, MayStop, IsExact}
+use Rattle.lq_app.specs.declared.status.Status.TheVariants.{File, Usage}
 
--- what is held under the name that was named
-same_name : (words : List (List ℕ)) (name other : List ℕ) → file_named words ≡ Some name → file_named words ≡ Some other → name ≡ other
-same_name words name other e f = cc
+-- the laws of the crates below
+pub record Laws : Type 0 where
+  pub judgements : IsOneJudgement
+  pub posed : HasOneAnswer PosesTo
+  pub faults : FaultsAreOne
+  pub either : IsFaultOrHanded
+  pub handed : HandedAreOne
 
-same_text : (v : Visit) (held : Files) (name text other : List ℕ) → v.files ≡ Some held → IsHanded v name text → IsHanded v name other → text ≡ other
-same_text v held name text other told is also = let a = is.holds held told in let b = also.holds held told in cc
+-- ---- reports that tell alike
 
--- the judgement of a verdict
-abbrev judgement_of : Status → List ℕ → List ℕ → ℕ → Result Judgement Refusal
-judgement_of Good r explained code = Ok (judgement.Accepted [])
-judgement_of Rejected r explained code = Ok (judgement.Rejected r explained)
-judgement_of Undecided r explained code = Ok (judgement.Undecided r)
-judgement_of Refused r explained code = Err (refusal.Code code r)
-judgement_of Usage r explained code = Err refusal.Memory
-judgement_of File r explained code = Err refusal.Memory
-judgement_of SinkFault r explained code = Err refusal.Memory
-judgement_of Memory r explained code = Err refusal.Memory
+behind : (lines front middle back : List ℕ) → lines ++ (front ++ middle ++ back) ≡ lines ++ front ++ middle ++ back
+behind lines front middle back = sym (append_assoc lines (front ++ middle) back) ∙ ap (λ (l : List ℕ). l ++ back) (sym (append_assoc lines front middle))
 
--- the text may be undecided by a number, and this is so
-abbrev ByNumber : List ℕ → Status → List ℕ → Type 0
-ByNumber text s r = (s ≡ Undecided) × IsPastNumber text r
+-- with the same lines in front they differ as they do without
+differ_behind : (lines text other : List ℕ) → DifferAlike text other → DifferAlike (lines ++ text) (lines ++ other)
+differ_behind lines text other d = (
+  lines ++ d.0,
+  d.1,
+  record {
+    lines = d.2.lines;
+    other_lines = d.2.other_lines;
+    same = d.2.same;
+    written = ap (λ (l : List ℕ). lines ++ l) d.2.written ∙ behind lines d.0 (point_lines d.2.lines) d.1;
+    other_written = ap (λ (l : List ℕ). lines ++ l) d.2.other_written ∙ behind lines d.0 (point_lines d.2.other_lines) d.1;
+  },
+)
 
-by_number : (text : List ℕ) (s : Status) (r explained : List ℕ) (code : ℕ) → IsByNumber text (judgement_of s r explained code) → ByNumber text s r
-by_number text Undecided r e c is = (refl, is)
-by_number text Good r e c is = absurd is
-by_number text Rejected r e c is = absurd is
-by_number text Refused r e c is = absurd is
-by_number text Usage r e c is = absurd is
-by_number text File r e c is = absurd is
-by_number text SinkFault r e c is = absurd is
-by_number text Memory r e c is = absurd is
+same_differ : (r q text other : List ℕ) → r ≡ text → q ≡ other → DifferAlike text other → DifferAlike r q
+same_differ r q text other e f d = subst (λ (l : List ℕ). DifferAlike l q) (sym e) (subst (λ (l : List ℕ). DifferAlike text l) (sym f) d)
 
--- what a verdict tells besides its report
-record Told (text : List ℕ) (s : Status) (r : List ℕ) : Type 0 where
-  explained : List ℕ
-  code : ℕ
-  due : IsJudgement text (judgement_of s r explained code)
-  accepted : s ≡ Good → r ≡ codes "accepted\n"
+by_mode : (mode : Mode) (failure explained other also : List ℕ) → DifferAlike failure other → DifferAlike explained also
+    → DifferAlike (rejected_text mode failure explained) (rejected_text mode other also)
+by_mode Check f e g h fs es = fs
+by_mode Types f e g h fs es = fs
+by_mode Explain f e g h fs es = es
 
-told_of : (text : List ℕ) (s : Status) (r : List ℕ) → IsVerdict text s r → Told text s r
-told_of text Good r a = record { explained = []; code = 0; due = a.0; accepted = λ e. a.1 }
-told_of text Rejected r a = record { explained = a.0; code = 0; due = a.1; accepted = λ e. absurd cc }
-told_of text Undecided r a = record { explained = []; code = 0; due = a; accepted = λ e. absurd cc }
-told_of text Refused r a = record { explained = []; code = a.0; due = a.1; accepted = λ e. absurd cc }
-told_of text Usage r a = absurd a
-told_of text File r a = absurd a
-told_of text SinkFault r a = absurd a
-told_of text Memory r a = absurd a
+-- by parts
+counts_of : (count : ℕ) (t : Typed) (c d : Counts) → HasCounts t c → HasCounts t d
+    → counts_text count c.unknowns c.instances c.implications ≡ counts_text count d.unknowns d.instances d.implications
+counts_of count t c d h k =
+    let u : c.unknowns ≡ d.unknowns = h.unknowns ∙ sym k.unknowns in
+    let i : c.instances ≡ d.instances = h.instances ∙ sym k.instances in
+    let p : c.implications ≡ d.implications = h.implications ∙ sym k.implications in
+    ap (λ (n : ℕ). counts_text count n c.instances c.implications) u
+    ∙ (ap (λ (n : ℕ). counts_text count d.unknowns n c.implications) i ∙ ap (λ (n : ℕ). counts_text count d.unknowns d.instances n) p)
 
--- judgements that agree are told alike
-told_alike : (text : List ℕ) (s t : Status) (r q : List ℕ) (a : Told text s r) (b : Told text t q) → Agree (judgement_of s r a.explained a.code) (judgement_of t q b.explained b.code) → (s ≡ t) × SameReport s r q
-told_alike text Good Good r q a b agree = (refl, a.accepted refl ∙ sym (b.accepted refl))
-told_alike text Good Rejected r q a b agree = absurd cc
-told_alike text Good Undecided r q a b agree = absurd cc
-told_alike text Good Refused r q a b agree = absurd cc
-told_alike text Rejected Good r q a b agree = absurd cc
-told_alike text Rejected Rejected r q a b agree = (refl, agree.0)
-told_alike text Rejected Undecided r q a b agree = absurd cc
-told_alike text Rejected Refused r q a b agree = absurd cc
-told_alike text Undecided Good r q a b agree = absurd cc
-told_alike text Undecided Rejected r q a b agree = absurd cc
-told_alike text Undecided Undecided r q a b agree = (refl, cc)
-told_alike text Undecided Refused r q a b agree = absurd cc
-told_alike text Refused Good r q a b agree = absurd cc
-told_alike text Refused Rejected r q a b agree = absurd cc
-told_alike text Refused Undecided r q a b agree = absurd cc
-told_alike text Refused Refused r q a b agree = (refl, cc)
-told_alike text Usage t r q a b agree = absurd a.due
-told_alike text File t r q a b agree = absurd a.due
-told_alike text SinkFault t r q a b agree = absurd a.due
-told_alike text Memory t r q a b agree = absurd a.due
-told_alike text s t r q a b agree = absurd b.due
+bytes_same : (b d : Bytes) → b.program ≡ d.program → b.measures ≡ d.measures → b.qualifiers ≡ d.qualifiers → b ≡ d
+bytes_same b d p m q =
+    ap (λ (l : List ℕ). record { program = l; measures = b.measures; qualifiers = b.qualifiers }) p
+    ∙ (ap (λ (l : List ℕ). record { program = d.program; measures = l; qualifiers = b.qualifiers }) m
+    ∙ ap (λ (l : List ℕ). record { program = d.program; measures = d.measures; qualifiers = l }) q)
 
--- two verdicts on one text agree, or one is by a number
-verdicts : IsOneJudgement → (text : List ℕ) (s t : Status) (r q : List ℕ) → IsVerdict text s r → IsVerdict text t q → ((s ≡ t) × SameReport s r q) ⊎ (ByNumber text s r ⊎ ByNumber text t q)
-verdicts law text s t r q is also =
-    let a = told_of text s r is in
-    let b = told_of text t q also in
-    ⊎_elim (λ agree. inl (told_alike text s t r q a b agree))
-    (λ number. inr (⊎_elim (λ n. inl (by_number text s r a.explained a.code n)) (λ n. inr (by_number text t q b.explained b.code n)) number))
-    (law text (judgement_of s r a.explained a.code) (judgement_of t q b.explained b.code) a.due b.due)
+module _ (laws : Laws) where
+  counts_once : (count : ℕ) (b : Bytes) (lines other : List ℕ) → AreCounts count b lines → AreCounts count b other → lines ≡ other
+  counts_once count b lines other x y =
+      let same : x.0 ≡ y.0 = (let e = laws.posed b (Ok x.0) (Ok y.0) x.1 y.1 in cc) in
+      let has : HasCounts y.0 x.2.0 = subst (λ (t : Typed). HasCounts t x.2.0) same x.2.1 in
+      x.2.2 ∙ (counts_of count y.0 x.2.0 y.2.0 has y.2.1 ∙ sym y.2.2)
 
--- two faults of one file are one
-faults : (v : Visit) (held : Files) (name r q : List ℕ) → v.files ≡ Some held → v.failures_now < 2 ^ 64 - 1 → IsFileFault v name r → IsFileFault v name q → r ≡ q
-faults v held name r q told low (inl a) (inl b) = a.1 ∙ sym b.1
-faults v held name r q told low (inl a) (inr (inl b)) = absurd (omega (arith, a.0.calm, b.0))
-faults v held name r q told low (inl a) (inr (inr b)) = absurd (let none = a.0.lacks held told in let some = (b.0.longer held told).1 in cc)
-faults v held name r q told low (inr (inl a)) (inl b) = absurd (omega (arith, b.0.calm, a.0))
-faults v held name r q told low (inr (inl a)) (inr (inl b)) = a.1 ∙ sym b.1
-faults v held name r q told low (inr (inl a)) (inr (inr b)) = absurd (omega (arith, b.0.calm, a.0))
-faults v held name r q told low (inr (inr a)) (inl b) = absurd (let none = b.0.lacks held told in let some = (a.0.longer held told).1 in cc)
-faults v held name r q told low (inr (inr a)) (inr (inl b)) = absurd (omega (arith, a.0.calm, b.0))
-faults v held name r q told low (inr (inr a)) (inr (inr b)) = a.1 ∙ sym b.1
+  line_once : (e : Refusal) (r q : List ℕ) (b : Bytes) (request : Request) → IsPrinted request b (Err e) r → IsPrinted request b (Err e) q → r ≡ q
+  line_once (refusal.Code code line) r q b (judge mode p m n k) x y = x ∙ sym y
+  line_once (refusal.Code code line) r q b (sample count k) x y = x ∙ sym y
+  line_once refusal.Memory r q b (judge mode p m n k) x y = absurd x
+  line_once refusal.Memory r q b (sample count k) x y = absurd x
 
-fault_or_handed : (v : Visit) (held : Files) (name text r : List ℕ) → v.files ≡ Some held → v.failures_now < 2 ^ 64 - 1 → IsFileFault v name r → IsHanded v name text → ⊥
-fault_or_handed v held name text r told low (inl a) h = let none = a.0.lacks held told in let some = h.holds held told in cc
-fault_or_handed v held name text r told low (inr (inl a)) h = omega (arith, h.calm, a.0)
-fault_or_handed v held name text r told low (inr (inr a)) h =
-    let long = a.0.longer held told in
-    let some = h.holds held told in
-    let same : long.0 ≡ text = cc in
-    omega (arith, ap length same, long.2, h.bound)
+  -- one judgement is told by one report
+  told_once : (request : Request) (b : Bytes) (j : Result Judgement Refusal) (r q : List ℕ) → IsPrinted request b j r → IsPrinted request b j q → r ≡ q
+  told_once (judge mode p m n k) b (Ok j) r q x y = x ∙ sym y
+  told_once (sample count k) b (Ok j) r q x y = x.2 ∙ (ap (λ (l : List ℕ). l ++ _) (counts_once count b x.0 y.0 x.1 y.1) ∙ sym y.2)
+  told_once (judge mode p m n k) b (Err e) r q x y = line_once e r q b (judge mode p m n k) x y
+  told_once (sample count k) b (Err e) r q x y = line_once e r q b (sample count k) x y
 
--- the same status, and the same report but for the point that is shown
-abbrev SameDue : Status → Status → List ℕ → List ℕ → Type 0
-SameDue s t r q = (s ≡ t) × SameReport s r q
+  -- rejections that agree are told alike
+  rejections : (request : Request) (b : Bytes) (f e g h : List ℕ) (r q : List ℕ) → DifferAlike f g → DifferAlike e h
+      → IsPrinted request b (Ok (judgement.Rejected f e)) r → IsPrinted request b (Ok (judgement.Rejected g h)) q → DifferAlike r q
+  rejections (judge mode p m n k) b f e g h r q fs es x y =
+      same_differ r q (rejected_text mode f e) (rejected_text mode g h) x y (by_mode mode f e g h fs es)
+  rejections (sample count k) b f e g h r q fs es x y =
+      same_differ r q (y.0 ++ f) (y.0 ++ g) (x.2 ∙ ap (λ (l : List ℕ). l ++ f) (counts_once count b x.0 y.0 x.1 y.1)) y.2 (differ_behind y.0 f g fs)
 
-abbrev Either : List (List ℕ) → Visit → Status → Status → List ℕ → List ℕ → Type 0
-Either words v s t r q = SameDue s t r q ⊎ (IsByNumberHere words v s r ⊎ IsByNumberHere words v t q)
+  module _ (request : Request) (b : Bytes) (r q : List ℕ) where
+    same_judgement : (j k : Result Judgement Refusal) → j ≡ k → IsPrinted request b j r → IsPrinted request b k q → (status_of j ≡ status_of k) × (r ≡ q)
+    same_judgement j k e x y = (ap status_of e, told_once request b j r q x (subst (λ (l : Result Judgement Refusal). IsPrinted request b l q) (sym e) y))
 
--- a run with no command, with a file that doesn't come, and with a text
-usage_with : (words : List (List ℕ)) (v : Visit) (t : Status) (r q : List ℕ) → file_named words ≡ None → r ≡ usage_line → IsDue words v t q → SameDue Usage t r q
-usage_with words v Usage r q none is b = (refl, is ∙ sym b.2)
-usage_with words v File r q none is b = absurd (let some = b.1 in cc)
-usage_with words v Good r q none is b = absurd (let some = b.1.1 in cc)
-usage_with words v Refused r q none is b = absurd (let some = b.1.1 in cc)
-usage_with words v Rejected r q none is b = absurd (let some = b.1.1 in cc)
-usage_with words v Undecided r q none is b = absurd (let some = b.1.1 in cc)
-usage_with words v SinkFault r q none is b = absurd b
-usage_with words v Memory r q none is b = absurd b
+    -- judgements that agree have one status, and reports that are one but for the values at a point
+    agreeing : (j k : Result Judgement Refusal) → Agree j k → IsPrinted request b j r → IsPrinted request b k q → (status_of j ≡ status_of k) × SameReport (status_of j) r q
+    agreeing (Ok (judgement.Accepted a)) k e x y = same_judgement (Ok (judgement.Accepted a)) k e x y
+    agreeing (Ok (judgement.Undecided a)) k e x y = same_judgement (Ok (judgement.Undecided a)) k e x y
+    agreeing (Err (refusal.Code code line)) k e x y = same_judgement (Err (refusal.Code code line)) k e x y
+    agreeing (Err refusal.Memory) k e x y = same_judgement (Err refusal.Memory) k e x y
+    agreeing (Ok (judgement.Rejected f d)) (Ok (judgement.Rejected g h)) e x y = (refl, rejections request b f d g h r q e.0 e.1 x y)
+    agreeing (Ok (judgement.Rejected f d)) (Ok (judgement.Accepted a)) e x y = absurd cc
+    agreeing (Ok (judgement.Rejected f d)) (Ok (judgement.Undecided a)) e x y = absurd cc
+    agreeing (Ok (judgement.Rejected f d)) (Err a) e x y = absurd cc
 
--- a verdict on a text that was handed over
-judged_with : IsOneJudgement → (words : List (List ℕ)) (v : Visit) (held : Files) (s : Status) (text : List ℕ) (t : Status) (r q : List ℕ) → v.files ≡ Some held → v.failures_now < 2 ^ 64 - 1
-    → WasHanded words v text → IsVerdict text s r → IsDue words v t q → Either words v s t r q
-judged_with law words v held s text t r q told low handed verdict due = by_status t due
-  where
-    text_is : (there : List ℕ) → WasHanded words v there → there ≡ text
-    text_is there h = same_text v held handed.0 there text told (subst (λ (n : List ℕ). IsHanded v n there) (same_name words h.0 handed.0 h.1 handed.1) h.2) handed.2
+  -- ---- texts
 
-    here : (u : Status) (w : List ℕ) → ByNumber text u w → IsByNumberHere words v u w
-    here u w n = (n.0, (text, handed, n.1))
+  same_texts : (request : Request) (v : Visit) (b d : Bytes) → IsKnown (Some request) v → AreTexts request v b → AreTexts request v d → b ≡ d
+  same_texts (judge mode p m q k) v b d known x y =
+      let same = laws.handed v (wanted p m q) b.program b.measures b.qualifiers d.program d.measures d.qualifiers known x y in
+      bytes_same b d same.0 same.1 same.2
+  same_texts (sample count k) v b d known x y = x.1 ∙ sym y.1
 
-    with_verdict : (u : Status) → IsVerdict text u q → Either words v s u r q
-    with_verdict u also =
-        ⊎_elim (λ same. inl same) (λ number. inr (⊎_elim (λ n. inl (here s r n)) (λ n. inr (here u q n)) number)) (verdicts law text s u r q verdict also)
+  fault_once : (request : Request) (v : Visit) (r q : List ℕ) → IsKnown (Some request) v → WasFileFault request v r → WasFileFault request v q → r ≡ q
+  fault_once (judge mode p m q k) v line other known x y = laws.faults v _ line other known x y
+  fault_once (sample count k) v line other known x y = absurd x
 
-    by_status : (u : Status) → IsDue words v u q → Either words v s u r q
-    by_status Usage b = absurd (let none = b.0 in cc)
-    by_status File b = absurd (fault_or_handed v held handed.0 text q told low (subst (λ (n : List ℕ). IsFileFault v n q) (same_name words b.0 handed.0 b.1 handed.1) b.2) handed.2)
-    by_status Good b = with_verdict Good (subst (λ (l : List ℕ). IsVerdict l Good q) (text_is b.0 b.1) b.2)
-    by_status Refused b = with_verdict Refused (subst (λ (l : List ℕ). IsVerdict l Refused q) (text_is b.0 b.1) b.2)
-    by_status Rejected b = with_verdict Rejected (subst (λ (l : List ℕ). IsVerdict l Rejected q) (text_is b.0 b.1) b.2)
-    by_status Undecided b = with_verdict Undecided (subst (λ (l : List ℕ). IsVerdict l Undecided q) (text_is b.0 b.1) b.2)
-    by_status SinkFault b = absurd b
-    by_status Memory b = absurd b
+  fault_or_judged : (request : Request) (v : Visit) (r : List ℕ) (b : Bytes) → IsKnown (Some request) v → WasFileFault request v r → AreTexts request v b → ⊥
+  fault_or_judged (judge mode p m q k) v line b known x y = laws.either v (wanted p m q) line b.program b.measures b.qualifiers known x y
+  fault_or_judged (sample count k) v line b known x y = x
 
-fault_with : (words : List (List ℕ)) (v : Visit) (held : Files) (name : List ℕ) (t : Status) (r q : List ℕ) → v.files ≡ Some held → v.failures_now < 2 ^ 64 - 1
-    → file_named words ≡ Some name → IsFileFault v name r → IsDue words v t q → SameDue File t r q
-fault_with words v held name t r q told low named fault due = by_status t due
-  where
-    handed_is : (text : List ℕ) → WasHanded words v text → ⊥
-    handed_is text h = fault_or_handed v held name text r told low fault (subst (λ (n : List ℕ). IsHanded v n text) (same_name words h.0 name h.1 named) h.2)
+  -- ---- what is due
 
-    by_status : (u : Status) → IsDue words v u q → SameDue File u r q
-    by_status Usage b = absurd (let none = b.0 in cc)
-    by_status File b = (refl, faults v held name r q told low fault (subst (λ (n : List ℕ). IsFileFault v n q) (same_name words b.0 name b.1 named) b.2))
-    by_status Good b = absurd (handed_is b.0 b.1)
-    by_status Refused b = absurd (handed_is b.0 b.1)
-    by_status Rejected b = absurd (handed_is b.0 b.1)
-    by_status Undecided b = absurd (handed_is b.0 b.1)
-    by_status SinkFault b = absurd b
-    by_status Memory b = absurd b
+  module _ (words : List (List ℕ)) (v : Visit) where
+    abbrev SameDue : Status → Status → List ℕ → List ℕ → Type 0
+    SameDue s t r q = (s ≡ t) × SameReport s r q
 
-pub determined : IsOneJudgement → IsDetermined
-determined law words v held Usage t r q told low a b = inl (usage_with words v t r q a.0 a.2 b)
-determined law words v held File t r q told low a b = inl (fault_with words v held a.0 t r q told low a.1 a.2 b)
-determined law words v held Good t r q told low a b = judged_with law words v held Good a.0 t r q told low a.1 a.2 b
-determined law words v held Refused t r q told low a b = judged_with law words v held Refused a.0 t r q told low a.1 a.2 b
-determined law words v held Rejected t r q told low a b = judged_with law words v held Rejected a.0 t r q told low a.1 a.2 b
-determined law words v held Undecided t r q told low a b = judged_with law words v held Undecided a.0 t r q told low a.1 a.2 b
-determined law words v held SinkFault t r q told low a b = absurd a
-determined law words v held Memory t r q told low a b = absurd a
+    abbrev Either : Status → Status → List ℕ → List ℕ → Type 0
+    Either s t r q = SameDue s t r q ⊎ (StopsHere words v s r ⊎ StopsHere words v t q)
 
-may_stop : (words : List (List ℕ)) (v : Visit) (s : Status) (r : List ℕ) → IsByNumberHere words v s r → MayStop words v
-may_stop words v s r is = (r, (refl, is.1))
+    stops : (request : Request) → command_of words ≡ Some request → (b : Bytes) → AreTexts request v b → (s : Status) (r : List ℕ) (j : Result Judgement Refusal)
+        → IsStopped (limit_of request) b j → s ≡ status_of j → IsPrinted request b j r → StopsHere words v s r
+    stops request is b are s r (Ok (judgement.Undecided cause)) stopped at told = record {
+      asked = record { request = request; is = is; texts = b; are = are };
+      cause = cause;
+      stopped = stopped;
+      status_is = at;
+      tells = told;
+    }
+    stops request is b are s r (Ok (judgement.Accepted a)) stopped at told = absurd stopped
+    stops request is b are s r (Ok (judgement.Rejected f e)) stopped at told = absurd stopped
+    stops request is b are s r (Err e) stopped at told = absurd stopped
 
-due_or_number : (words : List (List ℕ)) (v : Visit) (s t : Status) (r q : List ℕ) → Either words v s t r q → (s ≡ t) ⊎ MayStop words v
-due_or_number words v s t r q either =
-    ⊎_elim (λ same. inl same.0) (λ number. inr (⊎_elim (λ n. may_stop words v s r n) (λ n. may_stop words v t q n) number)) either
+    verdicts : (request : Request) → command_of words ≡ Some request → (b : Bytes) → AreTexts request v b → (s t : Status) (r q : List ℕ)
+        → IsVerdict request b s r → IsVerdict request b t q → Either s t r q
+    verdicts request is b are s t r q x y = elim (laws.judgements (limit_of request) b x.judgement y.judgement x.due y.due) [
+      | inl agree ↦
+          let same = agreeing request b r q x.judgement y.judgement agree x.tells y.tells in
+          inl (x.status_is ∙ (same.0 ∙ sym y.status_is), subst (λ (u : Status). SameReport u r q) (sym x.status_is) same.1)
+      | inr (inl left) ↦ inr (inl (stops request is b are s r x.judgement left x.status_is x.tells))
+      | inr (inr right) ↦ inr (inr (stops request is b are t q y.judgement right y.status_is y.tells))
+    ]
 
-written : IsOneJudgement → (words : List (List ℕ)) (v : Visit) (held : Files) (status due : Status) (report : List ℕ) (old new : Option (List ℕ)) → WritesAll (IsDue words v) old new status → v.files ≡ Some held → v.failures_now < 2 ^ 64 - 1 → IsDue words v due report
-    → (status ≡ due) ⊎ ((status ≡ SinkFault) ⊎ ((status ≡ Memory) ⊎ MayStop words v))
-written law words v held status due report old new all told low is =
-    ⊎_elim (λ same. inl same) (λ stop. inr (inr (inr stop))) (due_or_number words v status due all.0 report (determined law words v held status due all.0 report told low all.1 is))
+    usage_once : (s t : Status) (r q : List ℕ) → s ≡ Usage → t ≡ Usage → r ≡ q → SameDue s t r q
+    usage_once s t r q e f same = (e ∙ sym f, subst (λ (u : Status). SameReport u r q) (sym e) same)
 
--- At most a fault of the sink, want of memory or a number in solving comes in place of what is due.
-pub exact : IsOneJudgement → (words : List (List ℕ)) (v : Visit) (old new : Option (List ℕ)) (status : Status) → Ends (IsDue words v) old new status → IsExact words v status
-exact law words v old new Memory ends held due report told low is = inr (inr (inl refl))
-exact law words v old new SinkFault ends held due report told low is = inr (inl refl)
-exact law words v old new Good ends held due report told low is = written law words v held Good due report old new ends told low is
-exact law words v old new Rejected ends held due report told low is = written law words v held Rejected due report old new ends told low is
-exact law words v old new Undecided ends held due report told low is = written law words v held Undecided due report old new ends told low is
-exact law words v old new Refused ends held due report told low is = written law words v held Refused due report old new ends told low is
-exact law words v old new Usage ends held due report told low is = written law words v held Usage due report old new ends told low is
-exact law words v old new File ends held due report told low is = written law words v held File due report old new ends told low is
+    file_once : (s t : Status) (r q : List ℕ) → s ≡ File → t ≡ File → r ≡ q → SameDue s t r q
+    file_once s t r q e f same = (e ∙ sym f, subst (λ (u : Status). SameReport u r q) (sym e) same)
 
--- Other words than a command are answered by the usage line.
-pub usage_due : (words : List (List ℕ)) (v : Visit) (old new : Option (List ℕ)) (status : Status) → Ends (IsDue words v) old new status → file_named words ≡ None → IsOrFault Usage status
-usage_due words v old new Usage ends none = inl refl
-usage_due words v old new Memory ends none = inr (inr refl)
-usage_due words v old new SinkFault ends none = inr (inl refl)
-usage_due words v old new File ends none = absurd (let some = ends.1.1 in cc)
-usage_due words v old new Good ends none = absurd (let some = ends.1.1.1 in cc)
-usage_due words v old new Refused ends none = absurd (let some = ends.1.1.1 in cc)
-usage_due words v old new Rejected ends none = absurd (let some = ends.1.1.1 in cc)
-usage_due words v old new Undecided ends none = absurd (let some = ends.1.1.1 in cc)
+    by_request : (request : Option Request) → command_of words ≡ request → (s t : Status) (r q : List ℕ) → IsKnown request v → IsDueFor request v s r
+        → IsDueFor request v t q → Either s t r q
+    by_request None is s t r q known x y = inl (usage_once s t r q x.0 y.0 (x.2 ∙ sym y.2))
+    by_request (Some request) is s t r q known (inl x) (inl y) = inl (file_once s t r q x.0 y.0 (fault_once request v r q known x.1 y.1))
+    by_request (Some request) is s t r q known (inl x) (inr y) = absurd (fault_or_judged request v r y.texts known x.1 y.are)
+    by_request (Some request) is s t r q known (inr x) (inl y) = absurd (fault_or_judged request v q x.texts known y.1 x.are)
+    by_request (Some request) is s t r q known (inr x) (inr y) =
+        let same : y.texts ≡ x.texts = same_texts request v y.texts x.texts known y.are x.are in
+        verdicts request is x.texts x.are s t r q x.verdict (subst (λ (b : Bytes). IsVerdict request b t q) same y.verdict)
 
--- A failure of the folder is answered as a fault of the file.
-pub failure_due : (words : List (List ℕ)) (v : Visit) (old new : Option (List ℕ)) (status : Status) → Ends (IsDue words v) old new status → v.failures < v.failures_now → IsOrFault File status
-failure_due words v old new File ends rose = inl refl
-failure_due words v old new Memory ends rose = inr (inr refl)
-failure_due words v old new SinkFault ends rose = inr (inl refl)
-failure_due words v old new Usage ends rose = absurd (omega (arith, ends.1.1.failures))
-failure_due words v old new Good ends rose = absurd (omega (arith, ends.1.1.2.calm))
-failure_due words v old new Refused ends rose = absurd (omega (arith, ends.1.1.2.calm))
-failure_due words v old new Rejected ends rose = absurd (omega (arith, ends.1.1.2.calm))
-failure_due words v old new Undecided ends rose = absurd (omega (arith, ends.1.1.2.calm))
-
--- what was written at a status is due at it
-pub due_at : (words : List (List ℕ)) (v : Visit) (old new : Option (List ℕ)) (status other : Status) → Ends (IsDue words v) old new status → status ≡ other → Ends (IsDue words v) old new other
-due_at words v old new status other ends is = subst (Ends (IsDue words v) old new) is ends
-
--- A text whose constants are small is undecided only by a comparison that can't be gathered.
-pub decided_here : (words : List (List ℕ)) (v : Visit) (old new : Option (List ℕ)) → Ends (IsDue words v) old new Undecided → (text report : List ℕ) × WasHanded words v text × (HasSmallDemands text → IsUngathered text report)
-decided_here words v old new ends = (ends.1.0, ends.0, ends.1.1, λ small. decided_is ends.1.0 ends.0 small ends.1.2)
-
--- What is accepted is safe.
-pub safe_here : ValidIsSafe → (words : List (List ℕ)) (v : Visit) (old new : Option (List ℕ)) → Ends (IsDue words v) old new Good → (text : List ℕ) × WasHanded words v text × ((is : IsAccepted text) × IsSafeText is.of)
-safe_here safe words v old new ends = (ends.1.0, ends.1.1, (ends.1.2.0.0, safe_text safe ends.1.0 ends.1.2.0.0))
+  pub determined : IsDetermined
+  determined words v s t r q known x y = by_request words v (command_of words) refl s t r q known x y

@@ -1,10 +1,6 @@
-pub mod Plain
-pub mod Asserted
-pub mod Counting
-pub mod BinderNames
-pub mod Points
-pub mod Staged
-pub mod Judged
-pub mod Determined
+-- Lemmas of this crate.
+pub mod Statuses
 pub mod Sending
-pub mod Refusing
+pub mod Determined
+pub mod Caused
+pub mod Verdicts

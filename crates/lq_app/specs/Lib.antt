@@ -1,10 +1,7 @@
-pub mod Texts
-pub mod Counts
-pub mod Steps
-pub mod Stages
-pub mod NotJudged
-pub mod Judgement
-pub mod Command
+-- What the clauses of this crate cite.
+pub mod Asked
 pub mod Report
 pub mod Ends
+pub mod Once
+pub mod Causes
 pub mod Numbers

@@ -1,122 +1,82 @@
--- Which status and which report are due for these words and what the folder handed over.
-use Rattle.std.specs.Prelude.{◌≡◌, ◌⊎◌, ◌<◌, ◌≤◌, ◌-◌, ◌^◌, ℕ, List, [], ◌++◌, length, Option, Some, None, Ok, Err, codes}
-use Rattle.lq_io.specs.Causes.{Rose}
-use Rattle.lq_io.specs.Folder.{Files}
-use Rattle.lq_app.specs.declared.answer.TheConstants.{FILE_LIMIT}
-use Rattle.lq_app.specs.declared.verdict.Judgement.TheVariants as judgement
-use Rattle.lq_app.specs.declared.verdict.Refusal.TheVariants.{Code}
-use Rattle.lq_app.specs.Judgement.{IsJudgement, IsPastNumber, RejectAlike}
+-- Which status and which report are due for words and what the folder handed over.
+use Rattle.std.specs.Prelude.{◌≡◌, ◌⊎◌, ℕ, List, ◌++◌, Option, Some, None, Result, Ok, Err, codes}
+use Rattle.lq_bound_texts.specs.Stages.{Bytes}
+use Rattle.lq_command.specs.Command.{Request, command_of, judge, sample, usage_line}
+use Rattle.lq_command.specs.declared.command.Mode.{Mode}
+use Rattle.lq_command.specs.declared.command.Mode.TheVariants.{Check, Types, Explain}
+use Rattle.lq_inputs.specs.Visits.{Visit, IsUntouched}
+use Rattle.lq_judge.specs.Counting.{HasCounts}
+use Rattle.lq_judge.specs.Judgement.{IsJudgement}
+use Rattle.lq_judge.specs.declared.counting.Counts.{Counts}
+use Rattle.lq_judge.specs.declared.judgement.Judgement.{Judgement}
+use Rattle.lq_judge.specs.declared.judgement.Judgement.TheVariants as judgement
+use Rattle.lq_judge.specs.declared.judgement.Refusal.{Refusal}
+use Rattle.lq_judge.specs.declared.judgement.Refusal.TheVariants as refusal
+use Rattle.lq_posed_texts.specs.Stages.{PosesTo, Typed}
+use Rattle.lq_sample.specs.Sample.{counts_text}
+use Rattle.lq_app.specs.Asked.{AreTexts, WasFileFault, limit_of}
 use Rattle.lq_app.specs.declared.status.Status.{Status}
-use Rattle.lq_app.specs.declared.status.Status.TheVariants.{Good, Rejected, Undecided, Refused, Usage, File, SinkFault, Memory}
-use Rattle.lq_app.specs.Command.{file_named, usage_line}
+use Rattle.lq_app.specs.declared.status.Status.TheVariants.{Good, Rejected, Undecided, Refused, Usage, File, Memory}
 
--- a folder before and after a call
-pub record Visit : Type 0 where
-  pub files : Option Files
-  pub absents : ℕ
-  pub absents_now : ℕ
-  pub failures : ℕ
-  pub failures_now : ℕ
+-- the status of a judgement
+abbrev pub status_of : Result Judgement Refusal → Status
+status_of (Ok (judgement.Accepted types)) = Good
+status_of (Ok (judgement.Rejected failure explained)) = Rejected
+status_of (Ok (judgement.Undecided cause)) = Undecided
+status_of (Err (refusal.Code code line)) = Refused
+status_of (Err refusal.Memory) = Memory
 
-abbrev pub visit : {F : Type 0} → (F → Option Files) → (F → ℕ) → (F → ℕ) → F → F → Visit
-visit files absents failures old new = record { files = files old; absents = absents old; absents_now = absents new; failures = failures old; failures_now = failures new }
+-- ---- what is printed
 
--- no call has come to the folder
-pub record IsUntouched (v : Visit) : Type 0 where
-  pub absents : v.absents_now ≡ v.absents
-  pub failures : v.failures_now ≡ v.failures
+abbrev pub accepted_text : Mode → List ℕ → List ℕ
+accepted_text Check types = codes "accepted\n"
+accepted_text Types types = types
+accepted_text Explain types = codes "accepted\n"
 
--- the folder didn't fail, and has nothing under the name where it tells
-pub record IsAbsent (v : Visit) (name : List ℕ) : Type 0 where
-  pub rose : Rose v.absents v.absents_now
-  pub calm : v.failures_now ≡ v.failures
-  pub lacks : (held : Files) → v.files ≡ Some held → held name ≡ None
+abbrev pub rejected_text : Mode → List ℕ → List ℕ → List ℕ
+rejected_text Check failure explained = failure
+rejected_text Types failure explained = failure
+rejected_text Explain failure explained = explained
 
--- the folder didn't fail, and has a longer file where it tells
-pub record IsTooLong (v : Visit) (name : List ℕ) : Type 0 where
-  pub calm : v.failures_now ≡ v.failures
-  pub longer : (held : Files) → v.files ≡ Some held → (bytes : List ℕ) × (held name ≡ Some bytes) × (FILE_LIMIT < length bytes)
+abbrev pub printed : Mode → Judgement → List ℕ
+printed mode (judgement.Accepted types) = accepted_text mode types
+printed mode (judgement.Rejected failure explained) = rejected_text mode failure explained
+printed mode (judgement.Undecided cause) = cause
 
--- the folder didn't fail, and the text is what it has under the name where it tells
-pub record IsHanded (v : Visit) (name text : List ℕ) : Type 0 where
-  pub calm : v.failures_now ≡ v.failures
-  pub bound : length text ≤ FILE_LIMIT
-  pub holds : (held : Files) → v.files ≡ Some held → held name ≡ Some text
+-- the lines on how many functions a sample has, and how much is to be solved for these texts
+abbrev pub AreCounts : ℕ → Bytes → List ℕ → Type 0
+AreCounts count b lines = (t : Typed) × PosesTo b (Ok t) × ((c : Counts) × HasCounts t c × (lines ≡ counts_text count c.unknowns c.instances c.implications))
 
-abbrev pub file_line : List ℕ → List ℕ → List ℕ
-file_line what name = what ++ name ++ codes "\n"
+abbrev pub IsLine : Refusal → List ℕ → Type 0
+IsLine (refusal.Code code line) report = report ≡ line
+IsLine refusal.Memory report = ⊥
 
-abbrev pub IsFileFault : Visit → List ℕ → List ℕ → Type 0
-IsFileFault v name report =
-    (IsAbsent v name × (report ≡ file_line (codes "absent ") name))
-    ⊎ ((Rose v.failures v.failures_now × (report ≡ file_line (codes "failed ") name))
-    ⊎ (IsTooLong v name × (report ≡ file_line (codes "too long ") name)))
+-- The report tells the judgement on the texts. In a sample's the counts stand in front of a verdict.
+abbrev pub IsPrinted : Request → Bytes → Result Judgement Refusal → List ℕ → Type 0
+IsPrinted (judge mode program measures quals pivots) b (Ok j) report = report ≡ printed mode j
+IsPrinted (judge mode program measures quals pivots) b (Err e) report = IsLine e report
+IsPrinted (sample count pivots) b (Ok j) report = (lines : List ℕ) × AreCounts count b lines × (report ≡ lines ++ printed Check j)
+IsPrinted (sample count pivots) b (Err e) report = IsLine e report
 
--- the file that the words name didn't come, as the report says
-abbrev pub WasFault : List (List ℕ) → Visit → List ℕ → Type 0
-WasFault words v report = (name : List ℕ) × (file_named words ≡ Some name) × IsFileFault v name report
+-- ---- what is due
 
--- this text was handed over for the words
-abbrev pub WasHanded : List (List ℕ) → Visit → List ℕ → Type 0
-WasHanded words v text = (name : List ℕ) × (file_named words ≡ Some name) × IsHanded v name text
+-- a judgement that is due on the texts has this status, and this report tells it
+pub record IsVerdict (request : Request) (b : Bytes) (status : Status) (report : List ℕ) : Type 0 where
+  pub judgement : Result Judgement Refusal
+  pub due : IsJudgement (limit_of request) b judgement
+  pub status_is : status ≡ status_of judgement
+  pub tells : IsPrinted request b judgement report
 
--- The status and the report that go with the judgement on a text.
-abbrev pub IsVerdict : List ℕ → Status → List ℕ → Type 0
-IsVerdict text Good report = IsJudgement text (Ok (judgement.Accepted [])) × (report ≡ codes "accepted\n")
-IsVerdict text Rejected report = (explained : List ℕ) × IsJudgement text (Ok (judgement.Rejected report explained))
-IsVerdict text Undecided report = IsJudgement text (Ok (judgement.Undecided report))
-IsVerdict text Refused report = (code : ℕ) × IsJudgement text (Err (Code code report))
-IsVerdict text Usage report = ⊥
-IsVerdict text File report = ⊥
-IsVerdict text SinkFault report = ⊥
-IsVerdict text Memory report = ⊥
+pub record IsJudged (request : Request) (v : Visit) (status : Status) (report : List ℕ) : Type 0 where
+  pub texts : Bytes
+  pub are : AreTexts request v texts
+  pub verdict : IsVerdict request texts status report
 
--- the verdict on the text that was handed over
-abbrev pub IsJudged : List (List ℕ) → Visit → Status → List ℕ → Type 0
-IsJudged words v status report = (text : List ℕ) × WasHanded words v text × IsVerdict text status report
+-- For words that are no command the usage line is due. Else a line on a file that didn't come, or the verdict.
+abbrev pub IsDueFor : Option Request → Visit → Status → List ℕ → Type 0
+IsDueFor None v status report = (status ≡ Usage) × IsUntouched v × (report ≡ usage_line)
+IsDueFor (Some request) v status report = ((status ≡ File) × WasFileFault request v report) ⊎ IsJudged request v status report
 
 -- This status and this report are due.
 abbrev pub IsDue : List (List ℕ) → Visit → Status → List ℕ → Type 0
-IsDue words v Usage report = (file_named words ≡ None) × IsUntouched v × (report ≡ usage_line)
-IsDue words v File report = WasFault words v report
-IsDue words v Good report = IsJudged words v Good report
-IsDue words v Refused report = IsJudged words v Refused report
-IsDue words v Rejected report = IsJudged words v Rejected report
-IsDue words v Undecided report = IsJudged words v Undecided report
-IsDue words v SinkFault report = ⊥
-IsDue words v Memory report = ⊥
-
--- the text that was handed over is undecided by a number, as the report says
-abbrev pub IsByNumberHere : List (List ℕ) → Visit → Status → List ℕ → Type 0
-IsByNumberHere words v status report = (status ≡ Undecided) × ((text : List ℕ) × WasHanded words v text × IsPastNumber text report)
-
--- The reports are one, but for the values in the lines on a point.
-abbrev pub SameReport : Status → List ℕ → List ℕ → Type 0
-SameReport Rejected r q = RejectAlike r q
-SameReport Good r q = r ≡ q
-SameReport Undecided r q = r ≡ q
-SameReport Refused r q = r ≡ q
-SameReport Usage r q = r ≡ q
-SameReport File r q = r ≡ q
-SameReport SinkFault r q = r ≡ q
-SameReport Memory r q = r ≡ q
-
--- Where the folder tells and its count of failures is not at the end, two statuses and reports that are due are one, but for the
--- values in the lines on a point, unless one of them is undecided by a number.
-abbrev pub IsDetermined : Type 0
-IsDetermined = (words : List (List ℕ)) (v : Visit) (held : Files) (s t : Status) (r q : List ℕ) → v.files ≡ Some held → v.failures_now < 2 ^ 64 - 1 → IsDue words v s r → IsDue words v t q
-    → ((s ≡ t) × SameReport s r q) ⊎ (IsByNumberHere words v s r ⊎ IsByNumberHere words v t q)
-
--- it is this status, or the sink failed, or memory ran out
-abbrev pub IsOrFault : Status → Status → Type 0
-IsOrFault due status = (status ≡ due) ⊎ ((status ≡ SinkFault) ⊎ (status ≡ Memory))
-
--- some report is due by which the text is undecided by a number
-abbrev pub MayStop : List (List ℕ) → Visit → Type 0
-MayStop words v = (report : List ℕ) × IsByNumberHere words v Undecided report
-
--- Where the folder tells and its count of failures is not at the end, only a fault of the sink, want of memory or a number in solving
--- comes in place of a status that is due, or such a status in place of a number in solving.
-abbrev pub IsExact : List (List ℕ) → Visit → Status → Type 0
-IsExact words v status = (held : Files) (due : Status) (report : List ℕ) → v.files ≡ Some held → v.failures_now < 2 ^ 64 - 1 → IsDue words v due report
-    → (status ≡ due) ⊎ ((status ≡ SinkFault) ⊎ ((status ≡ Memory) ⊎ MayStop words v))
+IsDue words v status report = IsDueFor (command_of words) v status report

@@ -1,67 +1,45 @@
 // What is due, status and report.
-ghost use Rattle.std.specs.Prelude.{◌≡◌, ◌⊎◌, ◌≤◌, ℕ, List, length, Err, IfOk, codes};
-ghost use Rattle.lq_app.specs.declared.answer.TheConstants.{FILE_LIMIT};
-ghost use Rattle.lq_app.specs.Judgement.{IsJudgement};
-ghost use Rattle.lq_app.specs.Report.{visit, IsVerdict, IsDue};
+ghost use Rattle.std.specs.Prelude.{◌≡◌, ◌≤◌, ℕ, List, Some, IfOk};
+ghost use Rattle.lq_command.specs.Command.{sample, usage_line};
+ghost use Rattle.lq_inputs.specs.Visits.{visit};
+ghost use Rattle.lq_app.specs.Asked.{request_by};
+ghost use Rattle.lq_app.specs.Causes.{IsSafeFor, IsSafeHere};
+ghost use Rattle.lq_app.specs.Report.{IsDue, IsDueFor};
 
-use crate::report::{file_report, usage_report};
-use crate::{Judgement, Refusal, Status, Words, judge};
-use lq_io::{FetchError, Folder};
+use crate::verdict::{Answer, sample_verdict, verdict_on, with_report};
+use crate::{Status, Words};
+use lq_command::{Command, Judge};
+use lq_inputs::{NotFetched, fetch_inputs};
+use lq_io::Folder;
 use lq_name::TextBuf;
 use std::alloc::{AllocError, Global};
 
-/// The greatest number of bytes of a file, a mebibyte.
-pub const FILE_LIMIT: usize = 1 << 20;
-
-// The pivots that a check of the tableau may take where the words don't say.
-const PIVOTS: u64 = 67_108_864;
-
-// A status, and the whole report that goes with it.
-#[derive(Drop)]
-pub(crate) struct Answer {
-    pub(crate) status: Status,
-    pub(crate) report: TextBuf,
+// The line on words that are no command.
+fn usage_report(alloc: Global) -> Result<TextBuf, AllocError>
+    ensures { IfOk result (λ r. r ≡ usage_line) }
+{
+    let line = Vec::from_slice(
+        alloc,
+        b"usage: lq MODE SUBJECT [--quals FILE] [--measures FILE] [--pivots N]\n",
+    )?;
+    Ok(TextBuf::from_bytes(line))
 }
 
-fn accepted(alloc: Global) -> Result<Answer, AllocError>
-    ensures status { IfOk result (λ r. r.status ≡ Status.Good) }
-    ensures report { IfOk result (λ r. r.report ≡ codes "accepted\n") }
+// What is due for files to judge.
+fn answer_on_files<F: Folder>(
+    alloc: Global,
+    files: &Judge<'_>,
+    folder: &mut F,
+) -> Result<Answer, AllocError>
+    ensures due { let v = visit F.files F.absents F.failures folder.old folder.new in
+        IfOk result (λ r. IsDueFor (Some (request_by files.now)) v r.status r.report) }
+    ensures safe { let v = visit F.files F.absents F.failures folder.old folder.new in
+        IfOk result (λ r. r.status ≡ Status.Good → IsSafeFor (request_by files.now) v) }
 {
-    let line = Vec::from_slice(alloc, b"accepted\n")?;
-    Ok(Answer {
-        status: Status::Good,
-        report: TextBuf::from_bytes(line),
-    })
-}
-
-fn with_report(status: Status, report: TextBuf) -> Answer
-    ensures status { result.status ≡ status }
-    ensures report { result.report ≡ report }
-{
-    Answer { status, report }
-}
-
-// The answer to a refusal.
-fn refused(refusal: Refusal) -> Result<Answer, AllocError>
-    ensures { (text : List ℕ) → (refusal ≡ Refusal.Memory) ⊎ IsJudgement text (Err refusal)
-        → IfOk result (λ r. IsVerdict text r.status r.report) }
-{
-    match refusal {
-        Refusal::Code(_, line) => Ok(with_report(Status::Refused, line)),
-        Refusal::Memory => Err(AllocError),
-    }
-}
-
-// The verdict on a text.
-fn verdict_on(alloc: Global, text: &[u8]) -> Result<Answer, AllocError>
-    requires { length text.now ≤ FILE_LIMIT }
-    ensures { IfOk result (λ r. IsVerdict text.now r.status r.report) }
-{
-    match judge(alloc, text, &[], &[], PIVOTS) {
-        Ok(Judgement::Accepted(_types)) => accepted(alloc),
-        Ok(Judgement::Rejected(failure, _explained)) => Ok(with_report(Status::Rejected, failure)),
-        Ok(Judgement::Undecided(cause)) => Ok(with_report(Status::Undecided, cause)),
-        Err(refusal) => refused(refusal),
+    match fetch_inputs(alloc, files, folder) {
+        Ok(texts) => verdict_on(alloc, files, &texts.program, &texts.measures, &texts.quals),
+        Err(NotFetched::File(line)) => Ok(with_report(Status::File, line)),
+        Err(NotFetched::Memory) => Err(AllocError),
     }
 }
 
@@ -71,25 +49,14 @@ pub(crate) fn answer_to<F: Folder>(
     words: &Words,
     folder: &mut F,
 ) -> Result<Answer, AllocError>
-    ensures { IfOk result (λ r. IsDue words.now
-        (visit F.files F.absents F.failures folder.old folder.new) r.status r.report) }
+    ensures due { let v = visit F.files F.absents F.failures folder.old folder.new in
+        IfOk result (λ r. IsDue words.now v r.status r.report) }
+    ensures safe { let v = visit F.files F.absents F.failures folder.old folder.new in
+        IfOk result (λ r. r.status ≡ Status.Good → IsSafeHere words.now v) }
 {
-    let Some(name) = words.file() else {
-        return Ok(Answer {
-            status: Status::Usage,
-            report: usage_report(alloc)?,
-        });
-    };
-    let mut text = Vec::new(alloc);
-    let what = match folder.fetch(name, FILE_LIMIT, &mut text) {
-        Ok(()) => return verdict_on(alloc, &text),
-        Err(FetchError::Memory) => return Err(AllocError),
-        Err(FetchError::Absent) => b"absent ".as_slice(),
-        Err(FetchError::Failed) => b"failed ".as_slice(),
-        Err(FetchError::TooLong) => b"too long ".as_slice(),
-    };
-    Ok(Answer {
-        status: Status::File,
-        report: file_report(alloc, what, name)?,
-    })
+    match words.command(alloc)? {
+        Some(Command::Judge(files)) => answer_on_files(alloc, &files, folder),
+        Some(Command::Sample { count, pivots }) => sample_verdict(alloc, count, pivots),
+        None => Ok(with_report(Status::Usage, usage_report(alloc)?)),
+    }
 }

@@ -1,27 +1,16 @@
-// Laws of the definitions. Nothing is run.
-ghost use Rattle.lq_app.specs.Judgement.{IsOneJudgement};
-ghost use Rattle.lq_app.specs.Report.{IsDetermined};
+// A law of the definitions. Nothing is run.
+ghost use Rattle.lq_app.specs.Once.{IsDetermined};
 
-use lq_lex::one_reading;
-use lq_parse::{one_answer, one_tree};
-use lq_resolved::one_resolution;
-use lq_typings::one_inference;
+use lq_inputs::one_fault;
+use lq_judge::one_judgement;
+use lq_posed_texts::one_posing;
 
-/// Two judgements on a text that are due agree, but for the values in the lines on a point, unless one is undecided by a
-/// number.
-pub fn one_judgement()
-    ensures { IsOneJudgement }
-{
-    one_reading();
-    one_tree();
-    one_answer();
-    one_resolution();
-    one_inference();
-}
-
-/// Two statuses and reports that are due for some words agree so, where the folder tells what it holds.
+/// Two statuses and reports that are due for some words are one, but for the values in the lines on a point, where no file is wanted or the
+/// folder tells what it holds, unless the prover stopped for one of them.
 pub fn one_report()
     ensures { IsDetermined }
 {
+    one_fault();
+    one_posing();
     one_judgement();
 }

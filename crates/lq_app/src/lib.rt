@@ -2,22 +2,15 @@
 #![tactic(auto)]
 
 mod answer;
-mod failures;
 mod laws;
-mod ordinal;
-mod report;
 mod run;
 mod send;
-mod stages;
 mod status;
-mod steps;
-mod texts;
 mod verdict;
-mod words;
 
-pub use answer::FILE_LIMIT;
-pub use laws::{one_judgement, one_report};
+pub use laws::one_report;
+pub use lq_command::Words;
+pub use lq_inputs::FILE_LIMIT;
+pub use lq_judge::{Judgement, Refusal, judge};
 pub use run::run_words;
 pub use status::Status;
-pub use verdict::{Judgement, Refusal, judge};
-pub use words::Words;

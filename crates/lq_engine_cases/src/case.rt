@@ -1,5 +1,4 @@
 // A case and its answer.
-use crate::demands::demands;
 use crate::error::CaseError;
 use crate::fractions::{operated, operation, ordered, parted};
 use crate::points::pointed;
@@ -10,7 +9,7 @@ use crate::words::{plain, words_of};
 use lq_num::NumberPast;
 use std::alloc::{AllocError, Global};
 
-/// The answer of a case of rows or of demands.
+/// The answer of a case of rows.
 fn by_rows(alloc: Global, kind: &str, rest: &[&str]) -> Result<String, CaseError> {
     match kind {
         "system" => solved(alloc, rest),
@@ -18,7 +17,6 @@ fn by_rows(alloc: Global, kind: &str, rest: &[&str]) -> Result<String, CaseError
         "values" => valued(alloc, rest),
         "multipliers" => multiplied(alloc, rest),
         "generated" => generated(alloc, rest),
-        "demands" => demands(alloc, rest),
         _ => Err(CaseError::NotACase),
     }
 }

@@ -1,10 +1,9 @@
-//! Answers cases of numbers, predicates, points, rows and demands: reads the files that its arguments name, and prints each
+//! Answers cases of numbers, predicates, points and rows: reads the files that its arguments name, and prints each
 //! case with its answer. The README beside `src/` says how a case is written.
 #![tactic(auto)]
 
 mod askable;
 mod case;
-mod demands;
 mod engines;
 mod error;
 mod evidence;

@@ -1,16 +1,9 @@
-// The readers of the values of points, and the point of a demand that fails.
-ghost use Rattle.std.specs.Prelude.{◌≡◌, All, IfOk, [], ◌∷◌};
-ghost use Rattle.lq_demand.specs.LinesView.{lines_view};
-ghost use Rattle.lq_demand.specs.Plain.{IsPlainStep};
-
+// The readers of the values of points.
 use indexmap::IndexMap;
-use lq_demand::{Asked, Line, Lines, ask};
 use lq_name::Binder;
 use lq_num::Frac;
 use lq_point::PointValues;
-use lq_pred::{CompareOp, Pred, Symbol, Term, TermTable, gather};
-use std::alloc::{AllocError, Global};
-use std::cmp::Ordering;
+use lq_pred::{Symbol, Term, TermTable, gather};
 use std::test::Fail;
 
 fn symbol(at: u32) -> Symbol {
@@ -43,38 +36,5 @@ fn readers(rt: HostRuntime) -> Result<(), Fail> {
     assert_eq!(rt; values.class(&Term::Var(symbol(4))), None);
     assert_eq!(rt; values.flags().len(), 2);
     assert_eq!(rt; values.classes().len(), 1);
-    Ok(())
-}
-
-// `v5 < 10` is asked where nothing is known.
-fn one_demand(alloc: Global) -> Result<Lines, AllocError>
-    ensures { IfOk result (λ lines. All IsPlainStep (lines_view lines)) }
-{
-    let mut lines = Lines::new(alloc)?;
-    let below = Pred::Compare(CompareOp::Lt, Term::Var(symbol(5)), Term::Var(symbol(2)));
-    lines.push(Line::Demand(below))?;
-    Ok(lines)
-}
-
-#[test]
-fn point_of_a_demand(rt: HostRuntime) -> Result<(), Fail> {
-    let m = rt.alloc();
-    let lines = one_demand(m)?;
-    assert_eq!(rt; lines.len(), 1);
-    assert_eq!(rt; lines.get(1).is_none(), true);
-    let found = match ask(m, &lines)? {
-        Asked::Fails(0, point) => Some(point),
-        _ => None,
-    };
-    let Some(point) = found else {
-        assert_eq!(rt; true, false);
-        return Ok(());
-    };
-    // The terms stand in the order of their first appearance: 5 before 2.
-    let values = point.values();
-    assert_eq!(rt; values.table().len(), 2);
-    assert!(rt; *values.table().term(0) == Term::Var(symbol(5)));
-    let order = values.number(0).cmp(&values.number(1));
-    assert_eq!(rt; order == Ordering::Less, false);
     Ok(())
 }

@@ -1,8 +1,7 @@
 // The answers to the lines of a table.
-use crate::items::items_text;
 use crate::line::{Line, line_of};
 use crate::refusals::refused_text;
-use crate::setting::Setting;
+use crate::setting::{Setting, calm};
 use std::alloc::{AllocError, Global};
 use std::mem;
 
@@ -29,7 +28,7 @@ pub(crate) fn answer(
             setting.add_file(String::from_str(alloc, "p.ml")?, text)?;
             return run(alloc, setting);
         }
-        Some(Line::Items(text)) => return Ok(Some(items_text(alloc, &text)?)),
+        Some(Line::Calm(text)) => return Ok(Some(calm(alloc, text)?)),
         Some(Line::Refusal(refused)) => return Ok(Some(refused_text(alloc, &refused)?)),
         None => return Ok(Some(String::from_str(alloc, "not in the notation")?)),
     }

@@ -23,8 +23,8 @@ pub(crate) enum Line {
     Run,
     /// `check TEXT`: the same with this text as `p.ml`.
     Check(Vec<u8>),
-    /// `items TEXT`: the straight-line items of the text.
-    Items(Vec<u8>),
+    /// `calm TEXT`: a run with this text as `p.ml` over a folder and a sink that never fail.
+    Calm(Vec<u8>),
     /// `refusal at program 1 2 3` and the other forms: the line on a refusal.
     Refusal(Refused),
 }
@@ -123,7 +123,7 @@ pub(crate) fn line_of(alloc: Global, line: &str) -> Result<Option<Line>, AllocEr
         ("sink", "fails") => Some(Line::SinkFails(numbers)),
         ("run", "") => Some(Line::Run),
         ("check", "") => Some(Line::Check(joined(alloc, &row.pieces)?)),
-        ("items", "") => Some(Line::Items(joined(alloc, &row.pieces)?)),
+        ("calm", "") => Some(Line::Calm(joined(alloc, &row.pieces)?)),
         _ => None,
     })
 }

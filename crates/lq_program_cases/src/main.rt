@@ -2,7 +2,6 @@
 #![tactic(auto)]
 
 mod answer;
-mod items;
 mod line;
 mod notation;
 mod refusals;
@@ -38,6 +37,3 @@ fn main(rt: HostRuntime) -> io::Result<()> {
     }
     out.flush()
 }
-
-#[cfg(test)]
-mod tests;

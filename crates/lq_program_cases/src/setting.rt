@@ -1,7 +1,7 @@
 // What a run is made with.
 use crate::notation::quoted;
 use lq_app::{Words, run_words};
-use lq_io::{MemFolder, MemSink};
+use lq_io::{CalmFolder, CalmSink, MemFolder, MemSink};
 use std::alloc::{AllocError, Global};
 use std::collections::BTreeMap;
 
@@ -60,4 +60,14 @@ impl Setting {
         let number = status.number();
         format!(in alloc; "{number} {taken}")
     }
+}
+
+/// The number of the status with which `lq check p.ml` ends on this text, where neither the folder nor the sink ever fails.
+pub(crate) fn calm(alloc: Global, text: Vec<u8>) -> Result<String, AllocError> {
+    let words = command(alloc, None)?;
+    let mut files = BTreeMap::new(alloc);
+    files.insert(String::from_str(alloc, "p.ml")?, text)?;
+    let mut folder = CalmFolder::new(files);
+    let number = run_words(alloc, &words, &mut folder, &mut CalmSink).number();
+    format!(in alloc; "{number}")
 }

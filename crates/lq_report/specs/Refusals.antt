@@ -11,7 +11,7 @@ abbrev pub names : List (List ℕ)
 names =
     [] ∷ codes "BadByte" ∷ codes "OpenComment" ∷ codes "LiteralPast" ∷ codes "Syntax" ∷ codes "TooDeep" ∷ codes "Unknown" ∷ codes "Twice"
     ∷ codes "Arity" ∷ codes "NotPositive" ∷ codes "NotStructural" ∷ codes "BadSort" ∷ codes "IllTyped" ∷ codes "WeakType"
-    ∷ codes "TypePast" ∷ codes "InstancesPast" ∷ codes "ImplicationsPast" ∷ codes "Unbuilt" ∷ []
+    ∷ codes "TypePast" ∷ codes "InstancesPast" ∷ codes "ImplicationsPast" ∷ []
 
 -- a number that is no code has the empty name
 abbrev pub name_of : ℕ → List ℕ

@@ -7,7 +7,7 @@ use itoa::Buffer;
 use lq_name::{Place, TextBuf, TextKind};
 use std::alloc::{AllocError, Global};
 
-// The name of a code; one that isn't from 1 to 17 has the empty name.
+// The name of a code; one that isn't from 1 to 16 has the empty name.
 fn name_of(code: u8) -> &'static [u8]
     ensures { result.now ≡ name_of code }
 {
@@ -28,7 +28,6 @@ fn name_of(code: u8) -> &'static [u8]
         14 => b"TypePast",
         15 => b"InstancesPast",
         16 => b"ImplicationsPast",
-        17 => b"Unbuilt",
         _ => b"",
     }
 }

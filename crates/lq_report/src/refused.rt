@@ -3,7 +3,7 @@ ghost use Rattle.std.specs.Prelude.{◌≡◌};
 
 use lq_name::{NameText, Place};
 
-/// Why texts are refused: a code from 1 to 17, and what the line on it tells.
+/// Why texts are refused: a code from 1 to 16, and what the line on it tells.
 #[derive(Debug, Drop)]
 pub enum Refused {
     /// A code at a place.

@@ -1,4 +1,0 @@
-pub mod Nodes
-pub mod Others
-pub mod Gathering
-pub mod Whole
