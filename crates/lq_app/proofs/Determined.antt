@@ -8,12 +8,12 @@ use Rattle.lq_failure.specs.PointLines.{point_lines}
 use Rattle.lq_inputs.specs.Once.{FaultsAreOne, IsFaultOrHanded, HandedAreOne}
 use Rattle.lq_inputs.specs.Visits.{Visit}
 use Rattle.lq_judge.specs.Agreeing.{Agree, DifferAlike, IsOneJudgement, IsStopped}
-use Rattle.lq_judge.specs.Counting.{HasCounts}
-use Rattle.lq_judge.specs.declared.counting.Counts.{Counts}
-use Rattle.lq_judge.specs.declared.judgement.Judgement.{Judgement}
-use Rattle.lq_judge.specs.declared.judgement.Judgement.TheVariants as judgement
-use Rattle.lq_judge.specs.declared.judgement.Refusal.{Refusal}
-use Rattle.lq_judge.specs.declared.judgement.Refusal.TheVariants as refusal
+use Rattle.lq_verdict.specs.Counting.{HasCounts}
+use Rattle.lq_verdict.specs.declared.counting.Counts.{Counts}
+use Rattle.lq_verdict.specs.declared.judgement.Judgement.{Judgement}
+use Rattle.lq_verdict.specs.declared.judgement.Judgement.TheVariants as judgement
+use Rattle.lq_verdict.specs.declared.judgement.Refusal.{Refusal}
+use Rattle.lq_verdict.specs.declared.judgement.Refusal.TheVariants as refusal
 use Rattle.lq_posed_texts.specs.Stages.{PosesTo, Typed}
 use Rattle.lq_report.specs.Stages.{HasOneAnswer}
 use Rattle.lq_sample.specs.Sample.{counts_text}

@@ -3,11 +3,11 @@ use Rattle.std.proofs.Common.{◌≡◌, inl, inr, ℕ, List, Option, Some, None
 use Rattle.lq_bound_texts.specs.Stages.{Bytes}
 use Rattle.lq_command.specs.Command.{Request, command_of}
 use Rattle.lq_inputs.specs.Visits.{Visit}
-use Rattle.lq_judge.specs.Judgement.{IsJudgement, IsRejected, IsUndecided}
-use Rattle.lq_judge.specs.declared.judgement.Judgement.{Judgement}
-use Rattle.lq_judge.specs.declared.judgement.Judgement.TheVariants as judgement
-use Rattle.lq_judge.specs.declared.judgement.Refusal.{Refusal}
-use Rattle.lq_judge.specs.declared.judgement.Refusal.TheVariants as refusal
+use Rattle.lq_verdict.specs.Judgement.{IsJudgement, IsRejected, IsUndecided}
+use Rattle.lq_verdict.specs.declared.judgement.Judgement.{Judgement}
+use Rattle.lq_verdict.specs.declared.judgement.Judgement.TheVariants as judgement
+use Rattle.lq_verdict.specs.declared.judgement.Refusal.{Refusal}
+use Rattle.lq_verdict.specs.declared.judgement.Refusal.TheVariants as refusal
 use Rattle.lq_posed_texts.specs.Stages.{PosesTo, Typed}
 use Rattle.lq_app.specs.Asked.{WasFileFault, limit_of}
 use Rattle.lq_app.specs.Report.{IsDue, IsDueFor, IsJudged, status_of}

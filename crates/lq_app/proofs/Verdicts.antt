@@ -6,11 +6,11 @@ use Rattle.lq_command.specs.declared.command.Mode.TheVariants.{Check}
 use Rattle.lq_inputs.specs.Visits.{Visit, IsUntouched}
 use Rattle.lq_judge.specs.Answers as answers
 use Rattle.lq_judge.specs.Safety.{IsSafelyAccepted}
-use Rattle.lq_judge.specs.declared.judged.Judged.{Judged}
-use Rattle.lq_judge.specs.declared.judgement.Judgement.{Judgement}
-use Rattle.lq_judge.specs.declared.judgement.Judgement.TheVariants as judgement
-use Rattle.lq_judge.specs.declared.judgement.Refusal.{Refusal}
-use Rattle.lq_judge.specs.declared.judgement.Refusal.TheVariants as refusal
+use Rattle.lq_verdict.specs.declared.judgement.Judged.{Judged}
+use Rattle.lq_verdict.specs.declared.judgement.Judgement.{Judgement}
+use Rattle.lq_verdict.specs.declared.judgement.Judgement.TheVariants as judgement
+use Rattle.lq_verdict.specs.declared.judgement.Refusal.{Refusal}
+use Rattle.lq_verdict.specs.declared.judgement.Refusal.TheVariants as refusal
 use Rattle.lq_sample.specs.Sample.{counts_text}
 use Rattle.lq_app.specs.Asked.{limit_of, sample_texts}
 use Rattle.lq_app.specs.Causes.{IsSafeFor, IsSafeHere}

@@ -4,9 +4,9 @@ use Rattle.lq_bound_texts.specs.Stages.{Bytes}
 use Rattle.lq_command.specs.Command.{Request, command_of}
 use Rattle.lq_inputs.specs.Visits.{Visit}
 use Rattle.lq_judge.specs.Answers.{IsByGathering}
-use Rattle.lq_judge.specs.Judgement.{IsJudgement, IsRejected, IsUndecided}
+use Rattle.lq_verdict.specs.Judgement.{IsJudgement, IsRejected, IsUndecided}
 use Rattle.lq_judge.specs.Safety.{IsSafelyAccepted}
-use Rattle.lq_judge.specs.declared.judgement.Refusal.TheVariants.{Code}
+use Rattle.lq_verdict.specs.declared.judgement.Refusal.TheVariants.{Code}
 use Rattle.lq_posed_texts.specs.Stages.{PosesTo, Typed}
 use Rattle.lq_app.specs.Asked.{Asked, AreTexts, WasFileFault, limit_of}
 

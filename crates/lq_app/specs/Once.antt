@@ -4,7 +4,7 @@ use Rattle.lq_command.specs.Command.{Request, command_of, judge, sample}
 use Rattle.lq_inputs.specs.Once.{Tells}
 use Rattle.lq_inputs.specs.Visits.{Visit}
 use Rattle.lq_judge.specs.Agreeing.{DifferAlike, IsStopped}
-use Rattle.lq_judge.specs.declared.judgement.Judgement.TheVariants as judgement
+use Rattle.lq_verdict.specs.declared.judgement.Judgement.TheVariants as judgement
 use Rattle.lq_app.specs.Asked.{Asked, limit_of}
 use Rattle.lq_app.specs.Report.{IsDue, IsPrinted}
 use Rattle.lq_app.specs.declared.status.Status.{Status}

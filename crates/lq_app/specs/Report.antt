@@ -5,13 +5,13 @@ use Rattle.lq_command.specs.Command.{Request, command_of, judge, sample, usage_l
 use Rattle.lq_command.specs.declared.command.Mode.{Mode}
 use Rattle.lq_command.specs.declared.command.Mode.TheVariants.{Check, Types, Explain}
 use Rattle.lq_inputs.specs.Visits.{Visit, IsUntouched}
-use Rattle.lq_judge.specs.Counting.{HasCounts}
-use Rattle.lq_judge.specs.Judgement.{IsJudgement}
-use Rattle.lq_judge.specs.declared.counting.Counts.{Counts}
-use Rattle.lq_judge.specs.declared.judgement.Judgement.{Judgement}
-use Rattle.lq_judge.specs.declared.judgement.Judgement.TheVariants as judgement
-use Rattle.lq_judge.specs.declared.judgement.Refusal.{Refusal}
-use Rattle.lq_judge.specs.declared.judgement.Refusal.TheVariants as refusal
+use Rattle.lq_verdict.specs.Counting.{HasCounts}
+use Rattle.lq_verdict.specs.Judgement.{IsJudgement}
+use Rattle.lq_verdict.specs.declared.counting.Counts.{Counts}
+use Rattle.lq_verdict.specs.declared.judgement.Judgement.{Judgement}
+use Rattle.lq_verdict.specs.declared.judgement.Judgement.TheVariants as judgement
+use Rattle.lq_verdict.specs.declared.judgement.Refusal.{Refusal}
+use Rattle.lq_verdict.specs.declared.judgement.Refusal.TheVariants as refusal
 use Rattle.lq_posed_texts.specs.Stages.{PosesTo, Typed}
 use Rattle.lq_sample.specs.Sample.{counts_text}
 use Rattle.lq_app.specs.Asked.{AreTexts, WasFileFault, limit_of}

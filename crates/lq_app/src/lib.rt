@@ -11,6 +11,7 @@ mod verdict;
 pub use laws::one_report;
 pub use lq_command::Words;
 pub use lq_inputs::FILE_LIMIT;
-pub use lq_judge::{Judgement, Refusal, judge};
+pub use lq_judge::judge;
+pub use lq_verdict::{Judgement, Refusal};
 pub use run::run_words;
 pub use status::Status;

@@ -5,11 +5,11 @@ use Rattle.lq_posed_texts.specs.Stages.{PosesTo, Typed, constraints_in}
 use Rattle.lq_report.specs.Refusals.{code_of, refusal_line}
 use Rattle.lq_report.specs.Stages.{HasOneAnswer}
 use Rattle.lq_judge.specs.Agreeing.{Agree, IsStopped}
-use Rattle.lq_judge.specs.Judgement.{IsJudgement, IsVerdictOn, instances_of}
-use Rattle.lq_judge.specs.declared.judgement.Judgement.{Judgement}
-use Rattle.lq_judge.specs.declared.judgement.Judgement.TheVariants.{Accepted, Rejected, Undecided}
-use Rattle.lq_judge.specs.declared.judgement.Refusal.{Refusal}
-use Rattle.lq_judge.specs.declared.judgement.Refusal.TheVariants.{Code, Memory}
+use Rattle.lq_verdict.specs.Judgement.{IsJudgement, IsVerdictOn, instances_of}
+use Rattle.lq_verdict.specs.declared.judgement.Judgement.{Judgement}
+use Rattle.lq_verdict.specs.declared.judgement.Judgement.TheVariants.{Accepted, Rejected, Undecided}
+use Rattle.lq_verdict.specs.declared.judgement.Refusal.{Refusal}
+use Rattle.lq_verdict.specs.declared.judgement.Refusal.TheVariants.{Code, Memory}
 use Rattle.lq_judge.proofs.Verdicts.{Laws, accepted_once, accepted_or_rejected, gathered_or_not, rejected_once, undecided_once}
 
 module _ (laws : Laws) (one : HasOneAnswer PosesTo) (limit : ℕ) (b : Bytes) where

@@ -6,10 +6,10 @@ use Rattle.lq_posed_texts.specs.Views.{IsPosedView}
 use Rattle.lq_posed_texts.specs.declared.posing.PosedTexts.{PosedTexts}
 use Rattle.lq_judge.specs.Agreeing.{IsOneJudgement}
 use Rattle.lq_judge.specs.Answers.{IsDecided, IsExact, IsSafe}
-use Rattle.lq_judge.specs.Judgement.{IsJudgement, IsVerdictOn}
+use Rattle.lq_verdict.specs.Judgement.{IsJudgement, IsVerdictOn}
 use Rattle.lq_judge.specs.Safety.{AcceptedAreSafe, SmallAreDecided}
-use Rattle.lq_judge.specs.declared.judgement.Judgement.{Judgement}
-use Rattle.lq_judge.specs.declared.judgement.Judgement.TheVariants.{Accepted, Rejected, Undecided}
+use Rattle.lq_verdict.specs.declared.judgement.Judgement.{Judgement}
+use Rattle.lq_verdict.specs.declared.judgement.Judgement.TheVariants.{Accepted, Rejected, Undecided}
 
 pub safe_of : AcceptedAreSafe → (m : PosedTexts) (limit : ℕ) (b : Bytes) (t : Typed) (j : Judgement) → PosesTo b (Ok t) → IsPosedView m t
     → IsVerdictOn limit t j → IsSafe b j

@@ -1,10 +1,7 @@
 -- Lemmas.
 mod Agreement
 mod Answering
-mod Posed
 mod Safe
 mod Selections
-mod Taken
 mod Texts
-mod Totals
 mod Verdicts

@@ -28,7 +28,7 @@ use Rattle.lq_text_safe.specs.Safety.{CheckedTextsAreSafe, IsSafe, IsSolvedBy}
 use Rattle.lq_weaken.specs.Stops.{StopsSolving}
 use Rattle.lq_weakening.specs.declared.error.SolveError.TheVariants.{At}
 use Rattle.lq_judge.specs.Agreeing.{IsOfProver}
-use Rattle.lq_judge.specs.Judgement.{IsAccepted, instances_of}
+use Rattle.lq_verdict.specs.Judgement.{IsAccepted, instances_of}
 use Rattle.lq_judge.specs.Safety.{IsNotedOf, IsSafeIfPlain, IsSafeIfStraight, SmallAreDecided}
 use Rattle.lq_judge.proofs.Texts.{named_text, of_text}
 

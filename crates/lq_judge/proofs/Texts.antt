@@ -5,7 +5,7 @@ use Rattle.lq_datatypes.specs.Datatypes.{datatypes_in}
 use Rattle.lq_posed_texts.specs.Stages.{PosesTo, Typed, program_in}
 use Rattle.lq_resolved.specs.Resolution.{scoping_of}
 use Rattle.lq_scope.specs.Uses.{of_program}
-use Rattle.lq_scoped.specs.Scoping.{IsScoped, Scoping}
+use Rattle.lq_scoped.specs.Scoping.{Scoping}
 use Rattle.lq_text_ready.specs.Laws.{IsOfText}
 use Rattle.lq_tree.specs.Items.{ItemTree}
 
@@ -32,13 +32,6 @@ of_text bytes t posed =
     let bound : posed.0.bound ≡ typed.0 = typed.2.0 in
     let there = bound_text bytes typed.0 typed.1 in
     subst (λ (b : Bound). IsOfText b.texts.program) (sym bound ∙ sym (ap (λ x. x.bound) same)) there
-
-pub scoped_text : (bytes : Bytes) (t : Typed) → PosesTo bytes (Ok t) → IsScoped (program_in t)
-scoped_text bytes t posed =
-    let typed = posed.1 in
-    let same : t ≡ posed.0 = posed.2.0 in
-    let bound : posed.0.bound ≡ typed.0 = typed.2.0 in
-    subst (λ (b : Bound). IsScoped b.texts.program) (sym bound ∙ sym (ap (λ x. x.bound) same)) typed.2.1
 
 -- the datatypes are those of items of which nothing is complained
 pub record IsNamed (s : Scoping) : Type 0 where

@@ -21,8 +21,8 @@ use Rattle.lq_weaken.specs.Gathering.{FirstIsNot, IsFirstUngathered}
 use Rattle.lq_weaken.specs.Stops.{StopsSolving}
 use Rattle.lq_weakening.specs.declared.error.SolveError.TheVariants.{At}
 use Rattle.lq_judge.specs.Agreeing.{DifferAlike, IsOfProver}
-use Rattle.lq_judge.specs.Judgement.{IsAccepted, IsRejected, IsUndecided, instances_of, types_by}
-use Rattle.lq_judge.specs.Names.{called_in}
+use Rattle.lq_verdict.specs.Judgement.{IsAccepted, IsRejected, IsUndecided, instances_of, types_by}
+use Rattle.lq_verdict.specs.Names.{called_in}
 use Rattle.lq_judge.proofs.Selections.{first_past_once, same_assigned}
 
 pub record Laws : Type 0 where

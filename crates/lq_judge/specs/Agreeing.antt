@@ -5,10 +5,10 @@ use Rattle.lq_failure.specs.Failures.{DifferInValues}
 use Rattle.lq_pred.specs.declared.pred.Stop.{Stop}
 use Rattle.lq_pred.specs.declared.pred.Stop.TheVariants.{Number, Gather, Pivots, Memory as MemoryStop}
 use Rattle.lq_posed_texts.specs.Stages.{PosesTo, Typed}
-use Rattle.lq_judge.specs.Judgement.{IsJudgement, IsUndecided}
-use Rattle.lq_judge.specs.declared.judgement.Judgement.{Judgement}
-use Rattle.lq_judge.specs.declared.judgement.Judgement.TheVariants.{Rejected, Undecided}
-use Rattle.lq_judge.specs.declared.judgement.Refusal.{Refusal}
+use Rattle.lq_verdict.specs.Judgement.{IsJudgement, IsUndecided}
+use Rattle.lq_verdict.specs.declared.judgement.Judgement.{Judgement}
+use Rattle.lq_verdict.specs.declared.judgement.Judgement.TheVariants.{Rejected, Undecided}
+use Rattle.lq_verdict.specs.declared.judgement.Refusal.{Refusal}
 
 -- what the prover stopped on: neither a literal that can't be gathered nor memory
 abbrev pub IsOfProver : Stop → Type 0

@@ -3,14 +3,14 @@ use Rattle.std.specs.Prelude.{◌≡◌, ◌⊎◌, ℕ, List, Result, Ok, Err}
 use Rattle.lq_bound_texts.specs.Stages.{Bytes}
 use Rattle.lq_posed_texts.specs.Stages.{PosesTo, Typed}
 use Rattle.lq_judge.specs.Agreeing.{Agree, IsOfProver, IsStopped}
-use Rattle.lq_judge.specs.Counting.{HasCounts}
-use Rattle.lq_judge.specs.Judgement.{IsJudgement, IsUndecided, IsVerdictOn}
+use Rattle.lq_verdict.specs.Counting.{HasCounts}
+use Rattle.lq_verdict.specs.Judgement.{IsJudgement, IsUndecided, IsVerdictOn}
 use Rattle.lq_judge.specs.Safety.{AreSmall, IsSafelyAccepted}
-use Rattle.lq_judge.specs.declared.judged.Judged.{Judged}
-use Rattle.lq_judge.specs.declared.judgement.Judgement.{Judgement}
-use Rattle.lq_judge.specs.declared.judgement.Judgement.TheVariants.{Accepted, Rejected, Undecided}
-use Rattle.lq_judge.specs.declared.judgement.Refusal.{Refusal}
-use Rattle.lq_judge.specs.declared.judgement.Refusal.TheVariants.{Code, Memory}
+use Rattle.lq_verdict.specs.declared.judgement.Judged.{Judged}
+use Rattle.lq_verdict.specs.declared.judgement.Judgement.{Judgement}
+use Rattle.lq_verdict.specs.declared.judgement.Judgement.TheVariants.{Accepted, Rejected, Undecided}
+use Rattle.lq_verdict.specs.declared.judgement.Refusal.{Refusal}
+use Rattle.lq_verdict.specs.declared.judgement.Refusal.TheVariants.{Code, Memory}
 
 -- the judgement that is due, and how much was solved for it
 abbrev pub IsJudged : ℕ → Bytes → Judged → Type 0

@@ -16,7 +16,7 @@ use Rattle.lq_safe.specs.Programs.{no_symbols}
 use Rattle.lq_straight_texts.specs.Straight.{AreStraight}
 use Rattle.lq_text_safe.specs.Safety.{IsSafe}
 use Rattle.lq_judge.specs.Agreeing.{IsOfProver}
-use Rattle.lq_judge.specs.Judgement.{IsAccepted, IsUndecided, instances_of}
+use Rattle.lq_verdict.specs.Judgement.{IsAccepted, IsUndecided, instances_of}
 
 -- ---- safety: on every input no number of steps meets a fault or gets stuck
 

@@ -5,23 +5,14 @@ ghost use Rattle.lq_bound_texts.specs.Views.{IsBy};
 ghost use Rattle.lq_lex.specs.declared.limits.TheConstants.{TEXT_LIMIT};
 ghost use Rattle.lq_posed_texts.specs.Stages.{PosesTo};
 ghost use Rattle.lq_judge.specs.Answers.{IsDecided, IsExact, IsJudged, IsRefusal, IsSafe};
-ghost use Rattle.lq_judge.specs.Judgement.{IsJudgement};
+ghost use Rattle.lq_verdict.specs.Judgement.{IsJudgement};
 
-use crate::counting::Counts;
-use crate::judgement::{Judgement, Refusal};
 use crate::laws::{accepted_are_safe, one_judgement, small_are_decided};
-use crate::verdict::verdict_on;
 use lq_bound_texts::Refusing;
 use lq_posed_texts::pose_texts;
 use lq_report::refusal_text;
+use lq_verdict::{Judged, Judgement, Refusal, verdict_on};
 use std::alloc::Global;
-
-/// A judgement, and how much was solved for it.
-#[derive(Debug, Drop)]
-pub struct Judged {
-    pub counts: Counts,
-    pub judgement: Judgement,
-}
 
 // How texts are refused.
 fn refusal_of(alloc: Global, refusing: Refusing) -> Refusal

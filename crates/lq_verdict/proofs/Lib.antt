@@ -1,0 +1,5 @@
+-- Lemmas.
+mod Posed
+mod Scoped
+mod Taken
+mod Totals

@@ -1,0 +1,210 @@
+// The judgement on what is to be solved for three texts.
+ghost use Rattle.std.specs.Prelude.{◌≡◌, ◌<◌, ◌≤◌, ◌^◌, ℕ, length, map, slice_get, IfOk, IfSome};
+ghost use Rattle.lq_annotated.specs.Whole.{program_of};
+ghost use Rattle.lq_implications.specs.Views.{implications_of};
+ghost use Rattle.lq_inferred.specs.Lines.{types_text_of};
+ghost use Rattle.lq_inferred.specs.Views.{inferred_in, AreThere};
+ghost use Rattle.lq_parts.specs.Flowing.{IsStrongest};
+ghost use Rattle.lq_pointed.specs.BlockView.{program_view};
+ghost use Rattle.lq_posed_texts.specs.Stages.{Typed};
+ghost use Rattle.lq_posed_texts.specs.Views.{IsPosedView};
+ghost use Rattle.lq_pred.specs.PredView.{implication_of};
+ghost use Rattle.lq_pretty.specs.Calling.{AreOrdinals};
+ghost use Rattle.lq_pretty.specs.Views.{source_view};
+ghost use Rattle.lq_questions.specs.Assigned.{assignment_of, closed_under, constraints_of, instances_in};
+ghost use Rattle.lq_substitution.specs.Views.{scopes_view};
+ghost use Rattle.lq_weaken.specs.Gathering.{AreGathered};
+ghost use Rattle.lq_weaken.specs.Stops.{StopsSolving};
+ghost use Rattle.lq_weakening.specs.Chosen.{chosen_in};
+ghost use Rattle.lq_weakening.specs.Solving.{HasNoSolution};
+ghost use Rattle.lq_weakening.specs.declared.error.SolveError.TheVariants.{At};
+ghost use Rattle.lq_verdict.specs.Counting.{HasCounts};
+ghost use Rattle.lq_verdict.specs.Judgement.{IsVerdictOn};
+ghost use Rattle.lq_verdict.specs.Names.{parameters_in, written_by};
+ghost use Rattle.lq_verdict.specs.Posed.{IsPosed, IsSolution};
+
+use crate::counting::counts_of;
+use crate::judgement::{Judged, Judgement};
+use crate::naming::{binder_sources, calling_of, parameters_of};
+use lq_failure::{explain_text, failure_text, ordinals, undecided_text};
+use lq_implications::Implications;
+use lq_inferred::{assignment_of, types_text};
+use lq_instances::Instances;
+use lq_name::{Name, TextBuf};
+use lq_point::Point;
+use lq_posed_texts::{PosedTexts, TypedTexts};
+use lq_pred::{Closed, Stop};
+use lq_problem::Problem;
+use lq_questions::closed_implication;
+use lq_type_text::Writing;
+use lq_weaken::solve;
+use lq_weakening::{Chosen, SolveError, Solved};
+use std::alloc::{AllocError, Global};
+
+// ---- accepted
+
+// The types of the program's definitions, the chosen instances in place of their unknowns.
+fn types_under(
+    alloc: Global,
+    texts: &TypedTexts,
+    problem: &mut Problem,
+    chosen: &Chosen,
+) -> Result<TextBuf, AllocError>
+    requires few { length (program_of texts.now.noted.program.annotated).sources ≤ 2 ^ 31 }
+    requires there { AreThere problem.old.types problem.old.templates.items }
+    ensures { IfOk result (λ text. text ≡ types_text_of (inferred_in (scopes_view problem.old.scopes) problem.old.types
+        problem.old.templates.items (assignment_of problem.old.instances chosen.now) (written_by texts.now.names
+        (program_of texts.now.noted.program.annotated).sources
+        (parameters_in (program_of texts.now.noted.program.annotated).datatypes))) (program_view problem.old.program.items)) }
+{
+    let program = texts.noted.program().annotated().scoped();
+    let sources = binder_sources(alloc, program)?;
+    let parameters = parameters_of(alloc, program.datatypes())?;
+    let writing = Writing {
+        table: &texts.names,
+        sources: &sources,
+        parameters: &parameters,
+    };
+    let assignment = assignment_of(alloc, &problem.instances, chosen)?;
+    types_text(
+        alloc,
+        &problem.program,
+        &problem.templates,
+        &mut problem.types,
+        &problem.scopes,
+        &assignment,
+        &writing,
+    )
+}
+
+// The judgement where there is a strongest solution.
+fn accepted(alloc: Global, posed: &mut PosedTexts, chosen: &Chosen) -> Result<Judgement, AllocError>
+    requires posed { IsPosed posed.old }
+    requires gathered { AreGathered (instances_in posed.old.problem.instances) (constraints_of posed.old.problem.implications) }
+    requires strongest { IsStrongest (instances_in posed.old.problem.instances) (constraints_of posed.old.problem.implications)
+        (chosen_in chosen.now) }
+    ensures { IfOk result (λ j. (limit : ℕ) (t : Typed) → IsPosedView posed.old t → IsVerdictOn limit t j) }
+{
+    let text = types_under(alloc, &posed.texts, &mut posed.problem, chosen)?;
+    Ok(Judgement::Accepted(text))
+}
+
+// ---- rejected, and undecided
+
+// The source names of binders, and which binder of its name each is.
+#[derive(Drop)]
+struct Names {
+    sources: Vec<Option<Name>>,
+    ordinals: Vec<usize>,
+}
+
+fn names_of(alloc: Global, texts: &TypedTexts) -> Result<Names, AllocError>
+    requires { length (program_of texts.now.noted.program.annotated).sources ≤ 2 ^ 31 }
+    ensures sources { IfOk result (λ n. map source_view n.sources.items ≡ (program_of texts.now.noted.program.annotated).sources) }
+    ensures ordinals { IfOk result (λ n. AreOrdinals (map source_view n.sources.items) n.ordinals.items) }
+{
+    let sources = binder_sources(alloc, texts.noted.program().annotated().scoped())?;
+    let ordinals = ordinals(alloc, &sources)?;
+    Ok(Names { sources, ordinals })
+}
+
+// The implication of a number with the chosen instances in place of its unknowns.
+fn closed_at(
+    alloc: Global,
+    implications: &Implications,
+    at: u64,
+    instances: &Instances,
+    chosen: &Chosen,
+) -> Result<Closed, AllocError>
+    requires there { at < length (implications_of implications.now) }
+    requires few { length (implications_of implications.now) ≤ 262144 }
+    ensures { IfOk result (λ closed. IfSome (slice_get (constraints_of implications.now) at)
+        (λ k. implication_of closed ≡ closed_under (assignment_of instances.now chosen.now) k)) }
+{
+    match closed_implication(alloc, implications, at as u32, instances, chosen)? {
+        Some(closed) => Ok(closed),
+        None => unreachable!(),
+    }
+}
+
+// The judgement where a demand fails.
+fn rejected(
+    alloc: Global,
+    posed: &PosedTexts,
+    chosen: &Chosen,
+    at: u64,
+    point: &Point,
+) -> Result<Judgement, AllocError>
+    requires posed { IsPosed posed.now }
+    requires few { length (implications_of posed.now.problem.implications) ≤ 262144 }
+    requires gathered { AreGathered (instances_in posed.now.problem.instances) (constraints_of posed.now.problem.implications) }
+    requires none { HasNoSolution (instances_in posed.now.problem.instances) (constraints_of posed.now.problem.implications)
+        (chosen_in chosen.now) at point.now }
+    ensures { IfOk result (λ j. (limit : ℕ) (t : Typed) → IsPosedView posed.now t → IsVerdictOn limit t j) }
+{
+    let names = names_of(alloc, &posed.texts)?;
+    let calling = calling_of(&posed.texts.names, &names.sources, &names.ordinals);
+    let implications = &posed.problem.implications;
+    let closed = closed_at(alloc, implications, at, &posed.problem.instances, chosen)?;
+    let failure = failure_text(alloc, &calling, implications, at, &closed, point)?;
+    let explained = explain_text(alloc, &calling, implications, at, &closed, point)?;
+    Ok(Judgement::Rejected(failure, explained))
+}
+
+// The judgement where an implication isn't decided.
+fn undecided(
+    alloc: Global,
+    posed: &PosedTexts,
+    at: u64,
+    stop: &Stop,
+) -> Result<Judgement, AllocError>
+    requires posed { IsPosed posed.now }
+    requires stops { (limit : ℕ) × StopsSolving limit (instances_in posed.now.problem.instances)
+        (constraints_of posed.now.problem.implications) (At at stop.now) }
+    ensures { IfOk result (λ j. (limit : ℕ) (t : Typed) → StopsSolving limit (instances_in posed.now.problem.instances)
+        (constraints_of posed.now.problem.implications) (At at stop.now) → IsPosedView posed.now t → IsVerdictOn limit t j) }
+{
+    let names = names_of(alloc, &posed.texts)?;
+    let calling = calling_of(&posed.texts.names, &names.sources, &names.ordinals);
+    let cause = undecided_text(alloc, &calling, &posed.problem.implications, at, stop)?;
+    Ok(Judgement::Undecided(cause))
+}
+
+// ---- the judgement
+
+// The judgement by what solving gave.
+fn judgement_by(
+    alloc: Global,
+    posed: &mut PosedTexts,
+    solved: &Result<Solved, SolveError>,
+) -> Result<Judgement, AllocError>
+    requires posed { IsPosed posed.old }
+    requires few { length (implications_of posed.old.problem.implications) ≤ 262144 }
+    requires solved { (limit : ℕ) × IsSolution limit (instances_in posed.old.problem.instances)
+        (constraints_of posed.old.problem.implications) solved.now }
+    ensures { IfOk result (λ j. (limit : ℕ) (t : Typed) → IsSolution limit (instances_in posed.old.problem.instances)
+        (constraints_of posed.old.problem.implications) solved.now → IsPosedView posed.old t → IsVerdictOn limit t j) }
+{
+    match solved {
+        Ok(Solved::Strongest(chosen)) => accepted(alloc, posed, chosen),
+        Ok(Solved::NoSolution(chosen, at, point)) => rejected(alloc, posed, chosen, *at, point),
+        Err(SolveError::At(at, stop)) => undecided(alloc, posed, *at, stop),
+        Err(SolveError::Memory) => Err(AllocError),
+    }
+}
+
+/// The judgement on what was posed, and how much was solved for it. A check of the prover takes at most `limit` pivots.
+pub fn verdict_on(
+    alloc: Global,
+    posed: &mut PosedTexts,
+    limit: u64,
+) -> Result<Judged, AllocError>
+    requires { IsPosed posed.old }
+    ensures { IfOk result (λ j. (t : Typed) → IsPosedView posed.old t → IsVerdictOn limit t j.judgement × HasCounts t j.counts) }
+{
+    let counts = counts_of(&posed.problem);
+    let problem = &posed.problem;
+    let solved = solve(alloc, &problem.implications, &problem.instances, limit);
+    let judgement = judgement_by(alloc, posed, &solved)?;
+    Ok(Judged { counts, judgement })
+}
