@@ -1,7 +1,8 @@
 -- Rows over the terms below a number.
-use Rattle.std.specs.Prelude.{◌≢◌, ℕ, ℤ, pos, List, All}
+use Rattle.std.specs.Prelude.{◌≡◌, ◌≢◌, ◌≤◌, ℕ, ℤ, pos, Bool, IsTrue, IsNone, List, All, length, take}
+use Rattle.lq_linear.specs.Contradiction.{Tagged, tagged}
 use Rattle.lq_linear.specs.Difference as linear
-use Rattle.lq_linear.specs.Row.{AscendsFrom}
+use Rattle.lq_linear.specs.Row.{AscendsFrom, Row}
 use Rattle.lq_diff.specs.Table as diff
 
 -- the parts of a row over the terms below n, as both engines ask for it
@@ -10,3 +11,17 @@ pub record IsBelow (n : ℕ) (parts : List (ℕ × ℤ)) : Type 0 where
   pub nonzero : All (λ part. part.1 ≢ pos 0) parts
   pub simplex_below : linear.TermsBelow n parts
   pub diff_below : diff.TermsBelow n parts
+
+-- a row that an engine is asked of: over 64 terms, and a difference row where it is to be one
+pub record IsAsked (differences : Bool) (r : Row) : Type 0 where
+  pub below : IsBelow 64 r.parts
+  pub difference : IsTrue differences → diff.IsDifference r.parts
+
+-- no row has a tag behind the places
+abbrev pub AreByPlace : Tagged → Type 0
+AreByPlace rows = (t : ℕ) → length rows ≤ t → IsNone (tagged rows t)
+
+-- these stand, and others behind them
+pub record StandBehind (before after : Tagged) : Type 0 where
+  pub front : take (length before) after ≡ before
+  pub more : length before ≤ length after

@@ -4,7 +4,7 @@ use crate::fractions::{operated, operation, ordered, parted};
 use crate::points::pointed;
 use crate::predicates::{gathered, numbered, read};
 use crate::printing::push_past;
-use crate::systems::{generated, limited, multiplied, solved, valued};
+use crate::systems::{asked_again, generated, limited, multiplied, solved, valued};
 use crate::words::{plain, words_of};
 use lq_num::NumberPast;
 use std::alloc::{AllocError, Global};
@@ -16,6 +16,7 @@ fn by_rows(alloc: Global, kind: &str, rest: &[&str]) -> Result<String, CaseError
         "pivots" => limited(alloc, rest),
         "values" => valued(alloc, rest),
         "multipliers" => multiplied(alloc, rest),
+        "again" => asked_again(alloc, rest),
         "generated" => generated(alloc, rest),
         _ => Err(CaseError::NotACase),
     }

@@ -1,94 +1,91 @@
-// The two engines, filled with the rows of a case, each tagged with its place.
-ghost use Rattle.std.specs.Prelude.{◌≡◌, ◌≢◌, ◌≤◌, ◌<◌, ◌+◌, ℕ, [], ◌∷◌, length, IsNone, IfOk, IfSome, OnOk};
-ghost use Rattle.lq_linear.specs.Answers.{Nothing, Stopped};
-ghost use Rattle.lq_linear.specs.Contradiction.{tagged};
-ghost use Rattle.lq_linear.specs.Difference as linear;
-ghost use Rattle.lq_diff.specs.Table as diff;
-ghost use Rattle.lq_simplex.specs.Table as table;
+// The engines take the rows of a case, each tagged with its place, and are asked of them.
+ghost use Rattle.std.specs.Prelude.{◌≡◌, ◌≢◌, ◌≤◌, ◌<◌, ℕ, IfOk, OnOk, length};
+ghost use Rattle.lq_linear.specs.Answers.{Stopped};
+ghost use Rattle.lq_linear.specs.Contradiction.{Tagged, tagged};
+ghost use Rattle.lq_linear.specs.Row.{Row};
+ghost use Rattle.lq_engine_cases.specs.Rows.{AreByPlace, IsAsked, StandBehind};
 
-use crate::error::CaseError;
-use crate::rows::{RowCase, TERMS, is_difference, linear_row};
-use lq_diff::DistanceTable;
+use crate::error::{CaseError, given};
+use crate::evidence::{Outcome, ask_engine};
+use crate::rows::{RowCase, is_difference, linear_row};
 use lq_linear::{LinearEngine, LinearRow};
-use lq_simplex::Tableau;
 use std::alloc::Global;
 
-/// Adds a row, tagged with its place.
-fn add_to_tableau(
-    tableau: &mut Tableau,
-    row: &LinearRow,
-    tag: u64,
-    limit: u64,
-) -> Result<(), CaseError>
-    requires limits { table.table_limits tableau.old ≡ 64 ∷ limit ∷ [] }
-    requires few { length (table.table_rows tableau.old) ≡ tag }
-    requires fresh { (t : ℕ) → tag ≤ t → IsNone (tagged (table.table_rows tableau.old) t) }
-    requires going { table.table_last tableau.old ≢ Stopped }
-    requires below { linear.TermsBelow 64 row.now.parts }
-    ensures limits { OnOk result (table.table_limits tableau.new ≡ 64 ∷ limit ∷ []) }
-    ensures rows { OnOk result (length (table.table_rows tableau.new) ≡ tag + 1) }
-    ensures fresh { OnOk result ((t : ℕ) → tag + 1 ≤ t → IsNone (tagged (table.table_rows tableau.new) t)) }
-    ensures last { OnOk result (table.table_last tableau.new ≡ Nothing) }
+/// How many rows an engine is asked of at most.
+pub(crate) const ROWS: u64 = 64;
+
+/// Has the engine take a row, tagged with its place.
+fn take_row<E: LinearEngine>(engine: &mut E, row: &LinearRow) -> Result<(), CaseError>
+    requires takes { E.takes (E.limits engine.old) (E.standing engine.old) row.now }
+    requires placed { AreByPlace (E.standing engine.old) }
+    requires going { E.last engine.old ≢ Stopped }
+    ensures limits { E.limits engine.new ≡ E.limits engine.old }
+    ensures placed { AreByPlace (E.standing engine.new) }
+    ensures behind { StandBehind (E.standing engine.old) (E.standing engine.new) }
+    ensures going { OnOk result (E.last engine.new ≢ Stopped) }
 {
-    match tableau.assert_row(row, tag) {
+    let tag = engine.mark().0;
+    match engine.assert_row(row, tag) {
         Ok(()) => Ok(()),
         Err(stop) => Err(CaseError::Stop(stop)),
     }
 }
 
-/// A tableau with the rows.
-pub(crate) fn tableau_of(alloc: Global, limit: u64, rows: &[RowCase]) -> Result<Tableau, CaseError>
-    ensures { IfOk result (λ tableau. table.table_last tableau ≡ Nothing) }
-{
-    let mut tableau = Tableau::new(alloc, TERMS, limit)?;
-    for (at, row) in rows.iter().enumerate() {
-        let row = linear_row(alloc, row)?;
-        add_to_tableau(&mut tableau, &row, at as u64, limit)?;
-    }
-    Ok(tableau)
-}
-
-/// Adds a row, tagged with its place.
-fn add_to_distances(
-    distances: &mut DistanceTable,
-    row: &LinearRow,
-    tag: u64,
-) -> Result<(), CaseError>
-    requires limits { diff.table_limits distances.old ≡ 64 ∷ 64 ∷ [] }
-    requires few { length (diff.table_rows distances.old) ≡ tag }
-    requires room { tag < 64 }
-    requires fresh { (t : ℕ) → tag ≤ t → IsNone (tagged (diff.table_rows distances.old) t) }
-    requires going { diff.table_last distances.old ≢ Stopped }
-    requires difference { diff.IsDifference row.now.parts }
-    requires below { diff.TermsBelow 64 row.now.parts }
-    ensures limits { OnOk result (diff.table_limits distances.new ≡ 64 ∷ 64 ∷ []) }
-    ensures rows { OnOk result (length (diff.table_rows distances.new) ≡ tag + 1) }
-    ensures fresh { OnOk result ((t : ℕ) → tag + 1 ≤ t → IsNone (tagged (diff.table_rows distances.new) t)) }
-    ensures last { OnOk result (diff.table_last distances.new ≡ Nothing) }
-{
-    match distances.assert_row(row, tag) {
-        Ok(()) => Ok(()),
-        Err(stop) => Err(CaseError::Stop(stop)),
-    }
-}
-
-/// A table of distances with the rows, and None where one of them isn't a difference row.
-pub(crate) fn distances_of(
+/// Has the engine take rows behind those that stand. It is false where they are to be difference rows, and one isn't.
+pub(crate) fn take_rows<E: LinearEngine>(
     alloc: Global,
+    engine: &mut E,
     rows: &[RowCase],
-) -> Result<Option<DistanceTable>, CaseError>
-    ensures { IfOk result (λ made. IfSome made (λ distances. diff.table_last distances ≡ Nothing)) }
+    differences: bool,
+) -> Result<bool, CaseError>
+    requires takes { (s : Tagged) (r : Row) → length s < 64 → IsAsked differences r → E.takes (E.limits engine.old) s r }
+    requires placed { AreByPlace (E.standing engine.old) }
+    requires going { E.last engine.old ≢ Stopped }
+    ensures limits { E.limits engine.new ≡ E.limits engine.old }
+    ensures placed { AreByPlace (E.standing engine.new) }
+    ensures behind { StandBehind (E.standing engine.old) (E.standing engine.new) }
+    ensures going { OnOk result (E.last engine.new ≢ Stopped) }
 {
-    let mut distances = DistanceTable::new(alloc, TERMS, 64)?;
-    for (at, row) in rows.iter().enumerate() {
-        if at >= 64 {
+    for row in rows {
+        if engine.mark().0 >= ROWS {
             return Err(CaseError::NotACase);
         }
         let row = linear_row(alloc, row)?;
-        if !is_difference(row.parts()) {
-            return Ok(None);
+        if differences && !is_difference(row.parts()) {
+            return Ok(false);
         }
-        add_to_distances(&mut distances, &row, at as u64)?;
+        take_row(engine, &row)?;
     }
-    Ok(Some(distances))
+    Ok(true)
+}
+
+/// The outcome where the rows weren't taken: the engine stopped, or there is no case.
+fn untaken(error: CaseError) -> Result<Option<Outcome>, CaseError> {
+    match error {
+        CaseError::Stop(stop) => Ok(Some(Outcome::Stops(stop))),
+        CaseError::NotACase | CaseError::Ungathered | CaseError::Past(_) | CaseError::Memory => {
+            Err(error)
+        }
+    }
+}
+
+/// What the engine answers of rows, the first of which stand: nothing where they are to be difference rows, and one isn't.
+pub(crate) fn outcome_of<E: LinearEngine>(
+    alloc: Global,
+    engine: &mut E,
+    rows: &[RowCase],
+    differences: bool,
+) -> Result<Option<Outcome>, CaseError>
+    requires takes { (s : Tagged) (r : Row) → length s < 64 → IsAsked differences r → E.takes (E.limits engine.old) s r }
+    requires placed { AreByPlace (E.standing engine.old) }
+    requires going { E.last engine.old ≢ Stopped }
+    ensures limits { E.limits engine.new ≡ E.limits engine.old }
+    ensures behind { StandBehind (E.standing engine.old) (E.standing engine.new) }
+{
+    let next = given(rows.get(engine.mark().0 as usize..))?;
+    match take_rows(alloc, engine, next, differences) {
+        Ok(true) => Ok(Some(ask_engine(alloc, engine, rows)?)),
+        Ok(false) => Ok(None),
+        Err(error) => untaken(error),
+    }
 }

@@ -1,10 +1,13 @@
 // An engine's answer, checked by its own evidence.
 ghost use Rattle.std.specs.Prelude.{◌≡◌, ◌≢◌, IfOk};
-ghost use Rattle.lq_linear.specs.Answers.{Held, Conflicted, Stopped};
+ghost use Rattle.lq_linear.specs.Answers.{Held, Conflicted, Stopped, verdict_of};
+ghost use Rattle.lq_linear.specs.Contradiction.{Solves};
+ghost use Rattle.lq_linear.specs.Row.{Valuation};
+ghost use Rattle.lq_linear.specs.declared.engine.Verdict.TheVariants.{Holds, Conflict};
 
 use crate::error::{CaseError, given};
 use crate::rows::{RowCase, TERMS};
-use lq_linear::{LinearEngine, LinearStop, Verdict};
+use lq_linear::{LinearEngine, LinearStop, Verdict, conflict_or_point};
 use lq_num::{Frac, NumberPast};
 use std::alloc::Global;
 
@@ -131,6 +134,25 @@ fn founded(verdict: Verdict, evidence: bool) -> Outcome {
     }
 }
 
+/// The verdict of an engine: what it says of the rows that stand, whatever the engine.
+fn decide<E: LinearEngine>(engine: &mut E) -> Result<Verdict, LinearStop>
+    requires { E.last engine.old ≢ Stopped }
+    ensures solved { IfOk result (λ verdict. verdict ≡ Holds → Solves (E.point engine.new) (E.standing engine.old)) }
+    ensures refuted { IfOk result (λ verdict. verdict ≡ Conflict → (v : Valuation)
+        → ¬ (Solves v (E.standing engine.old))) }
+    ensures answer { IfOk result (λ verdict. E.last engine.new ≡ verdict_of verdict) }
+    ensures limits { E.limits engine.new ≡ E.limits engine.old }
+    ensures stands { E.standing engine.new ≡ E.standing engine.old }
+{
+    match engine.check() {
+        Ok(verdict) => {
+            conflict_or_point();
+            Ok(verdict)
+        }
+        Err(stop) => Err(stop),
+    }
+}
+
 /// What an engine answers of the rows that stand.
 pub(crate) fn ask_engine<E: LinearEngine>(
     alloc: Global,
@@ -138,8 +160,10 @@ pub(crate) fn ask_engine<E: LinearEngine>(
     rows: &[RowCase],
 ) -> Result<Outcome, CaseError>
     requires { E.last engine.old ≢ Stopped }
+    ensures limits { E.limits engine.new ≡ E.limits engine.old }
+    ensures stands { E.standing engine.new ≡ E.standing engine.old }
 {
-    match engine.check() {
+    match decide(engine) {
         Ok(Verdict::Holds) => Ok(founded(Verdict::Holds, solves(engine, rows)?)),
         Ok(Verdict::Conflict) => Ok(founded(Verdict::Conflict, contradicts(alloc, engine, rows)?)),
         Err(stop) => Ok(Outcome::Stops(stop)),

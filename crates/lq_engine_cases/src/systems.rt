@@ -1,14 +1,20 @@
-// Cases of rows: `system ROWS`, `pivots LIMIT ROWS`, `values ROWS`, `multipliers ROWS`, `generated SEED COUNT`.
-ghost use Rattle.std.specs.Prelude.{◌≢◌};
+// Cases of rows: `system ROWS`, `pivots LIMIT ROWS`, `values ROWS`, `multipliers ROWS`, `again ROWS then ROWS then ROWS`,
+// `generated SEED COUNT`.
+ghost use Rattle.std.specs.Prelude.{◌≡◌, ◌≢◌, ◌<◌, [], length};
 ghost use Rattle.lq_linear.specs.Answers.{Stopped};
+ghost use Rattle.lq_linear.specs.Contradiction.{Tagged};
+ghost use Rattle.lq_linear.specs.Row.{Row};
+ghost use Rattle.lq_engine_cases.specs.Rows.{AreByPlace, IsAsked};
 
-use crate::engines::{distances_of, tableau_of};
+use crate::engines::{ROWS, outcome_of, take_rows};
 use crate::error::{CaseError, given};
-use crate::evidence::{Outcome, ask_engine};
+use crate::evidence::Outcome;
 use crate::printing::{push_fraction, push_past};
-use crate::rows::{RowCase, rows_of};
+use crate::rows::{RowCase, TERMS, rows_of};
+use lq_diff::DistanceTable;
 use lq_linear::{LinearEngine, LinearStop, Verdict};
 use lq_num::Frac;
+use lq_simplex::Tableau;
 use std::alloc::{AllocError, Global};
 use std::fmt::Write;
 
@@ -27,33 +33,16 @@ fn push_outcome(out: &mut String, outcome: &Outcome) -> Result<(), AllocError> {
     }
 }
 
-/// The outcome where the rows weren't taken: the engine stopped, or there is no case.
-fn untaken(error: CaseError) -> Result<Outcome, CaseError> {
-    match error {
-        CaseError::Stop(stop) => Ok(Outcome::Stops(stop)),
-        CaseError::NotACase | CaseError::Ungathered | CaseError::Past(_) | CaseError::Memory => {
-            Err(error)
-        }
-    }
-}
-
 /// The outcome of the tableau.
 fn by_tableau(alloc: Global, limit: u64, rows: &[RowCase]) -> Result<Outcome, CaseError> {
-    let mut tableau = match tableau_of(alloc, limit, rows) {
-        Ok(tableau) => tableau,
-        Err(e) => return untaken(e),
-    };
-    ask_engine(alloc, &mut tableau, rows)
+    let mut tableau = Tableau::new(alloc, TERMS, limit)?;
+    given(outcome_of(alloc, &mut tableau, rows, false)?)
 }
 
 /// The outcome of the table of distances, where the rows are difference rows.
 fn by_distances(alloc: Global, rows: &[RowCase]) -> Result<Option<Outcome>, CaseError> {
-    let mut distances = match distances_of(alloc, rows) {
-        Ok(Some(distances)) => distances,
-        Ok(None) => return Ok(None),
-        Err(e) => return Ok(Some(untaken(e)?)),
-    };
-    Ok(Some(ask_engine(alloc, &mut distances, rows)?))
+    let mut distances = DistanceTable::new(alloc, TERMS, ROWS)?;
+    outcome_of(alloc, &mut distances, rows, true)
 }
 
 fn push_solved(alloc: Global, out: &mut String, rows: &[RowCase]) -> Result<(), CaseError> {
@@ -80,6 +69,86 @@ pub(crate) fn limited(alloc: Global, words: &[&str]) -> Result<String, CaseError
     let limit = given(given(words.first())?.parse::<u64>().ok())?;
     let rows = rows_of(alloc, given(words.get(1..))?)?;
     push_outcome(&mut out, &by_tableau(alloc, limit, rows.as_slice())?)?;
+    Ok(out)
+}
+
+/// What an engine answers of these rows, of which so many stand at a mark; and of the others, once it is back at the mark. It is nothing
+/// where they are to be difference rows, and one isn't.
+fn both_outcomes<E: LinearEngine>(
+    alloc: Global,
+    engine: &mut E,
+    turns: &Turns,
+    differences: bool,
+) -> Result<Option<(Outcome, Outcome)>, CaseError>
+    requires takes { (s : Tagged) (r : Row) → length s < 64 → IsAsked differences r → E.takes (E.limits engine.old) s r }
+    requires placed { AreByPlace (E.standing engine.old) }
+    requires going { E.last engine.old ≢ Stopped }
+{
+    if !take_rows(alloc, engine, given(turns.first.get(..turns.kept))?, differences)? {
+        return Ok(None);
+    }
+    let mark = engine.mark();
+    let first = outcome_of(alloc, engine, &turns.first, differences)?;
+    engine.back_to(mark);
+    let second = outcome_of(alloc, engine, &turns.second, differences)?;
+    Ok(first.zip(second))
+}
+
+/// Rows that an engine is asked of in turn. So many of the first ones are the same in both.
+#[derive(Drop)]
+struct Turns {
+    kept: usize,
+    first: Vec<RowCase>,
+    second: Vec<RowCase>,
+}
+
+/// The rows of two lists of words.
+fn joined(alloc: Global, kept: &[&str], more: &[&str]) -> Result<Vec<RowCase>, CaseError> {
+    let mut words = Vec::from_slice(alloc, kept)?;
+    words.extend_from_slice(more)?;
+    rows_of(alloc, &words)
+}
+
+/// The rows of three lists of words with `then` between them.
+fn turns_of(alloc: Global, words: &[&str]) -> Result<Turns, CaseError> {
+    let mut parts = words.split(|word| *word == "then");
+    let kept = given(parts.next())?;
+    let first = joined(alloc, kept, given(parts.next())?)?;
+    let second = joined(alloc, kept, given(parts.next())?)?;
+    if parts.next().is_some() {
+        return Err(CaseError::NotACase);
+    }
+    let kept = rows_of(alloc, kept)?.len();
+    Ok(Turns {
+        kept,
+        first,
+        second,
+    })
+}
+
+fn push_both(
+    out: &mut String,
+    engine: &str,
+    first: &Outcome,
+    second: &Outcome,
+) -> Result<(), AllocError> {
+    out.push_str(engine)?;
+    push_outcome(out, first)?;
+    out.push_str(" then ")?;
+    push_outcome(out, second)
+}
+
+/// What both engines answer of rows behind a mark, and of others once they are back at it.
+pub(crate) fn asked_again(alloc: Global, words: &[&str]) -> Result<String, CaseError> {
+    let mut out = String::new(alloc);
+    let turns = turns_of(alloc, words)?;
+    let mut tableau = Tableau::new(alloc, TERMS, PIVOTS)?;
+    let (first, second) = given(both_outcomes(alloc, &mut tableau, &turns, false)?)?;
+    push_both(&mut out, "tableau ", &first, &second)?;
+    let mut distances = DistanceTable::new(alloc, TERMS, ROWS)?;
+    if let Some((first, second)) = both_outcomes(alloc, &mut distances, &turns, true)? {
+        push_both(&mut out, ", distances ", &first, &second)?;
+    }
     Ok(out)
 }
 
@@ -121,12 +190,13 @@ pub(crate) fn valued(alloc: Global, words: &[&str]) -> Result<String, CaseError>
     let mut out = String::new(alloc);
     let rows = rows_of(alloc, words)?;
     let terms = terms_of(rows.as_slice());
-    match distances_of(alloc, rows.as_slice())? {
-        Some(mut distances) => push_values(&mut out, &mut distances, terms)?,
-        None => {
-            let mut tableau = tableau_of(alloc, PIVOTS, rows.as_slice())?;
-            push_values(&mut out, &mut tableau, terms)?;
-        }
+    let mut distances = DistanceTable::new(alloc, TERMS, ROWS)?;
+    if take_rows(alloc, &mut distances, &rows, true)? {
+        push_values(&mut out, &mut distances, terms)?;
+    } else {
+        let mut tableau = Tableau::new(alloc, TERMS, PIVOTS)?;
+        take_rows(alloc, &mut tableau, &rows, false)?;
+        push_values(&mut out, &mut tableau, terms)?;
     }
     Ok(out)
 }
@@ -166,12 +236,13 @@ fn push_multipliers<E: LinearEngine>(
 pub(crate) fn multiplied(alloc: Global, words: &[&str]) -> Result<String, CaseError> {
     let mut out = String::new(alloc);
     let rows = rows_of(alloc, words)?;
-    match distances_of(alloc, rows.as_slice())? {
-        Some(mut distances) => push_multipliers(alloc, &mut out, &mut distances, rows.len())?,
-        None => {
-            let mut tableau = tableau_of(alloc, PIVOTS, rows.as_slice())?;
-            push_multipliers(alloc, &mut out, &mut tableau, rows.len())?;
-        }
+    let mut distances = DistanceTable::new(alloc, TERMS, ROWS)?;
+    if take_rows(alloc, &mut distances, &rows, true)? {
+        push_multipliers(alloc, &mut out, &mut distances, rows.len())?;
+    } else {
+        let mut tableau = Tableau::new(alloc, TERMS, PIVOTS)?;
+        take_rows(alloc, &mut tableau, &rows, false)?;
+        push_multipliers(alloc, &mut out, &mut tableau, rows.len())?;
     }
     Ok(out)
 }
