@@ -1,6 +1,5 @@
 -- What replacements, parts and scopes of the code stand for.
 use Rattle.std.specs.Prelude.{ℕ, List, [], ◌∷◌, ◌++◌, map, slice_index_or}
-use Rattle.lq_environments.specs.Whole.{environments_of}
 use Rattle.lq_parts.specs.Part as parts
 use Rattle.lq_parts.specs.Part.{known, unknown}
 use Rattle.lq_parts.specs.Substitution as swaps
@@ -9,7 +8,7 @@ use Rattle.lq_pred.specs.PredView.{formula_of}
 use Rattle.lq_pred.specs.TermView.{sum_of}
 use Rattle.lq_pred.specs.declared.symbol.Symbol.{Symbol}
 use Rattle.lq_pred.specs.declared.symbol.Symbol.TheVariants.{Value}
-use Rattle.lq_substitution.specs.Numbered.{lists_at}
+use Rattle.lq_substitution.specs.Scopes.{grown, list_at}
 use Rattle.lq_substitution.specs.declared.atoms.Atom.{Atom}
 use Rattle.lq_substitution.specs.declared.atoms.Atom.TheVariants as of
 use Rattle.lq_substitution.specs.declared.composing.Kept.{Kept}
@@ -43,10 +42,10 @@ rest_kept scope k σ = map swap_view k.items.items ++ kept scope k.terms.items k
 
 -- the symbols of each scope, by its number
 abbrev pub scope_lists : Scopes → List (List Symbol)
-scope_lists all = lists_at Value all.symbols.items (environments_of all.environments)
+scope_lists all = grown ([] ∷ []) all.entries.items
 
 abbrev pub scope_at : Scopes → ℕ → List Symbol
-scope_at all i = slice_index_or (scope_lists all) i []
+scope_at all i = list_at (scope_lists all) i
 
 -- the scope of each unknown, by its number
 abbrev pub unknown_scopes : Scopes → List ℕ

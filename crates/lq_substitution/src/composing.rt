@@ -14,7 +14,7 @@ use std::alloc::{AllocError, Global};
 pub fn after(alloc: Global, first: &Subst, second: &Subst) -> Result<Subst, AllocError>
     ensures { IfOk result (λ both. subst_view both ≡ after (subst_view first.now) (subst_view second.now)) }
 {
-    let mut items = Vec::new(alloc);
+    let mut items = Vec::with_capacity(alloc, first.items.len() + second.items.len())?;
     for swap in &second.items {
         let atom = substitute_atom(alloc, &swap.atom, first)?;
         items.push(Swap {
@@ -91,10 +91,11 @@ pub fn restricted(
     let mut kept = Kept {
         terms: Vec::new(alloc),
         flags: Vec::new(alloc),
-        items: Vec::new(alloc),
+        items: Vec::with_capacity(alloc, by.items.len())?,
     };
     for swap in &by.items {
         take(alloc, &mut kept, scopes, unknown, swap)?;
     }
+    kept.items.shrink_to_fit();
     Ok(Subst { items: kept.items })
 }

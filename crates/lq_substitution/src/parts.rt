@@ -76,9 +76,8 @@ impl Parts {
     pub fn single(alloc: Global, part: Part) -> Result<Parts, AllocError>
         ensures { IfOk result (λ made. parts_view made ≡ part_view part ∷ []) }
     {
-        let mut parts = Parts::new(alloc);
-        parts.push(part)?;
-        Ok(parts)
+        let items = vec![in alloc; part]?;
+        Ok(Parts { items })
     }
 
     /// How many parts there are.
@@ -125,9 +124,11 @@ impl Parts {
     pub fn copy(&self, alloc: Global) -> Result<Parts, AllocError>
         ensures { IfOk result (λ made. parts_view made ≡ parts_view self.now) }
     {
-        let mut made = Parts::new(alloc);
-        made.extend(alloc, self)?;
-        Ok(made)
+        let mut items = Vec::with_capacity(alloc, self.items.len())?;
+        for part in &self.items {
+            items.push(part.copy(alloc)?)?;
+        }
+        Ok(Parts { items })
     }
 
     /// The parts with something put for their symbols.
@@ -135,7 +136,7 @@ impl Parts {
         ensures { IfOk result (λ made. parts_view made
             ≡ parts_by (scopes_view scopes.now) (subst_view by.now) (parts_view self.now)) }
     {
-        let mut items = Vec::new(alloc);
+        let mut items = Vec::with_capacity(alloc, self.items.len())?;
         for part in &self.items {
             items.push(part.by(alloc, scopes, by)?)?;
         }

@@ -1,26 +1,69 @@
 // The scopes of unknowns.
-ghost use Rattle.std.specs.Prelude.{length};
-ghost use Rattle.lq_environments.specs.Whole.{environments_of};
-ghost use Rattle.lq_substitution.specs.Numbered.{AreNumbered};
+ghost use Rattle.std.specs.Prelude.{◌≡◌, List, MatchOption};
+ghost use Rattle.lq_parts.specs.Substitution.{is_in};
+ghost use Rattle.lq_pred.specs.declared.symbol.Symbol.{Symbol as Names};
+ghost use Rattle.lq_substitution.specs.Scopes.{rank, shown, AreBelow, AreWithin};
 
 use crate::swaps::is_same_symbol;
-use lq_environments::Environments;
 use lq_pred::Symbol;
 use std::alloc::{AllocError, Global};
 
+// A scope: its parent, the symbol that it has besides, the symbol of the parent that it hasn't, and the highest rank of a symbol on the
+// way to the empty scope.
+#[derive(Clone, Copy, Debug)]
+struct Entry {
+    parent: u64,
+    symbol: Symbol,
+    hidden: Option<Symbol>,
+    highest: u64,
+}
+
+impl Entry {
+    // Whether the scope has a symbol; None where that is as in its parent.
+    fn has(&self, symbol: Symbol) -> Option<bool>
+        ensures { MatchOption result
+            ((up : List Names) → is_in (shown self.now up) symbol ≡ is_in up symbol)
+            (λ b. (up : List Names) → is_in (shown self.now up) symbol ≡ b) }
+    {
+        if is_same_symbol(self.symbol, symbol) {
+            return Some(true);
+        }
+        let hidden = self.hidden?;
+        if is_same_symbol(hidden, symbol) {
+            return Some(false);
+        }
+        None
+    }
+}
+
+// Positions rank above all binders.
+const POSITIONS: u64 = 1 << 32;
+
+// A binder that stands later in a text mostly ranks higher.
+fn rank(symbol: Symbol) -> u64
+    ensures { result ≡ rank symbol }
+{
+    match symbol {
+        Symbol::Value => 0,
+        Symbol::Bound(binder) => binder.0 as u64,
+        Symbol::Position(at) => at as u64 + POSITIONS,
+    }
+}
+
 /// For each unknown the symbols of which its instances may speak: the value, and those of a scope. Scopes are numbered from 0: the first is
-/// empty, and each other one has the symbols of an earlier one and one more. Nothing is copied.
+/// empty, and each other one has the symbols of an earlier one, but for one that it may hide, and one more. Nothing is copied.
 #[derive(Drop)]
 pub struct Scopes {
-    pub(crate) environments: Environments,
-    pub(crate) symbols: Vec<Symbol>,
-    pub(crate) unknowns: Vec<u64>,
-    ghost numbered: { AreNumbered (length symbols.items) (environments_of environments) },
+    entries: Vec<Entry>,
+    unknowns: Vec<u64>,
+    ghost parents: { AreBelow entries.items },
+    ghost within: { AreWithin entries.items },
 }
 
 impl Scopes {
-    ghost use Rattle.std.specs.Prelude.{◌≡◌, ◌<◌, [], ◌∷◌, ◌++◌, length, slice_index_or, IfOk, OnOk, OnErr};
+    ghost use Rattle.std.specs.Prelude.{◌≡◌, ◌<◌, ◌≤◌, [], ◌∷◌, ◌++◌, length, slice_get, slice_index_or, IfOk, IfSome, OnOk, OnErr, MatchOption};
     ghost use Rattle.lq_parts.specs.Substitution.{is_in};
+    ghost use Rattle.lq_substitution.specs.Scopes.{left, rank, shown, without, IsWithin};
     ghost use Rattle.lq_substitution.specs.Views.{scope_at, scope_lists, scopes_view, unknown_scopes};
 
     /// The empty scope alone, and no unknowns.
@@ -29,8 +72,7 @@ impl Scopes {
         ensures unknowns { IfOk result (λ all. unknown_scopes all ≡ []) }
     {
         Ok(Scopes {
-            environments: Environments::new(alloc)?,
-            symbols: Vec::new(alloc),
+            entries: Vec::new(alloc),
             unknowns: Vec::new(alloc),
         })
     }
@@ -39,7 +81,7 @@ impl Scopes {
     pub fn len(&self) -> u64
         ensures { result ≡ length (scope_lists self.now) }
     {
-        self.environments.len()
+        self.entries.len() as u64 + 1
     }
 
     /// How many unknowns there are.
@@ -58,10 +100,90 @@ impl Scopes {
         ensures kept { OnErr result (scope_lists self.new ≡ scope_lists self.old) }
         ensures unknowns { unknown_scopes self.new ≡ unknown_scopes self.old }
     {
-        let number = self.symbols.len() as u64;
-        self.symbols.push(symbol)?;
-        let added = self.environments.add(parent, number)?;
-        Ok(added)
+        self.extend(parent, symbol, None)
+    }
+
+    /// Adds a scope with the symbols of the parent but for one that it hides, and this one behind them, and answers its number.
+    pub fn add_hiding(
+        &mut self,
+        parent: u64,
+        symbol: Symbol,
+        hidden: Symbol,
+    ) -> Result<u64, AllocError>
+        requires { parent < length (scope_lists self.old) }
+        ensures added { OnOk result (scope_lists self.new ≡ scope_lists self.old
+            ++ (without hidden (scope_at self.old parent) ++ symbol ∷ []) ∷ []) }
+        ensures number { IfOk result (λ at. at ≡ length (scope_lists self.old)) }
+        ensures kept { OnErr result (scope_lists self.new ≡ scope_lists self.old) }
+        ensures unknowns { unknown_scopes self.new ≡ unknown_scopes self.old }
+    {
+        self.extend(parent, symbol, Some(hidden))
+    }
+
+    // One scope more, and its number.
+    fn extend(
+        &mut self,
+        parent: u64,
+        symbol: Symbol,
+        hidden: Option<Symbol>,
+    ) -> Result<u64, AllocError>
+        requires { parent < length (scope_lists self.old) }
+        ensures added { OnOk result (scope_lists self.new ≡ scope_lists self.old
+            ++ (left hidden (scope_at self.old parent) ++ symbol ∷ []) ∷ []) }
+        ensures number { IfOk result (λ at. at ≡ length (scope_lists self.old)) }
+        ensures kept { OnErr result (scope_lists self.new ≡ scope_lists self.old) }
+        ensures unknowns { unknown_scopes self.new ≡ unknown_scopes self.old }
+    {
+        let number = self.entries.len() as u64 + 1;
+        let highest = self.highest_of(parent, symbol);
+        self.entries.push(Entry {
+            parent,
+            symbol,
+            hidden,
+            highest,
+        })?;
+        Ok(number)
+    }
+
+    // The highest rank, where a symbol is added to a scope.
+    fn highest_of(&self, parent: u64, symbol: Symbol) -> u64
+        ensures parent { IsWithin result (scope_at self.now parent) }
+        ensures symbol { rank symbol ≤ result }
+    {
+        let own = rank(symbol);
+        match self.entry(parent) {
+            Some(entry) => {
+                if own < entry.highest {
+                    entry.highest
+                } else {
+                    own
+                }
+            }
+            None => own,
+        }
+    }
+
+    // What was added at an index of the table.
+    fn added(&self, at: usize) -> Option<Entry>
+        ensures { result ≡ slice_get self.now.entries.items at }
+    {
+        match self.entries.get(at) {
+            Some(entry) => Some(*entry),
+            None => None,
+        }
+    }
+
+    // What a scope adds to its parent; None of the empty one, and of one that isn't there.
+    fn entry(&self, at: u64) -> Option<Entry>
+        ensures symbols { MatchOption result (scope_at self.now at ≡ [])
+            (λ e. scope_at self.now at ≡ shown e (scope_at self.now e.parent)) }
+        ensures within { IfSome result (λ e. IsWithin e.highest (scope_at self.now at)) }
+        ensures earlier { IfSome result (λ e. e.parent < at) }
+    {
+        if at == 0 {
+            return None;
+        }
+        self.added(at as usize - 1)
     }
 
     /// Adds an unknown whose instances may speak of the value and of the symbols of this scope, and answers its number.
@@ -87,22 +209,24 @@ impl Scopes {
         }
     }
 
-    /// Whether the instances of an unknown may speak of a symbol.
+    /// Whether the instances of an unknown may speak of a symbol. The way goes from the scope outward, and no further than there may be the
+    /// symbol.
     pub fn has(&self, unknown: u64, symbol: Symbol) -> bool
         ensures { result ≡ is_in (scopes_view self.now unknown) symbol }
     {
         if is_same_symbol(Symbol::Value, symbol) {
             return true;
         }
+        let wanted = rank(symbol);
         let mut at = self.scope_of(unknown);
-        if at >= self.environments.len() {
-            return false;
-        }
-        while let Some(last) = self.environments.last(at) {
-            if is_same_symbol(self.symbols[last.part as usize], symbol) {
-                return true;
+        while let Some(entry) = self.entry(at) {
+            if entry.highest < wanted {
+                return false;
             }
-            at = last.parent;
+            if let Some(has) = entry.has(symbol) {
+                return has;
+            }
+            at = entry.parent;
         }
         false
     }

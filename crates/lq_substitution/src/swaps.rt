@@ -88,9 +88,8 @@ impl Subst {
     pub fn single(alloc: Global, symbol: Symbol, atom: Atom) -> Result<Subst, AllocError>
         ensures { IfOk result (λ by. subst_view by ≡ swap symbol (atom_view atom) ∷ []) }
     {
-        let mut by = Subst::new(alloc);
-        by.push(symbol, atom)?;
-        Ok(by)
+        let items = vec![in alloc; Swap { symbol, atom }]?;
+        Ok(Subst { items })
     }
 
     /// How many replacements there are.
@@ -120,7 +119,7 @@ impl Subst {
     pub fn copy(&self, alloc: Global) -> Result<Subst, AllocError>
         ensures { IfOk result (λ by. subst_view by ≡ subst_view self.now) }
     {
-        let mut items = Vec::new(alloc);
+        let mut items = Vec::with_capacity(alloc, self.items.len())?;
         for swap in &self.items {
             items.push(swap.copy(alloc)?)?;
         }

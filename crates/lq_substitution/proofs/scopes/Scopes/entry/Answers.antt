@@ -1,0 +1,21 @@
+use Rattle.std.proofs.Common.{◌≡◌, ◌∙◌, [], ◌∷◌, ap, arith}
+use Rattle.lq_substitution.specs.Scopes.{list_at}
+use Rattle.lq_substitution.specs.Views.{scope_at}
+use Rattle.lq_substitution.proofs.Growing.{entry-is, entry-within, entry-earlier, grown-keeps}
+use Rattle.lq_substitution.proofs.scopes.Scopes.entry.Goals as goal
+
+pub returns-then-at-eq0-clause-symbols : goal.returns-then-at-eq0-clause-symbols
+returns-then-at-eq0-clause-symbols c =
+    ap (scope_at c.args.self.now) c.if-at-eq0.true ∙ grown-keeps ([] ∷ []) c.args.self.now.entries.items 0 (omega arith)
+
+pub returns-clause-symbols : goal.returns-clause-symbols
+returns-clause-symbols c =
+    let self = c.args.self.now in entry-is self.entries.items c.args.at c.if-at-eq0.false self.parents c.added.result c.added.ensures
+
+pub returns-clause-within : goal.returns-clause-within
+returns-clause-within c =
+    let self = c.args.self.now in entry-within self.entries.items c.args.at c.if-at-eq0.false self.parents c.added.result c.added.ensures self.within
+
+pub returns-clause-earlier : goal.returns-clause-earlier
+returns-clause-earlier c =
+    let self = c.args.self.now in entry-earlier self.entries.items c.args.at c.if-at-eq0.false self.parents c.added.result c.added.ensures
