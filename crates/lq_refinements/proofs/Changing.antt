@@ -12,10 +12,7 @@ use Rattle.lq_refinements.specs.declared.changes.Change.TheVariants.{Put, Twin, 
 use Rattle.lq_refinements.specs.Changes.{changed, all_changed, parts_changed, change_rows, variable_of, number_in, replaced}
 use Rattle.lq_refinements.specs.declared.forms.Form.{Form}
 use Rattle.lq_refinements.specs.declared.forms.Form.TheVariants as form
-use Rattle.lq_refinements.specs.declared.table.Row.{Row}
-use Rattle.lq_refinements.specs.declared.table.Row.TheVariants.{Delayed}
 use Rattle.lq_refinements.specs.Forms.{at, each, form_type, row_of}
-use Rattle.lq_refinements.specs.Rows.{row_rows, row_type}
 use Rattle.lq_refinements.proofs.Entries.{number-in}
 use Rattle.std.proofs.lemmas.List.Elements.{All-tail}
 
@@ -222,21 +219,25 @@ strengthened-form all (form.Variable i) p q = refl
 
 -- ---- what a row that puts types for variables makes of a variable
 
-pub chosen-earlier : (r : Row) (n inner v chosen : ℕ) (types : Vec ℕ Global) → r ≡ Delayed (Instantiated types) inner → All (λ p. p < n) (row_rows r)
+pub chosen-earlier : (c : Change) (n inner v chosen : ℕ) (types : Vec ℕ Global) → c ≡ Instantiated types → All (λ p. p < n) (inner ∷ change_rows c)
     → Some chosen ≡ slice_get types.items v → chosen < n
-chosen-earlier r n inner v chosen types e h s =
+chosen-earlier c n inner v chosen types e h s =
     number-in (λ p. p < n) types.items v chosen s
-    (All-tail (λ p. p < n) inner types.items (subst (λ x. All (λ p. p < n) (row_rows x)) e h))
+    (All-tail (λ p. p < n) inner types.items (subst (λ d. All (λ p. p < n) (inner ∷ change_rows d)) e h))
 
-pub chosen-type : (scopes : Scopes) (all : List Refined) (t : Refined) (r : Row) (inner v chosen : ℕ) (types : Vec ℕ Global) → t ≡ row_type scopes all r
-    → r ≡ Delayed (Instantiated types) inner → Some v ≡ variable_of (at all inner) → Some chosen ≡ slice_get types.items v → t ≡ at all chosen
-chosen-type scopes all t r inner v chosen types h e k s =
-    h ∙ ap (row_type scopes all) e ∙ at-variable (each all types.items) (at all inner) v (sym k) ∙ type_at-some all types.items v chosen (sym s)
+pub chosen-type : (scopes : Scopes) (all : List Refined) (t : Refined) (c : Change) (inner v chosen : ℕ) (types : Vec ℕ Global)
+    → t ≡ changed scopes all c (at all inner) → c ≡ Instantiated types → Some v ≡ variable_of (at all inner) → Some chosen ≡ slice_get types.items v
+    → t ≡ at all chosen
+chosen-type scopes all t c inner v chosen types h e k s =
+    h ∙ ap (λ d. changed scopes all d (at all inner)) e ∙ at-variable (each all types.items) (at all inner) v (sym k)
+    ∙ type_at-some all types.items v chosen (sym s)
 
-pub missing-type : (scopes : Scopes) (all : List Refined) (t : Refined) (r : Row) (inner v : ℕ) (types : Vec ℕ Global) → t ≡ row_type scopes all r
-    → r ≡ Delayed (Instantiated types) inner → Some v ≡ variable_of (at all inner) → None ≡ slice_get types.items v → t ≡ unit_type
-missing-type scopes all t r inner v types h e k s =
-    h ∙ ap (row_type scopes all) e ∙ at-variable (each all types.items) (at all inner) v (sym k) ∙ type_at-none all types.items v (sym s)
+pub missing-type : (scopes : Scopes) (all : List Refined) (t : Refined) (c : Change) (inner v : ℕ) (types : Vec ℕ Global)
+    → t ≡ changed scopes all c (at all inner) → c ≡ Instantiated types → Some v ≡ variable_of (at all inner) → None ≡ slice_get types.items v
+    → t ≡ unit_type
+missing-type scopes all t c inner v types h e k s =
+    h ∙ ap (λ d. changed scopes all d (at all inner)) e ∙ at-variable (each all types.items) (at all inner) v (sym k)
+    ∙ type_at-none all types.items v (sym s)
 
 pub replaced-earlier : (c : Change) (t : Refined) (r n : ℕ) → replaced c t ≡ Some r → All (λ p. p < n) (change_rows c) → r < n
 replaced-earlier (Put θ) t r n e h = absurd (none e)

@@ -55,8 +55,8 @@ changed-grown scopes old new c t e h =
 row_type-same : (scopes : Scopes) (all bll : List Refined) (r : Row) → All (λ i. at all i ≡ at bll i) (row_rows r) → row_type scopes all r ≡ row_type scopes bll r
 row_type-same scopes all bll (Node n) h = form_type-same all bll n.form (parts_view n.top) h
 row_type-same scopes all bll (Delayed c i) h =
-    ap (changed scopes all c) (All-head (λ j. at all j ≡ at bll j) i (change_rows c) h)
-    ∙ changed-same scopes all bll c (at bll i) (All-tail (λ j. at all j ≡ at bll j) i (change_rows c) h)
+    ap (changed scopes all c.value) (All-head (λ j. at all j ≡ at bll j) i (change_rows c.value) h)
+    ∙ changed-same scopes all bll c.value (at bll i) (All-tail (λ j. at all j ≡ at bll j) i (change_rows c.value) h)
 
 -- ---- the type of a number is that of its row
 

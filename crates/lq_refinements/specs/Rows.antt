@@ -9,7 +9,7 @@ use Rattle.lq_refinements.specs.Changes.{changed, change_rows}
 
 abbrev pub row_type : Scopes → List Refined → Row → Refined
 row_type scopes all (Node n) = node_type all n
-row_type scopes all (Delayed c i) = changed scopes all c (at all i)
+row_type scopes all (Delayed c i) = changed scopes all c.value (at all i)
 
 -- each row adds the type that it makes of those before it: a fold from the left, so that no recursion goes down a type
 -- and a further row changes nothing before it
@@ -20,7 +20,7 @@ grown scopes all (r ∷ rs) = grown scopes (all ++ row_type scopes all r ∷ [])
 -- the numbers that a row names
 abbrev pub row_rows : Row → List ℕ
 row_rows (Node n) = form_rows n.form
-row_rows (Delayed c i) = i ∷ change_rows c
+row_rows (Delayed c i) = i ∷ change_rows c.value
 
 -- each row names earlier ones
 abbrev pub AreEarlier : List Row → Type 0

@@ -15,6 +15,7 @@ use lq_name::Binder;
 use lq_pred::{Pred, Symbol, Term};
 use lq_substitution::{Atom, Scopes, Subst};
 use std::alloc::{AllocError, Global};
+use std::rc::Rc;
 
 impl RefinedTypes {
     // The variable that a type is.
@@ -24,7 +25,7 @@ impl RefinedTypes {
     {
         match self.row(at) {
             Row::Node(node) => node.form.variable(),
-            Row::Delayed(change, inner) => match change {
+            Row::Delayed(change, inner) => match change.as_ref() {
                 Change::Put(_) | Change::Twin => self.variable(*inner),
                 Change::Instantiated(types) => match self.variable(*inner) {
                     Some(variable) => match number_at(types, variable) {
@@ -44,7 +45,7 @@ impl RefinedTypes {
     {
         match self.row(at) {
             Row::Node(node) => node.form.kind(),
-            Row::Delayed(change, inner) => match change {
+            Row::Delayed(change, inner) => match change.as_ref() {
                 Change::Put(_) | Change::Twin => self.kind(*inner),
                 Change::Instantiated(types) => match self.variable(*inner) {
                     Some(variable) => match number_at(types, variable) {
@@ -74,24 +75,23 @@ impl RefinedTypes {
     // Two types with it done to them, for a function whose name of its argument stays.
     fn changed_pair(
         &mut self,
-        alloc: Global,
-        change: &Change,
+        change: &Rc<Change>,
         a: usize,
         b: usize,
     ) -> Result<(usize, usize), AllocError>
         requires a { a < count_of self.old }
         requires b { b < count_of self.old }
-        requires types { All (λ p. p < count_of self.old) (change_rows change.now) }
+        requires types { All (λ p. p < count_of self.old) (change_rows change.now.value) }
         ensures a { IfOk result (λ r. (scopes : ScopeLists) → refined_at scopes self.new r.0
-            ≡ changed scopes (types_of scopes self.old) change.now (refined_at scopes self.old a)) }
+            ≡ changed scopes (types_of scopes self.old) change.now.value (refined_at scopes self.old a)) }
         ensures b { IfOk result (λ r. (scopes : ScopeLists) → refined_at scopes self.new r.1
-            ≡ changed scopes (types_of scopes self.old) change.now (refined_at scopes self.old b)) }
+            ≡ changed scopes (types_of scopes self.old) change.now.value (refined_at scopes self.old b)) }
         ensures there_a { IfOk result (λ r. r.0 < count_of self.new) }
         ensures there_b { IfOk result (λ r. r.1 < count_of self.new) }
         ensures grows { Grows self.old self.new }
     {
-        let first = self.delay(change.copy(alloc)?, a)?;
-        let second = self.delay(change.copy(alloc)?, b)?;
+        let first = self.share(change, a)?;
+        let second = self.share(change, b)?;
         Ok((first, second))
     }
 
@@ -99,19 +99,19 @@ impl RefinedTypes {
     fn changed_all(
         &mut self,
         alloc: Global,
-        change: &Change,
+        change: &Rc<Change>,
         types: &[usize],
     ) -> Result<Vec<usize>, AllocError>
         requires there { All (λ p. p < count_of self.old) types.now }
-        requires types { All (λ p. p < count_of self.old) (change_rows change.now) }
+        requires types { All (λ p. p < count_of self.old) (change_rows change.now.value) }
         ensures refined { IfOk result (λ made. (scopes : ScopeLists) → map (refined_at scopes self.new) made.items
-            ≡ map (λ p. changed scopes (types_of scopes self.old) change.now (refined_at scopes self.old p)) types.now) }
+            ≡ map (λ p. changed scopes (types_of scopes self.old) change.now.value (refined_at scopes self.old p)) types.now) }
         ensures there { IfOk result (λ made. All (λ p. p < count_of self.new) made.items) }
         ensures grows { Grows self.old self.new }
     {
-        let mut made = Vec::new(alloc);
+        let mut made = Vec::with_capacity(alloc, types.len())?;
         for at in types {
-            made.push(self.delay(change.copy(alloc)?, *at)?)?;
+            made.push(self.share(change, *at)?)?;
         }
         Ok(made)
     }
@@ -183,7 +183,8 @@ impl RefinedTypes {
     {
         let kind = self.kind(a);
         let other = twin_binder(x);
-        let (argument, result) = self.changed_pair(alloc, &Change::Twin, a, b)?;
+        let twin = Rc::new(alloc, Change::Twin)?;
+        let (argument, result) = self.changed_pair(&twin, a, b)?;
         let result = self.renamed(alloc, x, other, kind, result)?;
         Ok(Form::Function(other, argument, result))
     }
@@ -192,15 +193,15 @@ impl RefinedTypes {
     fn changed_form(
         &mut self,
         alloc: Global,
-        change: &Change,
+        change: &Rc<Change>,
         form: Form,
     ) -> Result<Form, AllocError>
         requires there { All (λ p. p < count_of self.old) (form_rows form) }
-        requires types { All (λ p. p < count_of self.old) (change_rows change.now) }
-        requires outside { (scopes : ScopeLists) (p : PartList) → replaced change.now (form_type (types_of scopes self.old) form p) ≡ None }
+        requires types { All (λ p. p < count_of self.old) (change_rows change.now.value) }
+        requires outside { (scopes : ScopeLists) (p : PartList) → replaced change.now.value (form_type (types_of scopes self.old) form p) ≡ None }
         ensures refined { IfOk result (λ made. (scopes : ScopeLists) (p : PartList)
-            → form_type (types_of scopes self.new) made (parts_changed scopes change.now p)
-            ≡ changed scopes (types_of scopes self.old) change.now (form_type (types_of scopes self.old) form p)) }
+            → form_type (types_of scopes self.new) made (parts_changed scopes change.now.value p)
+            ≡ changed scopes (types_of scopes self.old) change.now.value (form_type (types_of scopes self.old) form p)) }
         ensures there { IfOk result (λ made. All (λ p. p < count_of self.new) (form_rows made)) }
         ensures grows { Grows self.old self.new }
     {
@@ -208,20 +209,20 @@ impl RefinedTypes {
             Form::Int => Ok(Form::Int),
             Form::Bool => Ok(Form::Bool),
             Form::Unit => Ok(Form::Unit),
-            Form::Function(x, a, b) => match change {
+            Form::Function(x, a, b) => match change.as_ref() {
                 Change::Twin => self.twin_function(alloc, x, a, b),
                 Change::Put(_) | Change::Instantiated(_) => {
-                    let (a, b) = self.changed_pair(alloc, change, a, b)?;
+                    let (a, b) = self.changed_pair(change, a, b)?;
                     Ok(Form::Function(x, a, b))
                 }
             },
             Form::Tuple(types) => Ok(Form::Tuple(self.changed_all(alloc, change, &types)?)),
-            Form::Array(element) => Ok(Form::Array(self.delay(change.copy(alloc)?, element)?)),
+            Form::Array(element) => Ok(Form::Array(self.share(change, element)?)),
             Form::Data(name, types, matrix) => {
                 Ok(Form::Data(name, self.changed_all(alloc, change, &types)?, matrix))
             }
-            Form::Map(element) => Ok(Form::Map(self.delay(change.copy(alloc)?, element)?)),
-            Form::Variable(variable) => Ok(changed_variable(change, variable)),
+            Form::Map(element) => Ok(Form::Map(self.share(change, element)?)),
+            Form::Variable(variable) => Ok(changed_variable(change.as_ref(), variable)),
         }
     }
 
@@ -230,15 +231,15 @@ impl RefinedTypes {
         &mut self,
         alloc: Global,
         scopes: &Scopes,
-        change: &Change,
+        change: &Rc<Change>,
         at: usize,
     ) -> Result<usize, AllocError>
         requires there { at < count_of self.old }
         requires node { IsNode self.old at }
-        requires types { All (λ p. p < count_of self.old) (change_rows change.now) }
-        requires outside { replaced change.now (refined_at (scopes_view scopes.now) self.old at) ≡ None }
+        requires types { All (λ p. p < count_of self.old) (change_rows change.now.value) }
+        requires outside { replaced change.now.value (refined_at (scopes_view scopes.now) self.old at) ≡ None }
         ensures refined { IfOk result (λ n. refined_at (scopes_view scopes.now) self.new n
-            ≡ changed (scopes_view scopes.now) (types_of (scopes_view scopes.now) self.old) change.now
+            ≡ changed (scopes_view scopes.now) (types_of (scopes_view scopes.now) self.old) change.now.value
             (refined_at (scopes_view scopes.now) self.old at)) }
         ensures node { IfOk result (λ n. IsNode self.new n) }
         ensures there { IfOk result (λ n. n < count_of self.new) }
@@ -260,10 +261,10 @@ impl RefinedTypes {
         ensures there { IfOk result (λ n. n < count_of self.new) }
         ensures grows { Grows self.old self.new }
     {
-        let Some(delay) = self.delayed(alloc, at)? else {
+        let Some(delay) = self.delayed(at)? else {
             return Ok(at);
         };
-        match self.chosen(&delay.change, delay.at) {
+        match self.chosen(delay.change.as_ref(), delay.at) {
             Some(chosen) => self.expose(alloc, scopes, chosen),
             None => {
                 let exposed = self.expose(alloc, scopes, delay.at)?;

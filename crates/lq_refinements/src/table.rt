@@ -5,18 +5,19 @@ use crate::changes::Change;
 use crate::forms::{Form, RefinedNode};
 use lq_substitution::Parts;
 use std::alloc::{AllocError, Global};
+use std::rc::Rc;
 
-/// One level of a type, or something that is done to a type.
+/// One level of a type, or something that is done to a type. Rows share what is done.
 #[derive(Drop)]
 pub(crate) enum Row {
     Node(RefinedNode),
-    Delayed(Change, usize),
+    Delayed(Rc<Change>, usize),
 }
 
 /// What is done to which type.
 #[derive(Drop)]
 pub(crate) struct Delay {
-    pub(crate) change: Change,
+    pub(crate) change: Rc<Change>,
     pub(crate) at: usize,
 }
 
@@ -84,6 +85,20 @@ impl RefinedTypes {
         ensures there { IfOk result (λ n. n < count_of self.new) }
         ensures grows { Grows self.old self.new }
     {
+        let shared = Rc::new(*self.rows.allocator(), change)?;
+        self.share(&shared, at)
+    }
+
+    // The same of something that is done to several types.
+    pub(crate) fn share(&mut self, change: &Rc<Change>, at: usize) -> Result<usize, AllocError>
+        requires there { at < count_of self.old }
+        requires types { All (λ p. p < count_of self.old) (change_rows change.now.value) }
+        ensures refined { IfOk result (λ n. (scopes : ScopeLists) → refined_at scopes self.new n
+            ≡ changed scopes (types_of scopes self.old) change.now.value (refined_at scopes self.old at)) }
+        ensures there { IfOk result (λ n. n < count_of self.new) }
+        ensures grows { Grows self.old self.new }
+    {
+        let change = change.clone()?;
         self.add(Row::Delayed(change, at))
     }
 
@@ -120,16 +135,16 @@ impl RefinedTypes {
     }
 
     // What is done to which type, where one stands so.
-    pub(crate) fn delayed(&self, alloc: Global, at: usize) -> Result<Option<Delay>, AllocError>
+    pub(crate) fn delayed(&self, at: usize) -> Result<Option<Delay>, AllocError>
         requires { at < count_of self.now }
         ensures refined { IfOk result (λ found. MatchOption found (IsNode self.now at) (λ d. (scopes : ScopeLists)
-            → refined_at scopes self.now at ≡ changed scopes (types_of scopes self.now) d.change (refined_at scopes self.now d.at))) }
-        ensures earlier { IfOk result (λ found. IfSome found (λ d. All (λ p. p < at) (d.at ∷ change_rows d.change))) }
+            → refined_at scopes self.now at ≡ changed scopes (types_of scopes self.now) d.change.value (refined_at scopes self.now d.at))) }
+        ensures earlier { IfOk result (λ found. IfSome found (λ d. All (λ p. p < at) (d.at ∷ change_rows d.change.value))) }
     {
         match self.row(at) {
             Row::Node(_) => Ok(None),
             Row::Delayed(change, inner) => Ok(Some(Delay {
-                change: change.copy(alloc)?,
+                change: change.clone()?,
                 at: *inner,
             })),
         }

@@ -1,9 +1,9 @@
-use Rattle.std.proofs.Common.{◌≡◌, ◌<◌, ◌∷◌, All, MatchOption, IfSome, sym, ap, subst, ◌∙◌, arith}
+use Rattle.std.proofs.Common.{◌≡◌, ◌<◌, ◌∷◌, All, MatchOption, IfSome, Some, sym, ap, subst, ◌∙◌, arith}
 use Rattle.std.proofs.lemmas.List.Elements.{All-tail, All-weaker}
 use Rattle.std.proofs.lemmas.Result.{IfOk-weaker}
 use Rattle.lq_parts.specs.Part.{Scopes}
 use Rattle.lq_refinements.specs.declared.table.Delay.{Delay}
-use Rattle.lq_refinements.specs.Changes.{changed, change_rows}
+use Rattle.lq_refinements.specs.Changes.{changed, change_rows, replaced}
 use Rattle.lq_refinements.specs.Growing.{extends-there}
 use Rattle.lq_refinements.specs.Whole.{count_of, refined_at, types_of, IsNode}
 use Rattle.lq_refinements.proofs.Changing.{replaced-some, replaced-earlier}
@@ -16,11 +16,12 @@ expose-requires t c =
     let self = c.args.self.now in
     let d = c.in-Some.delay in
     let S = scopes_view c.args.scopes.now in
-    let low : All (λ p. p < c.args.at) (d.at ∷ change_rows d.change) =
-    subst (λ o. IfSome o (λ (x : Delay). All (λ p. p < c.args.at) (x.at ∷ change_rows x.change))) c.in-Some.is c.in_ok-delay.ensures.earlier in
+    let chosen = subst (λ e. Some c.in-Some-chosen.chosen ≡ replaced e (refined_at S self d.at)) c.as_ref.ensures (c.in-Some-chosen.ensures S) in
+    let low : All (λ p. p < c.args.at) (d.at ∷ change_rows d.change.value) =
+    subst (λ o. IfSome o (λ (x : Delay). All (λ p. p < c.args.at) (x.at ∷ change_rows x.change.value))) c.in-Some.is c.in_ok-delay.ensures.earlier in
     let below : c.in-Some-chosen.chosen < c.args.at =
-    replaced-earlier d.change (refined_at S self d.at) c.in-Some-chosen.chosen c.args.at (sym (c.in-Some-chosen.ensures S))
-    (All-tail (λ p. p < c.args.at) d.at (change_rows d.change) low) in
+    replaced-earlier d.change.value (refined_at S self d.at) c.in-Some-chosen.chosen c.args.at (sym chosen)
+    (All-tail (λ p. p < c.args.at) d.at (change_rows d.change.value) low) in
     let m : c.args.at ≡ t = c.decreases in
     let n : c.args.at < count_of self = c.requires in
     (omega arith, omega arith)
@@ -31,10 +32,11 @@ returns-in-Some-chosen-clause-refined t c =
     let d = c.in-Some.delay in
     let S = scopes_view c.args.scopes.now in
     let all = types_of S self in
+    let chosen = subst (λ e. Some c.in-Some-chosen.chosen ≡ replaced e (refined_at S self d.at)) c.as_ref.ensures (c.in-Some-chosen.ensures S) in
     let told = subst (λ o. MatchOption o (IsNode self c.args.at) (λ (x : Delay). (scopes : Scopes)
-    → refined_at scopes self c.args.at ≡ changed scopes (types_of scopes self) x.change (refined_at scopes self x.at))) c.in-Some.is c.in_ok-delay.ensures.refined in
+    → refined_at scopes self c.args.at ≡ changed scopes (types_of scopes self) x.change.value (refined_at scopes self x.at))) c.in-Some.is c.in_ok-delay.ensures.refined in
     IfOk-weaker c.expose.result _ _
-    (λ n h. h ∙ sym (replaced-some S all d.change (refined_at S self d.at) c.in-Some-chosen.chosen (sym (c.in-Some-chosen.ensures S))) ∙ sym (told S))
+    (λ n h. h ∙ sym (replaced-some S all d.change.value (refined_at S self d.at) c.in-Some-chosen.chosen (sym chosen)) ∙ sym (told S))
     c.expose.ensures.refined
 
 pub changed-requires-clause-types : goal.changed-requires-clause-types
@@ -42,12 +44,12 @@ changed-requires-clause-types t c =
     let self = c.args.self.now in
     let new = c.expose-in-None.new.self in
     let d = c.in-Some.delay in
-    let low : All (λ p. p < c.args.at) (d.at ∷ change_rows d.change) =
-    subst (λ o. IfSome o (λ (x : Delay). All (λ p. p < c.args.at) (x.at ∷ change_rows x.change))) c.in-Some.is c.in_ok-delay.ensures.earlier in
+    let low : All (λ p. p < c.args.at) (d.at ∷ change_rows d.change.value) =
+    subst (λ o. IfSome o (λ (x : Delay). All (λ p. p < c.args.at) (x.at ∷ change_rows x.change.value))) c.in-Some.is c.in_ok-delay.ensures.earlier in
     let n : c.args.at < count_of self = c.requires in
     All-weaker (λ p. p < c.args.at) (λ p. p < count_of new)
-    (λ p l. extends-there self.rows.items new.rows.items p c.expose-in-None.ensures.grows (omega arith)) (change_rows d.change)
-    (All-tail (λ p. p < c.args.at) d.at (change_rows d.change) low)
+    (λ p l. extends-there self.rows.items new.rows.items p c.expose-in-None.ensures.grows (omega arith)) (change_rows d.change.value)
+    (All-tail (λ p. p < c.args.at) d.at (change_rows d.change.value) low)
 
 pub returns-clause-refined : goal.returns-clause-refined
 returns-clause-refined t c =
@@ -57,13 +59,13 @@ returns-clause-refined t c =
     let S = scopes_view c.args.scopes.now in
     let n : c.args.at < count_of self = c.requires in
     let told = subst (λ o. MatchOption o (IsNode self c.args.at) (λ (x : Delay). (scopes : Scopes)
-    → refined_at scopes self c.args.at ≡ changed scopes (types_of scopes self) x.change (refined_at scopes self x.at))) c.in-Some.is c.in_ok-delay.ensures.refined in
-    let low : All (λ p. p < c.args.at) (d.at ∷ change_rows d.change) =
-    subst (λ o. IfSome o (λ (x : Delay). All (λ p. p < c.args.at) (x.at ∷ change_rows x.change))) c.in-Some.is c.in_ok-delay.ensures.earlier in
-    let inside : All (λ p. p < count_of self) (change_rows d.change) =
-    All-weaker (λ p. p < c.args.at) (λ p. p < count_of self) (λ p l. omega arith) (change_rows d.change)
-    (All-tail (λ p. p < c.args.at) d.at (change_rows d.change) low) in
+    → refined_at scopes self c.args.at ≡ changed scopes (types_of scopes self) x.change.value (refined_at scopes self x.at))) c.in-Some.is c.in_ok-delay.ensures.refined in
+    let low : All (λ p. p < c.args.at) (d.at ∷ change_rows d.change.value) =
+    subst (λ o. IfSome o (λ (x : Delay). All (λ p. p < c.args.at) (x.at ∷ change_rows x.change.value))) c.in-Some.is c.in_ok-delay.ensures.earlier in
+    let inside : All (λ p. p < count_of self) (change_rows d.change.value) =
+    All-weaker (λ p. p < c.args.at) (λ p. p < count_of self) (λ p l. omega arith) (change_rows d.change.value)
+    (All-tail (λ p. p < c.args.at) d.at (change_rows d.change.value) low) in
     IfOk-weaker c.changed.result _ _
-    (λ k h. h ∙ ap (changed S (types_of S new) d.change) c.in_ok-exposed-in-None.ensures.refined
-    ∙ changed-grown S self.rows.items new.rows.items d.change (refined_at S self d.at) c.expose-in-None.ensures.grows inside ∙ sym (told S))
+    (λ k h. h ∙ ap (changed S (types_of S new) d.change.value) c.in_ok-exposed-in-None.ensures.refined
+    ∙ changed-grown S self.rows.items new.rows.items d.change.value (refined_at S self d.at) c.expose-in-None.ensures.grows inside ∙ sym (told S))
     c.changed.ensures.refined

@@ -9,7 +9,7 @@ pub changed_form-requires-clause-outside : goal.changed_form-requires-clause-out
 changed_form-requires-clause-outside c =
     let S = scopes_view c.args.scopes.now in
     let all = types_of S c.args.self.now in
-    let change = c.args.change.now in
+    let change = c.args.change.now.value in
     let top = parts_view c.node-node.result.now.top in
     λ scopes p. replaced-form change (types_of scopes c.args.self.now) all c.in_ok-form.form p top
     ∙ ap (replaced change) (c.in_ok-form.ensures.same all top) ∙ ap (replaced change) (sym (c.node-node.ensures.refined S)) ∙ c.requires.outside

@@ -7,7 +7,7 @@ use Rattle.lq_refinements.proofs.table.RefinedTypes.changed_all.Given as goal
 abbrev pub invariant-loop-at : goal.invariant-loop-at
 invariant-loop-at l = record {
   refined : (scopes : Scopes) → map (refined_at scopes l.self) l.made.items
-      ≡ map (λ p. changed scopes (types_of scopes l.initial.self) l.change (refined_at scopes l.initial.self p)) (take l.at-index l.types);
+      ≡ map (λ p. changed scopes (types_of scopes l.initial.self) l.change.value (refined_at scopes l.initial.self p)) (take l.at-index l.types);
   there : All (λ p. p < count_of l.self) l.made.items;
   grows : Grows l.initial.self l.self;
 }

@@ -1,5 +1,6 @@
 use Rattle.std.proofs.Common.{[], map, sym, ap, ◌∙◌}
 use Rattle.lq_parts.specs.Part.{Scopes}
+use Rattle.lq_refined.specs.Refined.{type_variable}
 use Rattle.lq_refinements.specs.Changes.{changed, replaced}
 use Rattle.lq_refinements.specs.Forms.{form_type, matrix_view}
 use Rattle.lq_refinements.specs.Whole.{refined_at, types_of}
@@ -11,12 +12,13 @@ nowhere u = []
 
 pub changed_variable-requires : goal.changed_variable-requires
 changed_variable-requires c =
-    ap (λ f. replaced c.args.change.now (form_type (types_of nowhere c.args.self.now) f [])) (sym c.in-Variable.is) ∙ c.requires.outside nowhere []
+    ap (λ d. replaced d (type_variable c.in-Variable.variable)) c.as_ref-in-Variable.ensures
+    ∙ ap (λ f. replaced c.args.change.now.value (form_type (types_of nowhere c.args.self.now) f [])) (sym c.in-Variable.is) ∙ c.requires.outside nowhere []
 
 pub returns-in_ok-changed_all-in-Tuple-clause-refined : goal.returns-in_ok-changed_all-in-Tuple-clause-refined
 returns-in_ok-changed_all-in-Tuple-clause-refined c =
     let old = c.args.self.now in
-    let change = c.args.change.now in
+    let change = c.args.change.now.value in
     λ scopes p.
     changed-tuples scopes (types_of scopes old) change (types_of scopes c.changed_all.new.self) c.in_ok-changed_all-in-Tuple.field-0.items c.in-Tuple.types.items
     (c.in_ok-changed_all-in-Tuple.ensures.refined scopes
@@ -26,7 +28,7 @@ returns-in_ok-changed_all-in-Tuple-clause-refined c =
 pub returns-in_ok-changed_all-in-Data-clause-refined : goal.returns-in_ok-changed_all-in-Data-clause-refined
 returns-in_ok-changed_all-in-Data-clause-refined c =
     let old = c.args.self.now in
-    let change = c.args.change.now in
+    let change = c.args.change.now.value in
     λ scopes p.
     changed-datas scopes (types_of scopes old) change (types_of scopes c.changed_all-in-Data.new.self) c.in_ok-changed_all-in-Data.field-0.items
     c.in-Data.types.items c.in-Data.name.0 (matrix_view c.in-Data.matrix) p
