@@ -1,5 +1,5 @@
 -- Scopes of a table made as lists of symbols.
-use Rattle.std.proofs.Common.{◌≡◌, ◌∙◌, ℕ, zero, suc, ◌+◌, ◌<◌, ◌≤◌, ◌⊎◌, inl, inr, List, [], ◌∷◌, ◌++◌, None, get_or, length, map, slice_index_or, take, refl, sym, ap, ap₂, subst, append_assoc, arith}
+use Rattle.std.proofs.Common.{◌≡◌, ◌∙◌, ℕ, zero, suc, ◌+◌, ◌<◌, ◌≤◌, ◌⊎◌, inl, inr, List, [], ◌∷◌, ◌++◌, Some, None, Bool, true, false, not, if◌then◌else◌, get_or, length, map, slice_index_or, take, refl, sym, ap, ap₂, subst, append_assoc, arith}
 use Rattle.std.proofs.lemmas.List.{append-nil, get_or_append_left, get_or_past, get_or_push, length-append, map_push}
 use Rattle.std.proofs.Math.Seq.{take-suc}
 use Rattle.lq_instances.specs.Scopes.{Scope, is_hidden, scope_in, without}
@@ -9,19 +9,15 @@ use Rattle.lq_instances.specs.Views.{unknown_view}
 use Rattle.lq_instances.specs.declared.scope.Visible.{Visible}
 use Rattle.lq_instances.specs.declared.unknowns.Unknown.{Unknown}
 use Rattle.lq_points.specs.Templates.{scopes_of}
+use Rattle.lq_pred.specs.Sum.{same_symbol}
 use Rattle.lq_pred.specs.declared.symbol.Symbol.{Symbol}
+use Rattle.lq_substitution.specs.Scopes.{without as hiding}
 use Rattle.lq_made.specs.Numbered.{list_at, symbols_at, symbols_of, AreMade, Begins, Extends}
 
 one_more : (i : ℕ) → suc i ≡ i + 1
 one_more i = omega arith
 
 -- ---- more lists
-
-pub extends_none : (a : List (List Symbol)) → Extends a a
-extends_none a = record { added = []; is = sym (append-nil a) }
-
-pub extends_both : (a b c : List (List Symbol)) → Extends a b → Extends b c → Extends a c
-extends_both a b c p q = record { added = p.added ++ q.added; is = q.is ∙ (ap (λ l. l ++ q.added) p.is ∙ append_assoc a p.added q.added) }
 
 pub extends_one : (a b : List (List Symbol)) (x : List Symbol) → b ≡ a ++ x ∷ [] → Extends a b
 extends_one a b x e = record { added = x ∷ []; is = e }
@@ -49,13 +45,6 @@ last_there a b x n e k =
 pub symbols_push : (Γ : Scope) (v : instances.Visible) → symbols_of (Γ ++ v ∷ []) ≡ symbols_of Γ ++ v.0 ∷ []
 symbols_push Γ v = map_push (λ (e : instances.Visible). e.0) Γ v
 
-pub symbols_next : (xs : List Visible) (i : ℕ) (d : Visible) → i < length xs
-    → symbols_of (map visible_view (take (i + 1) xs)) ≡ symbols_of (map visible_view (take i xs)) ++ (get_or xs i d).symbol ∷ []
-symbols_next xs i d h =
-    ap (λ k. symbols_of (map visible_view (take k xs))) (sym (one_more i))
-    ∙ (ap (λ l. symbols_of (map visible_view l)) (take-suc xs i d h)
-    ∙ (ap symbols_of (map_push visible_view (take i xs) (get_or xs i d)) ∙ symbols_push (map visible_view (take i xs)) (visible_view (get_or xs i d))))
-
 none_hidden : (Γ : Scope) → without None Γ ≡ Γ
 none_hidden [] = refl
 none_hidden (e ∷ Γ) = ap (λ Δ. e ∷ Δ) (none_hidden Γ)
@@ -63,6 +52,20 @@ none_hidden (e ∷ Γ) = ap (λ Δ. e ∷ Δ) (none_hidden Γ)
 -- where the parent shows everything
 pub symbols_shown : (Γ Δ : Scope) (v : instances.Visible) → Γ ≡ without None Δ ++ v ∷ [] → symbols_of Γ ≡ symbols_of Δ ++ v.0 ∷ []
 symbols_shown Γ Δ v e = ap symbols_of (e ∙ ap (λ (Θ : Scope). Θ ++ v ∷ []) (none_hidden Δ)) ∙ symbols_push Δ v
+
+hidden_symbols : (h : instances.Visible) (Γ : Scope) → symbols_of (without (Some h) Γ) ≡ hiding h.0 (symbols_of Γ)
+hidden_symbols h [] = refl
+hidden_symbols h (e ∷ Γ) = by (same_symbol h.0 e.0) (hidden_symbols h Γ)
+  where
+    by : (b : Bool) → symbols_of (without (Some h) Γ) ≡ hiding h.0 (symbols_of Γ) → symbols_of (if not b then e ∷ without (Some h) Γ else without (Some h) Γ)
+        ≡ (if not b then e.0 ∷ hiding h.0 (symbols_of Γ) else hiding h.0 (symbols_of Γ))
+    by true rest = rest
+    by false rest = ap (λ (xs : List Symbol). e.0 ∷ xs) rest
+
+-- where one symbol of the parent is hidden
+pub symbols_hidden : (Γ Δ : Scope) (h v : instances.Visible) → Γ ≡ without (Some h) Δ ++ v ∷ []
+    → symbols_of Γ ≡ hiding h.0 (symbols_of Δ) ++ v.0 ∷ []
+symbols_hidden Γ Δ h v e = ap symbols_of e ∙ symbols_push (without (Some h) Δ) v ∙ ap (λ (xs : List Symbol). xs ++ v.0 ∷ []) (hidden_symbols h Δ)
 
 -- ---- the scopes that are made
 

@@ -1,41 +1,18 @@
 // The scopes of unknowns, as substitution needs them.
-ghost use Rattle.std.specs.Prelude.{◌≡◌, ◌<◌, [], ◌∷◌, ◌++◌, IfOk, OnOk, length, map, slice_index_or};
-ghost use Rattle.lq_instances.specs.Seen.{visible_view};
+ghost use Rattle.std.specs.Prelude.{◌≡◌, ◌<◌, IfOk, OnOk, length, slice_index_or};
 ghost use Rattle.lq_instances.specs.Scopes.{scope_in};
 ghost use Rattle.lq_instances.specs.Views.{scopes_view as table_view, unknowns_view};
-ghost use Rattle.lq_made.specs.Numbered.{symbols_at, symbols_of, AreMade, Begins, Extends};
+ghost use Rattle.lq_made.specs.Numbered.{symbols_at, AreMade, Begins, Extends};
 ghost use Rattle.lq_points.specs.Templates.{scopes_of};
 ghost use Rattle.lq_substitution.specs.Views.{scope_at, scope_lists, scopes_view, unknown_scopes};
 ghost use Rattle.lq_templates.specs.Scopes.{symbols_in};
 
-use lq_instances::{Scopes as Table, Unknowns, Visible};
+use lq_instances::{Scopes as Table, Unknowns};
 use lq_substitution::Scopes;
 use std::alloc::{AllocError, Global};
 
-// Makes a scope of these symbols from the empty one, a scope for each symbol, and answers its number.
-fn listed(scopes: &mut Scopes, visible: &[Visible]) -> Result<u64, AllocError>
-    requires { Begins (scope_lists scopes.old) }
-    ensures same { IfOk result (λ n. scope_at scopes.new n ≡ symbols_of (map visible_view visible.now)) }
-    ensures there { IfOk result (λ n. n < length (scope_lists scopes.new)) }
-    ensures kept { OnOk result (Extends (scope_lists scopes.old) (scope_lists scopes.new)) }
-    ensures unknowns { unknown_scopes scopes.new ≡ unknown_scopes scopes.old }
-{
-    let mut number: u64 = 0;
-    for one in visible {
-        number = scopes.add(number, one.symbol)?;
-    }
-    Ok(number)
-}
-
-// Makes a scope of a table, where the earlier ones are made and have these numbers, and answers its number. One that hides nothing takes
-// the symbols of its parent.
-fn made(
-    alloc: Global,
-    scopes: &mut Scopes,
-    table: &Table,
-    numbers: &[u64],
-    at: u64,
-) -> Result<u64, AllocError>
+// Makes a scope of a table, where the earlier ones are made and have these numbers, and answers its number.
+fn made(scopes: &mut Scopes, table: &Table, numbers: &[u64], at: u64) -> Result<u64, AllocError>
     requires begins { Begins (scope_lists scopes.old) }
     requires all { length numbers.now ≡ at }
     requires made { AreMade (table_view table.now) (scope_lists scopes.old) numbers.now }
@@ -47,14 +24,15 @@ fn made(
     let Some(last) = table.last(at) else {
         return Ok(0);
     };
+    let parent = numbers[last.parent as usize];
+    let symbol = last.visible.symbol;
     match last.hidden {
         None => {
-            let number = scopes.add(numbers[last.parent as usize], last.visible.symbol)?;
+            let number = scopes.add(parent, symbol)?;
             Ok(number)
         }
-        Some(_) => {
-            let visible = table.visible(alloc, at)?;
-            let number = listed(scopes, visible.as_slice())?;
+        Some(hidden) => {
+            let number = scopes.add_hiding(parent, symbol, hidden.symbol)?;
             Ok(number)
         }
     }
@@ -70,7 +48,7 @@ fn all_made(alloc: Global, scopes: &mut Scopes, table: &Table) -> Result<Vec<u64
 {
     let mut numbers = Vec::new(alloc);
     for at in 0..table.len() {
-        let number = made(alloc, scopes, table, numbers.as_slice(), at)?;
+        let number = made(scopes, table, numbers.as_slice(), at)?;
         numbers.push(number)?;
     }
     Ok(numbers)
@@ -86,8 +64,7 @@ fn number_at(numbers: &[u64], at: u64) -> u64
     }
 }
 
-/// For each unknown the value and the symbols of its scope. Each scope of the table is made once: one that hides nothing from its parent's,
-/// one that hides a symbol from the list of its own.
+/// For each unknown the value and the symbols of its scope. Each scope of the table is one scope here.
 pub fn unknown_scopes(alloc: Global, unknowns: &Unknowns) -> Result<Scopes, AllocError>
     ensures { IfOk result (λ scopes. scopes_view scopes
         ≡ (λ u. symbols_in (scope_in (scopes_of (unknowns_view unknowns.now)) u))) }
