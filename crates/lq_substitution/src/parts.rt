@@ -114,6 +114,7 @@ impl Parts {
     pub fn extend(&mut self, alloc: Global, parts: &Parts) -> Result<(), AllocError>
         ensures { OnOk result (parts_view self.new ≡ parts_view self.old ++ parts_view parts.now) }
     {
+        self.items.reserve_exact(parts.items.len())?;
         for part in &parts.items {
             self.items.push(part.copy(alloc)?)?;
         }
