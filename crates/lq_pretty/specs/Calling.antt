@@ -3,11 +3,13 @@ use Rattle.std.specs.Prelude.{◌≡◌, ℕ, ◌+◌, ◌-◌, ◌==◌, ◌^�
 use Rattle.lq_pred.specs.declared.symbol.Symbol.{Symbol}
 use Rattle.lq_pred.specs.declared.symbol.Symbol.TheVariants.{Value, Bound, Position}
 
--- The texts of names, and the source name of each binder of a text; some have none. Behind these binders stand the names that were made for
--- the normal form. Where binders of one source name are told apart, all but the first one have numbers.
+-- The texts of names, the source name of each binder of a text that has one, and the numbers of the made names among the others: those in the
+-- text are tuple parameters, and behind the binders of the text stand the names that were made for the normal form. Where binders of one source
+-- name are told apart, all but the first one have numbers.
 pub record Calling : Type 0 where
   pub names : List (List ℕ)
   pub sources : List (Option ℕ)
+  pub made : ℕ → Option ℕ
   pub told_apart : Bool
 
 -- past the last name nothing
@@ -32,14 +34,18 @@ pub record AreOrdinals (sources : List (Option ℕ)) (numbers : List ℕ) : Type
   pub count : length numbers ≡ length sources
   pub each : (b x : ℕ) → slice_get sources b ≡ Some (Some x) → slice_get numbers b ≡ Some (ordinal sources b x)
 
--- the first made name is `%1`
-abbrev pub made_text : Calling → ℕ → List ℕ
-made_text c b = codes "%" ++ decimal (b - length c.sources + 1)
+-- a made name by its number; a binder that has neither a source name nor a number is called nothing
+abbrev pub numbered : Option ℕ → List ℕ
+numbered None = []
+numbered (Some k) = codes "%" ++ decimal k
 
--- of a binder, by its source name if it stands in the text
+abbrev pub made_text : Calling → ℕ → List ℕ
+made_text c b = numbered (c.made b)
+
+-- of a binder, by its source name if it has one
 abbrev pub called : Calling → ℕ → Option (Option ℕ) → List ℕ
 called c b None = made_text c b
-called c b (Some None) = []
+called c b (Some None) = made_text c b
 called c b (Some (Some x)) =
     if c.told_apart then with_ordinal (name_text c.names x) (ordinal c.sources b x) else name_text c.names x
 

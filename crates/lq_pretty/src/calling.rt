@@ -1,19 +1,21 @@
 // What binders and symbols are called.
-ghost use Rattle.std.specs.Prelude.{◌≡◌, ◌++◌, codes, decimal, slice_get, length, ◌<◌, ◌≤◌, ◌^◌, Some, OnOk};
+ghost use Rattle.std.specs.Prelude.{◌≡◌, ◌++◌, codes, decimal, slice_get, ◌<◌, ◌^◌, Some, OnOk};
 ghost use Rattle.lq_pretty.specs.Calling.{called, name_text, binder_text, made_text, symbol_text, untwinned, with_ordinal};
-ghost use Rattle.lq_pretty.specs.Views.{calling_view, source_view, IsTold};
+ghost use Rattle.lq_pretty.specs.Views.{calling_view, made_view, source_view, IsTold};
 
 use itoa::Buffer;
 use lq_name::{Binder, Name, NameTable};
 use lq_pred::Symbol;
 use std::alloc::AllocError;
 
-/// What binders are called: the texts of names, and the source name of each binder of the text. Behind these stand the names that were made
-/// for the normal form, `%1`, `%2` and so on.
+/// What binders are called: the texts of names, and the source name of each binder of the text that has one. The others, and those behind the
+/// binders of the text, are made names: `%1`, `%2` and so on.
 #[derive(Clone, Copy)]
 pub struct Calling<'a> {
     pub table: &'a NameTable,
     pub sources: &'a [Option<Name>],
+    /// The k of each made name `%k`.
+    pub made: &'a [Option<usize>],
     /// Of each binder which of the binders with its source name it is, where they are to be told apart: then each but the first has its
     /// number behind its name.
     pub ordinals: Option<&'a [usize]>,
@@ -98,19 +100,32 @@ fn push_binder(line: &mut Vec<u8>, calling: &Calling<'_>, binder: Binder) -> Res
     let number = untwinned(binder);
     match calling.sources.get(number) {
         Some(Some(name)) => push_source(line, calling, number, *name),
-        Some(None) => Ok(()),
-        None => push_made(line, calling, number),
+        Some(None) | None => push_made(line, calling, number),
     }
 }
 
-// A name that was made, behind those of the text.
+// The number of the binder of this number as a made name, where it is one.
+fn made_at(made: &[Option<usize>], number: usize) -> Option<usize>
+    ensures { result ≡ made_view made.now number }
+{
+    if number < made.len() {
+        made[number]
+    } else {
+        None
+    }
+}
+
+// The binder of this number as a made name, if it is one.
 fn push_made(line: &mut Vec<u8>, calling: &Calling<'_>, number: usize) -> Result<(), AllocError>
-    requires behind { length calling.now.sources.now ≤ number }
-    requires small { number < 2 ^ 31 }
     ensures { OnOk result (line.new.items ≡ line.old.items ++ made_text (calling_view calling.now) number) }
 {
-    line.extend_from_slice(b"%")?;
-    push_count(line, (number - calling.sources.len()) as u64 + 1)
+    match made_at(calling.made, number) {
+        Some(k) => {
+            line.extend_from_slice(b"%")?;
+            push_count(line, k as u64)
+        }
+        None => Ok(()),
+    }
 }
 
 /// Writes what a symbol is called behind the bytes: `v`, a binder's name, or `#k`.
