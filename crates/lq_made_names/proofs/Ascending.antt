@@ -1,5 +1,5 @@
 -- Lists whose names from a number on ascend, one by one.
-use Rattle.std.proofs.Common.{◌≡◌, ◌⊎◌, inl, inr, ℕ, ◌+◌, ◌<◌, ◌≤◌, List, [], ◌∷◌, ◌++◌, refl, subst}
+use Rattle.std.proofs.Common.{◌≡◌, ◌⊎◌, inl, inr, ℕ, ◌+◌, ◌<◌, List, [], ◌∷◌, ◌++◌, refl, subst}
 use Rattle.lq_tree.specs.Pattern.{Pattern, pattern, PatternForm, any, bind, nothing, tuple_of, build_of, Patterns, no_patterns, more_patterns, bound_in, bound_in_form, bound_in_all}
 use Rattle.lq_normal.specs.Naming.{parameter, behind, named_part, named_form, named_parts, named_pattern}
 use Rattle.lq_normal_types.specs.Plain.{AreBelow}

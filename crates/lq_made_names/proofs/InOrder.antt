@@ -1,18 +1,18 @@
 -- The names of a normal form ascend.
-use Rattle.std.proofs.Common.{◌≡◌, inl, ℕ, ◌+◌, ◌<◌, Bool, true, false, ◌&&◌, if◌then◌else◌, List, [], ◌∷◌, ◌++◌, refl, sym, ap, subst}
+use Rattle.std.proofs.Common.{◌≡◌, inl, ℕ, ◌+◌, Bool, true, false, ◌&&◌, if◌then◌else◌, List, [], ◌∷◌, ◌++◌, refl, sym, ap, subst}
 use Rattle.lq_name.specs.declared.place.Place.{Place}
 use Rattle.lq_tree.specs.Items.{ItemTree, ItemForm, type_of, let_of, let_rec_of}
 use Rattle.lq_tree.specs.Pattern.{Pattern, pattern, any, bind, nothing, tuple_of, build_of, bound_in}
 use Rattle.lq_tree.specs.Tree as form
 use Rattle.lq_tree.specs.Tree.{Tree, tree, Form, Trees, no_trees, more_trees, Cases, no_cases, more_cases}
 use Rattle.lq_walk.specs.Fold.{fold_all, fold_cases}
-use Rattle.lq_normal.specs.Flattening.{Let, let_one, let_function, put_in}
-use Rattle.lq_normal.specs.Naming.{is_pure, stands, stands_form, is_use, is_use_form, id_of, place_of, parameter, behind, named_pattern}
+use Rattle.lq_normal.specs.Flattening.{Let, let_one, let_function}
+use Rattle.lq_normal.specs.Naming.{is_pure, stands_form, is_use_form, parameter, behind, named_pattern}
 use Rattle.lq_normal.specs.OnePass.{Normal, tree_of, only, with_name, as_operand, as_scrutinee, body_under, list_of_atoms, normal, normal_of, all_operands, all_items, rest_of_chain, normal_cases}
 use Rattle.lq_normal_types.specs.Plain.{AreBelow, EachArm, IsPlain, being_plain, ItemIsPlain, ItemsArePlain}
 use Rattle.lq_normal_types.specs.Programs.{next_item, normal_item, normal_items, next_items}
 use Rattle.lq_normal_types.specs.Written.{Takes, Each}
-use Rattle.lq_made_names.specs.Order.{names_of, names_of_form, names_of_cases, names_of_item, names_of_items}
+use Rattle.lq_made_names.specs.Order.{names_of, names_of_cases, names_of_item, names_of_items}
 use Rattle.lq_made_names.specs.Parts.{names_of_let, names_of_lets}
 use Rattle.lq_made_names.proofs.Ascending.{Ascends, both, low, next-one, pattern-ascends, parameter-ascends}
 use Rattle.lq_made_names.proofs.Lets.{lets-both, put-names}

@@ -1,6 +1,6 @@
 -- The names of lets around a tree.
-use Rattle.std.proofs.Common.{◌≡◌, ℕ, List, [], ◌∷◌, ◌++◌, refl, sym, ap, ◌∙◌, append_assoc}
-use Rattle.lq_tree.specs.Pattern.{Pattern, bound_in}
+use Rattle.std.proofs.Common.{◌≡◌, List, [], ◌∷◌, ◌++◌, refl, sym, ap, ◌∙◌, append_assoc}
+use Rattle.lq_tree.specs.Pattern.{bound_in}
 use Rattle.lq_tree.specs.Tree.{Tree}
 use Rattle.lq_normal.specs.Flattening.{Let, let_one, let_function, put_in}
 use Rattle.lq_made_names.specs.Order.{names_of}

@@ -8,7 +8,7 @@ use Rattle.lq_scoped.specs.Numbers.{from_on, AreFrom}
 use Rattle.lq_tree.specs.Items.{ItemTree}
 use Rattle.lq_normal_types.specs.Plain.{ItemsArePlain}
 use Rattle.lq_normal_types.specs.Programs.{next_items, normal_items}
-use Rattle.lq_made_names.specs.Laws.{is_from, names_from, AllNamed, AreInOrder, MadeNamesAreAlone, MadeNamesAreInOrder}
+use Rattle.lq_made_names.specs.Laws.{is_from, names_from, AllNamed, MadeNamesAreAlone, MadeNamesAreInOrder}
 use Rattle.lq_made_names.specs.Numbers.{has_no_name, is_made, made_names, number_from}
 use Rattle.lq_made_names.specs.Order.{names_of_items}
 use Rattle.lq_made_names.proofs.Ascending.{Ascends}

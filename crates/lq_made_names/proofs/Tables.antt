@@ -1,12 +1,12 @@
 -- A table of the made names among some names.
-use Rattle.std.proofs.Common.{◌≡◌, ◌∙◌, ℕ, zero, suc, ◌+◌, ◌<◌, ◌≤◌, ◌==◌, Bool, true, false, cond, if◌then◌else◌, List, [], ◌∷◌, ◌++◌, length, take, get_or, Option, Some, None, refl, sym, ap, subst, arith}
+use Rattle.std.proofs.Common.{◌≡◌, ◌∙◌, ℕ, suc, ◌+◌, ◌<◌, ◌≤◌, ◌==◌, Bool, true, false, cond, if◌then◌else◌, List, [], ◌∷◌, ◌++◌, length, take, get_or, Option, Some, None, refl, sym, ap, arith}
 use Rattle.std.specs.Prelude.{slice_index_or}
 use Rattle.std.specs.List.{filter}
 use Rattle.std.specs.Option.{option_or}
 use Rattle.std.proofs.lemmas.List.{append-nil, length_push, take_all}
 use Rattle.std.proofs.lemmas.List.Elements.{filter_more}
 use Rattle.lq_made_names.specs.Numbers.{number_from}
-use Rattle.lq_made_names.specs.Table.{IsCounted, IsNoted}
+use Rattle.lq_made_names.specs.Table.{IsCounted}
 
 -- one name more: it has the next number, unless it had one
 number_pushed : (k : ℕ) (xs : List ℕ) (y x : ℕ)

@@ -1,7 +1,7 @@
 // The names that a normal program binds, in the order in which naming binds them. Blocks are gone through by recursion, and pure expressions, which
 // bind none, not at all.
-ghost use Rattle.std.specs.Prelude.{◌≡◌, ◌∷◌, ◌++◌, map, IfOk, OnOk};
-ghost use Rattle.lq_block.specs.BlockView.{binding_view, block_view, branch_view, definition_form_view, definitions_view, operation_node_view, operation_view, recursive_view};
+ghost use Rattle.std.specs.Prelude.{◌≡◌, ◌++◌, map, IfOk, OnOk};
+ghost use Rattle.lq_block.specs.BlockView.{binding_view, block_view, branch_view, definition_form_view, definitions_view, operation_node_view, recursive_view};
 ghost use Rattle.lq_tree.specs.TreeView.{cases_of};
 ghost use Rattle.lq_made_names.specs.Numbers.{binders_view};
 ghost use Rattle.lq_made_names.specs.Order.{names_of, names_of_cases, names_of_form, names_of_item, names_of_items};

@@ -1,4 +1,4 @@
-use Rattle.std.proofs.Common.{◌≡◌, ◌∙◌, ℕ, List, [], ◌∷◌, ◌++◌, refl, sym, ap}
+use Rattle.std.proofs.Common.{ℕ, List, ◌++◌, refl, ap}
 use Rattle.lq_block.specs.BlockView.{definition_form_view, definitions_view}
 use Rattle.lq_block.specs.declared.item.Definition.{Definition}
 use Rattle.lq_made_names.specs.Numbers.{binders_view}
