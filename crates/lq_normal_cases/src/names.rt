@@ -1,15 +1,25 @@
 // Names of binders.
 use lq_name::{Binder, Name, NameTable};
-use lq_normalize::NormalProgram;
 use lq_scoped::Scoped;
 use std::alloc::{AllocError, Global};
 
-// What the names of a program are read from.
+// What the names of a program are read from: the texts of names, the source name of each binder, and the numbers of made names.
 #[derive(Clone, Copy)]
 pub(crate) struct Names<'a> {
     pub(crate) table: &'a NameTable,
-    pub(crate) scoped: &'a Scoped,
-    pub(crate) program: &'a NormalProgram,
+    pub(crate) sources: &'a [Option<Name>],
+    pub(crate) made: &'a [Option<usize>],
+}
+
+/// The source name of each binder.
+pub(crate) fn sources_of(alloc: Global, scoped: &Scoped) -> Result<Vec<Option<Name>>, AllocError> {
+    let mut sources = Vec::new(alloc);
+    for at in 0..scoped.binders() {
+        if let Ok(number) = u32::try_from(at) {
+            sources.push(scoped.source_of(Binder(number)))?;
+        }
+    }
+    Ok(sources)
 }
 
 pub(crate) fn text_of(table: &NameTable, name: Name) -> &str {
@@ -20,49 +30,51 @@ pub(crate) fn text_of(table: &NameTable, name: Name) -> &str {
     }
 }
 
-fn is_same(first: Option<Name>, second: Option<Name>) -> bool {
-    match (first, second) {
-        (Some(first), Some(second)) => first.0 == second.0,
-        (None, None) => true,
-        _ => false,
+// How many of these are the name.
+fn count_of(sources: &[Option<Name>], name: Name) -> usize {
+    let mut count: usize = 0;
+    for source in sources {
+        if *source == Some(name) {
+            count = count.saturating_add(1);
+        }
     }
+    count
 }
 
 impl<'a> Names<'a> {
-    fn source_of(&self, binder: Binder) -> Option<Name> {
-        if (binder.0 as usize) < self.scoped.binders() {
-            self.scoped.source_of(binder)
+    // The source name of a binder, and how many binders before it have the same.
+    fn source_of(&self, binder: Binder) -> Option<(Name, usize)> {
+        let at = binder.0 as usize;
+        if at >= self.sources.len() {
+            return None;
+        }
+        match self.sources[at] {
+            Some(name) => Some((name, count_of(&self.sources[..at], name))),
+            None => None,
+        }
+    }
+
+    // The k of a made name `%k`.
+    fn made_of(&self, binder: Binder) -> Option<usize> {
+        let at = binder.0 as usize;
+        if at < self.made.len() {
+            self.made[at]
         } else {
             None
         }
     }
 
-    // Which of the binders with its source name this one is, from 1 on.
-    fn number_of(&self, binder: Binder) -> u32 {
-        let source = self.source_of(binder);
-        let mut number: u32 = 1;
-        for at in 0..binder.0 {
-            if is_same(self.source_of(Binder(at)), source) {
-                number = number.saturating_add(1);
-            }
-        }
-        number
-    }
-
-    /// The text of a binder: `%k` for a made name, and for another its source name, with `@k` where that is the name's binder k from
-    /// the second on; `?k` for the k-th one without a source name, a parameter that is a tuple.
+    /// The text of a binder: its source name, with `@k` where that is the name's binder k from the second on, or `%k` for a made name.
     pub(crate) fn binder_text(&self, alloc: Global, binder: Binder) -> Result<String, AllocError> {
-        if let Some(made) = self.program.made_of(binder) {
-            return format!(in alloc; "%{made}");
-        }
-        let number = self.number_of(binder);
-        match self.source_of(binder) {
-            Some(name) if number == 1 => String::from_str(alloc, text_of(self.table, name)),
-            Some(name) => {
+        match (self.source_of(binder), self.made_of(binder)) {
+            (Some((name, 0)), _) => String::from_str(alloc, text_of(self.table, name)),
+            (Some((name, before)), _) => {
                 let text = text_of(self.table, name);
+                let number = before.saturating_add(1);
                 format!(in alloc; "{text}@{number}")
             }
-            None => format!(in alloc; "?{number}"),
+            (None, Some(made)) => format!(in alloc; "%{made}"),
+            (None, None) => String::from_str(alloc, "?"),
         }
     }
 }

@@ -3,10 +3,11 @@ ghost use Rattle.std.specs.Prelude.{◌≡◌, true, IfOk, IfSome};
 ghost use Rattle.lq_resolved.specs.Parameters.{have_places};
 ghost use Rattle.lq_tree.specs.Texts.{program_view};
 
-use crate::names::Names;
+use crate::names::{Names, sources_of};
 use crate::printing::Printer;
 use lq_block::Definition;
 use lq_lex::lex;
+use lq_made_names::made_numbers;
 use lq_name::{NameTable, TextKind};
 use lq_normalize::{NormalProgram, normal};
 use lq_parse::parse_program;
@@ -60,13 +61,15 @@ fn lines_of(
     program: &NormalProgram,
     places: bool,
 ) -> Result<Vec<String>, AllocError> {
+    let sources = sources_of(alloc, scoped)?;
+    let made = made_numbers(alloc, &sources, program.definitions())?;
+    let names = Names {
+        table,
+        sources: &sources,
+        made: &made,
+    };
     let mut lines = Vec::new(alloc);
     for definition in program.definitions() {
-        let names = Names {
-            table,
-            scoped,
-            program,
-        };
         lines.push(definition_text(alloc, names, places, definition)?)?;
     }
     Ok(lines)
