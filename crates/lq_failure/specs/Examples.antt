@@ -1,5 +1,5 @@
 -- Whole texts, worked out by hand.
-use Rattle.std.specs.Prelude.{◌≡◌, ℕ, pos, true, List, [], ◌∷◌, Some, codes}
+use Rattle.std.specs.Prelude.{◌≡◌, ℕ, ◌==◌, pos, true, List, [], ◌∷◌, Some, None, codes, if◌then◌else◌}
 use Rattle.lq_math.specs.Rational.{ratio}
 use Rattle.lq_name.specs.declared.operation.CompareOp.TheVariants.{Eq, Gt}
 use Rattle.lq_name.specs.declared.place.Place.{Place}
@@ -17,9 +17,15 @@ use Rattle.lq_pretty.specs.Calling.{Calling}
 use Rattle.lq_subtype.specs.Implication.{Implication, of_assertion, of_flow}
 use Rattle.lq_failure.specs.Failures.{IsExplained, IsFailure, undecided_lines}
 
--- binder 0 is x and binder 1 is a; binder 2 is the first made name
+-- binder 0 is x and binder 1 is a; binder 2 is a tuple parameter, the second made name
 abbrev pub example : Calling
-example = record { names = codes "x" ∷ codes "a" ∷ []; sources = Some 0 ∷ Some 1 ∷ []; told_apart = true }
+example =
+    record {
+      names = codes "x" ∷ codes "a" ∷ [];
+      sources = Some 0 ∷ Some 1 ∷ None ∷ [];
+      made = λ b. if b == 2 then Some 2 else None;
+      told_apart = true;
+    }
 
 abbrev pub bound : ℕ → Sum
 bound b = var (Bound record { 0 = b })
@@ -54,7 +60,7 @@ abbrev pub LengthExample : Type 0
 LengthExample =
     (p : Point) (text : List ℕ) → p.number (len (bound 1)) ≡ ratio (pos 3) 1 → p.number (bound 2) ≡ ratio (pos 0) 1
     → IsFailure example (demand_at 1 1 ∷ flow_at 2 1 ∷ demand_at 2 5 ∷ demand_at 3 1 ∷ demand_at 4 10 ∷ []) 4 lengths p text
-    → text ≡ codes "rejected\ndemand 4 at 4:10: assertion\na = object 1\nArray.length a = 3\n%1 = 0\n"
+    → text ≡ codes "rejected\ndemand 4 at 4:10: assertion\na = object 1\nArray.length a = 3\n%2 = 0\n"
 
 -- ---- a number past 128 bits
 

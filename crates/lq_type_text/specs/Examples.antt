@@ -22,7 +22,12 @@ abbrev pub example : Writing
 example =
     record {
       calling =
-          record { names = example_names; sources = Some 12 ∷ Some 13 ∷ Some 14 ∷ Some 15 ∷ Some 16 ∷ Some 17 ∷ []; told_apart = false };
+          record {
+            names = example_names;
+            sources = Some 12 ∷ Some 13 ∷ Some 14 ∷ Some 15 ∷ Some 16 ∷ Some 17 ∷ [];
+            made = λ b. None;
+            told_apart = false;
+          };
       parameters = λ d. if d == 18 then 20 ∷ 21 ∷ [] else 11 ∷ [];
     }
 

@@ -3,7 +3,7 @@ use Rattle.std.specs.Prelude.{ℕ, List, [], map, slice_get, Option, Some, None,
 use Rattle.std.specs.declared.alloc.Global.{Global}
 use Rattle.std.specs.declared.vec.Vec.{Vec}
 use Rattle.lq_name.specs.declared.name.Name.{Name}
-use Rattle.lq_pretty.specs.Views.{source_view}
+use Rattle.lq_pretty.specs.Views.{made_view, source_view}
 use Rattle.lq_type_text.specs.Types as types
 use Rattle.lq_type_text.specs.declared.writing.Parameters.{Parameters}
 use Rattle.lq_type_text.specs.declared.writing.Writing.{Writing}
@@ -19,6 +19,6 @@ parameters_view all d = names_at (slice_get all.rows.items d)
 abbrev pub writing_view : Writing → types.Writing
 writing_view w =
     record {
-      calling = record { names = w.table.now; sources = map source_view w.sources.now; told_apart = false };
+      calling = record { names = w.table.now; sources = map source_view w.sources.now; made = made_view w.made.now; told_apart = false };
       parameters = parameters_view w.parameters.now;
     }

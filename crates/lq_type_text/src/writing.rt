@@ -17,11 +17,12 @@ pub struct Parameters {
     pub rows: Vec<Vec<Name>>,
 }
 
-/// The texts of names, the source name of each binder, and the names of parameters.
+/// The texts of names, the source name of each binder, the k of each made name `%k`, and the names of parameters.
 #[derive(Clone, Copy)]
 pub struct Writing<'a> {
     pub table: &'a NameTable,
     pub sources: &'a [Option<Name>],
+    pub made: &'a [Option<usize>],
     pub parameters: &'a Parameters,
 }
 
@@ -34,6 +35,7 @@ impl Writing<'_> {
         Calling {
             table: self.table,
             sources: self.sources,
+            made: self.made,
             ordinals: None,
         }
     }
