@@ -1,0 +1,3 @@
+-- Lemmas.
+mod Qualifiers
+mod Instances

@@ -1,0 +1,25 @@
+-- Qualifiers of texts are sorted, and so are their instances.
+use Rattle.std.specs.Prelude.{◌≡◌, ℕ, List, [], slice_index_or}
+use Rattle.lq_in_scope.specs.Over.{AreSorted, unknown_in}
+use Rattle.lq_instances.specs.Instances.{all_instances_of}
+use Rattle.lq_parts.specs.Flowing.{Selection, assigned}
+use Rattle.lq_scoped.specs.Signature.{DataTree}
+use Rattle.lq_sorted.specs.Making.{qualifiers_made}
+use Rattle.lq_sorted.specs.Sorted.{Qualifier}
+use Rattle.lq_sorts.specs.Qualifiers.{of_qualifiers}
+use Rattle.lq_templates.specs.Scopes.{Unknown}
+use Rattle.lq_tree.specs.MeasureTrees.{MeasureTree}
+use Rattle.lq_tree.specs.Qualifiers.{QualifierTree}
+use Rattle.lq_sorted_instances.specs.Sorts.{AreSortedQualifiers}
+
+-- qualifiers of a text, without complaints
+abbrev pub QualifiersAreSorted : Type 0
+QualifiersAreSorted =
+    (texts : List (List ℕ)) (ds : List DataTree) (ms : List MeasureTree) (qs : List QualifierTree) → of_qualifiers texts ds ms qs ≡ []
+    → AreSortedQualifiers (qualifiers_made texts ms qs)
+
+-- Whatever is chosen of the instances of sorted qualifiers speaks of the names of the unknowns' scopes, and of v, at their sorts.
+abbrev pub InstancesAreSorted : Type 0
+InstancesAreSorted =
+    (us : List Unknown) (ms : List ℕ) (qs : List Qualifier) (c : Selection) → AreSortedQualifiers qs
+    → AreSorted (unknown_in us) (assigned (λ u. slice_index_or (all_instances_of ms qs us) u []) c)

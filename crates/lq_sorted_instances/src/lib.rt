@@ -1,0 +1,6 @@
+//! Qualifiers of texts are sorted, and so are their instances: definitions and laws.
+#![tactic(auto)]
+
+mod laws;
+
+pub use laws::{instances_are_sorted, qualifiers_are_sorted};
