@@ -1,0 +1,369 @@
+-- Types that are scalar, over names and apart from these, and environments of such.
+use Rattle.std.proofs.Common.{◌≡◌, ◌⊎◌, inl, inr, ℕ, ◌<◌, ◌^◌, Bool, true, false, ◌||◌, ◌==◌, cond, [], ◌∷◌, Option, Some, None, refl, sym, ap, subst}
+use Rattle.std.proofs.lemmas.Bool.{eqb-true, eq-eqb}
+use Rattle.lq_calls.specs.Operands.{IsUsable, IsUsablePure}
+use Rattle.lq_checks.specs.Basis.{Basis}
+use Rattle.lq_checks.specs.Binders.{IsNewName, operation_binders, block_binders}
+use Rattle.lq_checks.specs.Operation.{body_context, body_type, bind}
+use Rattle.lq_checks.specs.Pure.{formula_of, instance_of, number_type, pure_type, sum_of, truth_type, type_of_use, variable_by}
+use Rattle.lq_checks.specs.Ready.{IsReadyBlock, IsReadyOperation}
+use Rattle.lq_checks.specs.Tree as tree
+use Rattle.lq_checks.specs.Tree.{Pure, Use, Operation, pure, fun, if_else, match_on, call, tuple, build, make, fetch, store, divide, remainder, assert, assert_false, read, print, map_empty, map_add, map_find, Block, last, binding, recursive}
+use Rattle.lq_included.specs.Symbols.{Symbols, with_symbol, FormulaOn}
+use Rattle.lq_in_scope.specs.Laws.{TypesAreOver}
+use Rattle.lq_in_scope.specs.Over.{AreSorted, IsWithin, TypeOver, of_any_sort}
+use Rattle.lq_inhabits.specs.Truth.{Objects, Scene}
+use Rattle.lq_names_kept.specs.Laws.{KeepNames}
+use Rattle.lq_parts.specs.Assignment.{Assignment}
+use Rattle.lq_parts.specs.Part.{Part}
+use Rattle.lq_parts.specs.Substitution.{of_sum, of_formula}
+use Rattle.lq_pred.specs.Formula as f
+use Rattle.lq_pred.specs.Formula.{Formula}
+use Rattle.lq_pures.specs.Pures.{PureOver, UseOver, scene_of}
+use Rattle.lq_pures.proofs.Values.{formula_over, sum_over}
+use Rattle.lq_refined.specs.Context.{Context, type_in, guard}
+use Rattle.lq_refined.specs.Operations.{applied, atom_of, renamed, symbol_of, twin_of}
+use Rattle.lq_refined.specs.Refined.{Refined, int_with, bool_with, unit_type, function, tuple_of, array_with, data_with, map_with, type_variable, Kind, number, truth_value, object, kind, argument_of}
+use Rattle.lq_renamed.specs.Names.{IsNoVariable, NamesApart, with_twins}
+use Rattle.lq_runs.specs.Closed.{names_in, IsTypeOver, SortedOn}
+use Rattle.lq_runs.proofs.Closing.{new_name, or_left, or_parts, or_right, within_with}
+use Rattle.lq_templates.specs.Scopes.{Unknown}
+use Rattle.lq_scalar.specs.Scalar.{HaveTwins}
+use Rattle.lq_scalar.specs.Written.{IsScalar, IsNameless, IsNamedBy, IsFunctionFor, IsBlockFor, IsOperationFor}
+use Rattle.lq_scalar.proofs.NameKinds.{Agree, block_kinds, operation_kinds}
+use Rattle.lq_scalar.proofs.Twins.{AreSmall, big_small, clash, false_unless, twin_big, twin_one}
+use Rattle.lq_scalar.proofs.Types.{HasKinds, IsNamed, apart_nameless, apart_twin, base_apart, kinds_agree, named_nameless, named_twin, no_variable, outside, scalar_twin}
+
+pub sorted_any : (N : Symbols) (p : Formula) → FormulaOn N p → SortedOn N N p
+sorted_any N f.truth h = tt
+sorted_any N f.falsity h = tt
+sorted_any N (f.flag x) h = h
+sorted_any N (f.compare o a b) h = h
+sorted_any N (f.objects a b) h = h
+sorted_any N (f.negation p) h = sorted_any N p h
+sorted_any N (f.conjunction p q) h = (sorted_any N p h.0, sorted_any N q h.1)
+sorted_any N (f.disjunction p q) h = (sorted_any N p h.0, sorted_any N q h.1)
+sorted_any N (f.equivalence p q) h = (sorted_any N p h.0, sorted_any N q h.1)
+
+or_first : (a : Bool) → (a || false) ≡ true → a ≡ true
+or_first true h = refl
+or_first false h = h
+
+-- a new name is none of the environment's
+not_there : (Γ : Context) (y : ℕ) → IsNewName y Γ → names_in Γ (symbol_of y) ≡ true → ⊥
+not_there Γ y new h = clash (y == y) (eq-eqb y y refl) (new_name Γ (symbol_of y) (symbol_of y) new h)
+
+pub small_bind : (Γ : Context) (y : ℕ) (t : Refined) → AreSmall (names_in Γ) → y < 2 ^ 31 → AreSmall (names_in (bind y t Γ))
+small_bind Γ y t small low z h =
+    or_parts (z < 2 ^ 31) (names_in Γ (symbol_of z)) (y == z) h (λ k. small z k) (λ e. subst (λ w. w < 2 ^ 31) (eqb-true y z e) low)
+
+-- ---- names of functions that are written
+
+-- each of these names is of the environment, or the twin of one
+abbrev pub IsNear : Symbols → Context → Type 0
+IsNear Q Γ =
+    (z : ℕ) → Q (symbol_of z) ≡ true
+    → (names_in Γ (symbol_of z) ≡ true) ⊎ ((w : ℕ) × (names_in Γ (symbol_of w) ≡ true) × (z ≡ twin_of w))
+
+pub own_near : (Γ : Context) → IsNear (names_in Γ) Γ
+own_near Γ z h = inl h
+
+pub near_bind : (Q : Symbols) (Γ : Context) (y : ℕ) (t : Refined) → IsNear Q Γ → IsNear Q (bind y t Γ)
+near_bind Q Γ y t near z h = by (near z h)
+  where
+    by : (names_in Γ (symbol_of z) ≡ true) ⊎ ((w : ℕ) × (names_in Γ (symbol_of w) ≡ true) × (z ≡ twin_of w))
+        → (names_in (bind y t Γ) (symbol_of z) ≡ true) ⊎ ((w : ℕ) × (names_in (bind y t Γ) (symbol_of w) ≡ true) × (z ≡ twin_of w))
+    by (inl k) = inl (or_left (names_in Γ (symbol_of z)) (y == z) k)
+    by (inr k) = inr (k.0, or_left (names_in Γ (symbol_of k.0)) (y == k.0) k.1, k.2)
+
+-- of one name
+abbrev IsNearAt : Context → ℕ → Type 0
+IsNearAt Γ z = (names_in Γ (symbol_of z) ≡ true) ⊎ ((w : ℕ) × (names_in Γ (symbol_of w) ≡ true) × (z ≡ twin_of w))
+
+near_twins : (Q : Symbols) (Γ : Context) (y : ℕ) (t : Refined) → IsNear Q Γ → IsNear (with_twins Q y) (bind y t Γ)
+near_twins Q Γ y t near z h =
+    or_parts (IsNearAt (bind y t Γ) z) (with_symbol Q (symbol_of y) (symbol_of z)) (twin_of y == z) h
+    (λ k.
+    or_parts (IsNearAt (bind y t Γ) z) (Q (symbol_of z)) (y == z) k (λ q. near_bind Q Γ y t near z q)
+    (λ e. inl (or_right (names_in Γ (symbol_of z)) (y == z) e)))
+    (λ e. inr (y, or_right (names_in Γ (symbol_of y)) (y == y) (eq-eqb y y refl), sym (eqb-true (twin_of y) z e)))
+
+-- a new name is none of such, nor is its twin
+new_apart : (Q : Symbols) (Γ : Context) (y : ℕ) → IsNear Q Γ → AreSmall (names_in Γ) → IsNewName y Γ → y < 2 ^ 31
+    → (Q (symbol_of y) ≡ false) × (Q (symbol_of (twin_of y)) ≡ false)
+new_apart Q Γ y near small new low =
+    (false_unless (Q (symbol_of y)) (λ e. first (near y e)), false_unless (Q (symbol_of (twin_of y))) (λ e. second (near (twin_of y) e)))
+  where
+    first : (names_in Γ (symbol_of y) ≡ true) ⊎ ((w : ℕ) × (names_in Γ (symbol_of w) ≡ true) × (y ≡ twin_of w)) → ⊥
+    first (inl k) = not_there Γ y new k
+    first (inr k) = big_small y (twin_of k.0) low (twin_big k.0) k.2
+
+    second : (names_in Γ (symbol_of (twin_of y)) ≡ true) ⊎ ((w : ℕ) × (names_in Γ (symbol_of w) ≡ true) × (twin_of y ≡ twin_of w)) → ⊥
+    second (inl k) = big_small (twin_of y) (twin_of y) (small (twin_of y) k) (twin_big y) refl
+    second (inr k) =
+        not_there Γ y new (subst (λ z. names_in Γ (symbol_of z) ≡ true) (sym (twin_one y k.0 low (small k.0 k.1) k.2)) k.1)
+
+module _ (P : Basis) (m : ℕ → Kind) where
+  -- a result with its own parameter for the name of its argument
+  pub own_body : (y : ℕ) (x : Option ℕ) → IsNamedBy y x → (k : Kind) (r : Refined) → renamed P.setting.scopes x (Some y) k r ≡ r
+  own_body y None h k r = refl
+  own_body y (Some x) h k r = ap (λ b. cond b r (applied P.setting.scopes (Some x) (atom_of k (symbol_of y)) r)) (eq-eqb x y h)
+
+  abbrev IsFar : Symbols → Refined → Type 0
+  IsFar Q t = NamesApart Q t × IsNamed m t
+
+  nameless_far : (Q : Symbols) (t : Refined) → IsNameless t → IsFar Q t
+  nameless_far Q t h = (apart_nameless Q t h.0 h.1, named_nameless m t h.1)
+
+  abbrev BlockFar : Block → Type 0
+  BlockFar b =
+      (Γ : Context) (t : Refined) (Q : Symbols) → IsNear Q Γ → AreSmall (names_in Γ) → IsReadyBlock P Γ b t → HaveTwins (block_binders b)
+      → Agree m (block_kinds P Γ b t) → IsBlockFor b t → IsFar Q t
+
+  abbrev FunctionFar : ℕ → Block → Type 0
+  FunctionFar y b =
+      (Γ : Context) (t : Refined) (Q : Symbols) → IsNear Q Γ → AreSmall (names_in Γ) → IsNewName y Γ
+      → IsReadyBlock P (body_context Γ y t) b (body_type P.setting.scopes y t) → HaveTwins (y ∷ block_binders b)
+      → Agree m ((y, kind (argument_of t)) ∷ block_kinds P (body_context Γ y t) b (body_type P.setting.scopes y t)) → IsFunctionFor y b t → IsFar Q t
+
+  function_by : (y : ℕ) (b : Block) → BlockFar b → FunctionFar y b
+  function_by y b body Γ (function x a r) Q near small new ready twins kinds w =
+      let e = own_body y x w.0 (kind a) r in
+      by x w.0
+      (λ R n. body (bind y a Γ) r R n (small_bind Γ y a small twins.0) (subst (λ s. IsReadyBlock P (bind y a Γ) b s) e ready) twins.1
+      (subst (λ s. Agree m (block_kinds P (bind y a Γ) b s)) e kinds.1) w.2)
+    where
+      at_name : ((R : Symbols) → IsNear R (bind y a Γ) → IsFar R r) → IsFar Q (function (Some y) a r)
+      at_name rest =
+          let free = new_apart Q Γ y near small new twins.0 in
+          let there = rest (with_twins Q y) (near_twins Q Γ y a near) in
+          ((free.0, free.1, no_variable a w.1.0, apart_nameless Q a w.1.0 w.1.1, there.0), ((λ l. kinds.0), there.1))
+
+      by : (x : Option ℕ) → IsNamedBy y x → ((R : Symbols) → IsNear R (bind y a Γ) → IsFar R r) → IsFar Q (function x a r)
+      by None h rest = let there = rest Q (near_bind Q Γ y a near) in ((apart_nameless Q a w.1.0 w.1.1, there.0), there.1)
+      by (Some x) h rest = subst (λ z. IsFar Q (function (Some z) a r)) (sym h) (at_name rest)
+  function_by y b body Γ (int_with p) Q near small new ready twins kinds w = nameless_far Q (int_with p) w
+  function_by y b body Γ (bool_with p) Q near small new ready twins kinds w = nameless_far Q (bool_with p) w
+  function_by y b body Γ unit_type Q near small new ready twins kinds w = nameless_far Q unit_type w
+  function_by y b body Γ (tuple_of ts) Q near small new ready twins kinds w = nameless_far Q (tuple_of ts) w
+  function_by y b body Γ (array_with u p) Q near small new ready twins kinds w = nameless_far Q (array_with u p) w
+  function_by y b body Γ (data_with d ts n p) Q near small new ready twins kinds w = nameless_far Q (data_with d ts n p) w
+  function_by y b body Γ (map_with u p) Q near small new ready twins kinds w = nameless_far Q (map_with u p) w
+  function_by y b body Γ (type_variable i) Q near small new ready twins kinds w = nameless_far Q (type_variable i) w
+
+  mutual
+    pub block_far : (b : Block) → BlockFar b
+    block_far (last l o) Γ t Q near small ready twins kinds w = operation_far o Γ t Q near small ready.0 twins kinds w
+    block_far (binding x l o b) Γ t Q near small ready twins kinds w = nameless_far Q t w
+    block_far (recursive g p y b c) Γ t Q near small ready twins kinds w = nameless_far Q t w
+
+    operation_far : (o : Operation) (Γ : Context) (t : Refined) (Q : Symbols) → IsNear Q Γ → AreSmall (names_in Γ) → IsReadyOperation P Γ o t
+        → HaveTwins (operation_binders o) → Agree m (operation_kinds P Γ o t) → IsOperationFor o t → IsFar Q t
+    operation_far (fun p y b) Γ t Q near small ready twins kinds w =
+        function_by y b (λ Δ s R n z q u k v. block_far b Δ s R n z q u k v) Γ t Q near small ready.0 ready.1 twins kinds w
+    operation_far (pure e) Γ t Q near small ready twins kinds w = nameless_far Q t w
+    operation_far (if_else p c a b) Γ t Q near small ready twins kinds w = nameless_far Q t w
+    operation_far (match_on p u arms) Γ t Q near small ready twins kinds w = nameless_far Q t w
+    operation_far (call g a) Γ t Q near small ready twins kinds w = nameless_far Q t w
+    operation_far (tuple es) Γ t Q near small ready twins kinds w = nameless_far Q t w
+    operation_far (build p c es) Γ t Q near small ready twins kinds w = nameless_far Q t w
+    operation_far (make p n e) Γ t Q near small ready twins kinds w = nameless_far Q t w
+    operation_far (fetch u i) Γ t Q near small ready twins kinds w = nameless_far Q t w
+    operation_far (store u i e) Γ t Q near small ready twins kinds w = nameless_far Q t w
+    operation_far (divide x y) Γ t Q near small ready twins kinds w = nameless_far Q t w
+    operation_far (remainder x y) Γ t Q near small ready twins kinds w = nameless_far Q t w
+    operation_far (assert e) Γ t Q near small ready twins kinds w = nameless_far Q t w
+    operation_far (assert_false p) Γ t Q near small ready twins kinds w = nameless_far Q t w
+    operation_far (read e) Γ t Q near small ready twins kinds w = nameless_far Q t w
+    operation_far (print e) Γ t Q near small ready twins kinds w = nameless_far Q t w
+    operation_far (map_empty p) Γ t Q near small ready twins kinds w = nameless_far Q t w
+    operation_far (map_add p k e n) Γ t Q near small ready twins kinds w = nameless_far Q t w
+    operation_far (map_find k n) Γ t Q near small ready twins kinds w = nameless_far Q t w
+
+  pub function_far : (y : ℕ) (b : Block) → FunctionFar y b
+  function_far y b = function_by y b (block_far b)
+
+-- ---- types and environments
+
+module _ (P : Basis) (unknowns : ℕ → Unknown) (keep : KeepNames P.setting.constructors unknowns P.setting.scopes) (m : ℕ → Kind) where
+  abbrev pub Over : Symbols → Refined → Type 0
+  Over N t = TypeOver P.setting.constructors unknowns (of_any_sort N) t
+
+  pub wide : (N M : Symbols) → IsWithin N M → (t : Refined) → Over N t → Over M t
+  wide N M w t h = keep.widening (of_any_sort N) (of_any_sort M) (record { terms = w; flags = w }) t h
+
+  -- scalar, over these names, and its names of arguments apart from them
+  pub record IsFine (N : Symbols) (t : Refined) : Type 0 where
+    pub scalar : IsScalar t
+    pub over : Over N t
+    pub apart : NamesApart N t
+    pub named : IsNamed m t
+
+  -- the same with names of its own, which are among these
+  pub record IsKnown (N : Symbols) (t : Refined) : Type 0 where
+    pub scalar : IsScalar t
+    pub own : Symbols
+    pub within : IsWithin own N
+    pub over : Over own t
+    pub apart : NamesApart own t
+    pub named : IsNamed m t
+
+  pub fine_known : (N : Symbols) (t : Refined) → IsFine N t → IsKnown N t
+  fine_known N t k = record { scalar = k.scalar; own = N; within = λ y h. h; over = k.over; apart = k.apart; named = k.named }
+
+  known_more : (N M : Symbols) → IsWithin N M → (t : Refined) → IsKnown N t → IsKnown M t
+  known_more N M w t k =
+      record { scalar = k.scalar; own = k.own; within = λ y h. w y (k.within y h); over = k.over; apart = k.apart; named = k.named }
+
+  -- each name is small and has its kind, and its type is known
+  pub record IsGood (Γ : Context) : Type 0 where
+    pub kinds : HasKinds m Γ
+    pub types : (z : ℕ) → names_in Γ (symbol_of z) ≡ true → IsKnown (names_in Γ) (type_in Γ (symbol_of z))
+
+  pub small_names : (Γ : Context) → IsGood Γ → AreSmall (names_in Γ)
+  small_names Γ good z h = (good.kinds z h).0
+
+  pub good_guard : (Γ : Context) (p : Part) → IsGood Γ → IsGood (guard p ∷ Γ)
+  good_guard Γ p good =
+      record {
+        kinds = λ z h. good.kinds z h;
+        types = λ z h. known_more (names_in Γ) (names_in (guard p ∷ Γ)) (λ y k. k) (type_in Γ (symbol_of z)) (good.types z h);
+      }
+
+  pub good_bind : (Γ : Context) → IsGood Γ → (x : ℕ) (t : Refined) → x < 2 ^ 31 → m x ≡ kind t → IsKnown (names_in Γ) t → IsGood (bind x t Γ)
+  good_bind Γ good x t low is known = record { kinds = λ z h. kinds_at z (x == z) refl h; types = λ z h. types_at z (x == z) h }
+    where
+      kinds_at : (z : ℕ) (b : Bool) → (x == z) ≡ b → (names_in Γ (symbol_of z) || b) ≡ true
+          → let s = cond b t (type_in Γ (symbol_of z)) in (z < 2 ^ 31) × (kind s ≡ m z) × IsNoVariable s
+      kinds_at z true e h =
+          subst (λ y. (y < 2 ^ 31) × (kind t ≡ m y) × IsNoVariable t) (eqb-true x z e) (low, sym is, no_variable t known.scalar)
+      kinds_at z false e h = good.kinds z (or_first (names_in Γ (symbol_of z)) h)
+
+      types_at : (z : ℕ) (b : Bool) → (names_in Γ (symbol_of z) || b) ≡ true
+          → IsKnown (names_in (bind x t Γ)) (cond b t (type_in Γ (symbol_of z)))
+      types_at z true h = known_more (names_in Γ) (names_in (bind x t Γ)) (within_with (names_in Γ) (symbol_of x)) t known
+      types_at z false h =
+          known_more (names_in Γ) (names_in (bind x t Γ)) (within_with (names_in Γ) (symbol_of x)) (type_in Γ (symbol_of z))
+          (good.types z (or_first (names_in Γ (symbol_of z)) h))
+
+  -- ---- uses
+
+  -- the type of a variable
+  variable_fine : (Γ : Context) → IsGood Γ → (x : ℕ) → names_in Γ (symbol_of x) ≡ true → (t : Refined) → IsKnown (names_in Γ) t
+      → IsFine (names_in Γ) (variable_by P.setting.scopes (kind t) x t)
+  variable_fine Γ good x h (int_with p) k =
+      record {
+        scalar = tt;
+        over = keep.naming (of_any_sort (names_in Γ)) (atom_of number (symbol_of x)) h (int_with p) (wide k.own (names_in Γ) k.within (int_with p) k.over);
+        apart = tt;
+        named = tt;
+      }
+  variable_fine Γ good x h (bool_with p) k =
+      record {
+        scalar = tt;
+        over = keep.naming (of_any_sort (names_in Γ)) (atom_of truth_value (symbol_of x)) h (bool_with p)
+            (wide k.own (names_in Γ) k.within (bool_with p) k.over);
+        apart = tt;
+        named = tt;
+      }
+  variable_fine Γ good x h unit_type k = record { scalar = tt; over = (tt, tt); apart = tt; named = tt }
+  variable_fine Γ good x h (function z a b) k =
+      let t = function z a b in
+      record {
+        scalar = scalar_twin P.setting.scopes t k.scalar;
+        over = keep.twinning (of_any_sort (names_in Γ)) t (wide k.own (names_in Γ) k.within t k.over);
+        apart = apart_twin P.setting.scopes k.own (names_in Γ) (λ y l e. absurd (big_small y y (small_names Γ good y e) l refl)) t k.scalar k.apart;
+        named = named_twin P.setting.scopes m t;
+      }
+  variable_fine Γ good x h (tuple_of ts) k = absurd k.scalar
+  variable_fine Γ good x h (array_with e p) k =
+      record {
+        scalar = k.scalar;
+        over = keep.naming (of_any_sort (names_in Γ)) (atom_of object (symbol_of x)) h (array_with e p)
+            (wide k.own (names_in Γ) k.within (array_with e p) k.over);
+        apart = base_apart (names_in Γ) e k.scalar;
+        named = tt;
+      }
+  variable_fine Γ good x h (data_with d ts n p) k = absurd k.scalar
+  variable_fine Γ good x h (map_with e p) k = absurd k.scalar
+  variable_fine Γ good x h (type_variable i) k = absurd k.scalar
+
+  number_fine : (Γ : Context) (e : Pure) → PureOver (names_in Γ) e → IsFine (names_in Γ) (number_type e)
+  number_fine Γ e o =
+      record {
+        scalar = tt;
+        over = keep.naming (of_any_sort (names_in Γ)) (of_sum (sum_of e)) (sum_over (names_in Γ) e o) (int_with []) (tt, tt);
+        apart = tt;
+        named = tt;
+      }
+
+  truth_fine : (Γ : Context) (e : Pure) → PureOver (names_in Γ) e → IsFine (names_in Γ) (truth_type e)
+  truth_fine Γ e o =
+      record {
+        scalar = tt;
+        over = keep.naming (of_any_sort (names_in Γ)) (of_formula (formula_of e)) (sorted_any (names_in Γ) (formula_of e) (formula_over (names_in Γ) e o))
+            (bool_with []) (tt, tt);
+        apart = tt;
+        named = tt;
+      }
+
+  pub use_known : (Γ : Context) → IsGood Γ → (u : Use) → UseOver (names_in Γ) u → IsKnown (names_in Γ) (type_of_use P Γ u)
+  use_known Γ good u o =
+      subst (λ a. IsKnown (names_in Γ) (instance_of P Γ a (type_in Γ (symbol_of u.name)))) (sym o.1) (good.types u.name o.0)
+
+  pub pure_fine : (Γ : Context) → IsGood Γ → (e : Pure) → PureOver (names_in Γ) e → IsFine (names_in Γ) (pure_type P Γ e)
+  pure_fine Γ good (tree.whole n) o = number_fine Γ (tree.whole n) o
+  pure_fine Γ good (tree.flag b) o = truth_fine Γ (tree.flag b) o
+  pure_fine Γ good tree.unit o = record { scalar = tt; over = (tt, tt); apart = tt; named = tt }
+  pure_fine Γ good (tree.use_of u) o = variable_fine Γ good u.name o.0 (type_of_use P Γ u) (use_known Γ good u o)
+  pure_fine Γ good (tree.negated a) o = number_fine Γ (tree.negated a) o
+  pure_fine Γ good (tree.add a b) o = number_fine Γ (tree.add a b) o
+  pure_fine Γ good (tree.subtract a b) o = number_fine Γ (tree.subtract a b) o
+  pure_fine Γ good (tree.multiply a b) o = number_fine Γ (tree.multiply a b) o
+  pure_fine Γ good (tree.length_of a) o = number_fine Γ (tree.length_of a) o
+  pure_fine Γ good (tree.compare c a b) o = truth_fine Γ (tree.compare c a b) o
+  pure_fine Γ good (tree.not_of a) o = truth_fine Γ (tree.not_of a) o
+  pure_fine Γ good (tree.and_of a b) o = truth_fine Γ (tree.and_of a b) o
+  pure_fine Γ good (tree.or_of a b) o = truth_fine Γ (tree.or_of a b) o
+
+  -- a variable may be used
+  module _ (laws : TypesAreOver) (A : Assignment) (O : Objects) (sorted : AreSorted unknowns A) where
+    abbrev S : Scene
+    S = scene_of P A O
+
+    pub type_over : (N : Symbols) (t : Refined) → Over N t → IsTypeOver S N t
+    type_over N t h = laws P.setting.constructors unknowns S sorted N t h
+
+    known_usable : (Γ : Context) → IsGood Γ → (t : Refined) → IsKnown (names_in Γ) t → IsUsable S Γ t
+    known_usable Γ good (int_with p) k = tt
+    known_usable Γ good (bool_with p) k = tt
+    known_usable Γ good unit_type k = tt
+    known_usable Γ good (function x a b) k =
+        let t = function x a b in
+        record {
+          over = k.own;
+          on = (type_over k.own t k.over).0;
+          apart = k.apart;
+          kinds = kinds_agree m Γ good.kinds t k.scalar k.named;
+          outside = outside (names_in Γ) (small_names Γ good) t k.scalar;
+        }
+    known_usable Γ good (tuple_of ts) k = absurd k.scalar
+    known_usable Γ good (array_with e p) k = tt
+    known_usable Γ good (data_with d ts n p) k = tt
+    known_usable Γ good (map_with e p) k = absurd k.scalar
+    known_usable Γ good (type_variable i) k = absurd k.scalar
+
+    pub pure_usable : (Γ : Context) → IsGood Γ → (e : Pure) → PureOver (names_in Γ) e → IsUsablePure S Γ e
+    pure_usable Γ good (tree.use_of u) o = known_usable Γ good (type_in Γ (symbol_of u.name)) (good.types u.name o.0)
+    pure_usable Γ good (tree.whole n) o = tt
+    pure_usable Γ good (tree.flag b) o = tt
+    pure_usable Γ good tree.unit o = tt
+    pure_usable Γ good (tree.negated a) o = tt
+    pure_usable Γ good (tree.add a b) o = tt
+    pure_usable Γ good (tree.subtract a b) o = tt
+    pure_usable Γ good (tree.multiply a b) o = tt
+    pure_usable Γ good (tree.length_of a) o = tt
+    pure_usable Γ good (tree.compare c a b) o = tt
+    pure_usable Γ good (tree.not_of a) o = tt
+    pure_usable Γ good (tree.and_of a b) o = tt
+    pure_usable Γ good (tree.or_of a b) o = tt

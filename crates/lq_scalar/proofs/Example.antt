@@ -1,0 +1,70 @@
+-- The example is scalar.
+use Rattle.std.proofs.Common.{ℕ, ◌<◌, ◌^◌, arith, refl}
+use Rattle.lq_scalar.specs.Example.{ExampleIsScalar}
+
+below : (x : ℕ) → x < 8 → x < 2 ^ 31
+below x h = omega (arith, h)
+
+pub example_scalar : ExampleIsScalar
+example_scalar = (
+  (
+    (
+      (tt, (tt, tt)),
+      (
+        (tt, tt),
+        (
+          tt,
+          (
+            (tt, ((tt, refl), (tt, refl))),
+            (
+              tt,
+              (
+                (tt, ((tt, refl), (tt, tt))),
+                (tt, refl),
+                (
+                  tt,
+                  (
+                    ((tt, tt), (((tt, (tt, tt)), refl), (tt, refl))),
+                    (tt, (((tt, tt), refl), (tt, ((tt, refl), (tt, tt))))),
+                  ),
+                ),
+              ),
+            ),
+          ),
+        ),
+      ),
+    ),
+    (
+      (
+        tt,
+        (
+          (tt, ((tt, tt), (tt, tt))),
+          (
+            tt,
+            (
+              ((tt, tt), (((tt, (tt, tt)), refl), (tt, refl))),
+              (tt, ((tt, (((tt, tt), refl), (tt, tt))), (tt, (tt, refl)))),
+            ),
+          ),
+        ),
+      ),
+      tt,
+    ),
+  ),
+  (
+    below 0 (omega arith),
+    (
+      below 1 (omega arith),
+      (
+        below 2 (omega arith),
+        (
+          below 3 (omega arith),
+          (
+            below 4 (omega arith),
+            (below 5 (omega arith), (below 6 (omega arith), (below 7 (omega arith), tt))),
+          ),
+        ),
+      ),
+    ),
+  ),
+)

@@ -1,0 +1,254 @@
+-- The types that operations give in environments of known types.
+use Rattle.std.proofs.Common.{inr, ℕ, suc, pos, Option, Some, None, subst}
+use Rattle.lq_checks.specs.Basis.{Basis}
+use Rattle.lq_checks.specs.Binders.{operation_binders}
+use Rattle.lq_checks.specs.Operation.{quotient_facts, type_of}
+use Rattle.lq_checks.specs.Pure.{atom_by, formula_of, pure_atom, pure_type, sum_of, type_of_use}
+use Rattle.lq_checks.specs.Ready.{IsReadyOperation, SameType}
+use Rattle.lq_checks.specs.Tree.{Pure, Operation, pure, fun, if_else, match_on, call, tuple, build, make, fetch, store, divide, remainder, assert, assert_false, read, print, map_empty, map_add, map_find}
+use Rattle.lq_included.specs.Symbols.{Symbols, with_symbol, SumOn}
+use Rattle.lq_in_scope.specs.InScope.{OperationInScope}
+use Rattle.lq_in_scope.specs.Laws.{TypesAreOver}
+use Rattle.lq_in_scope.specs.Over.{AreSorted, AreWithin, IsWithin, PartsOver, TypeOver, of_any_sort, with_sort}
+use Rattle.lq_in_scope.proofs.Symbols.{own_one, within_one}
+use Rattle.lq_inhabits.specs.Truth.{Objects, Scene}
+use Rattle.lq_names_kept.specs.Laws.{KeepNames}
+use Rattle.lq_names_kept.specs.Puts.{AtomOver, HasKind}
+use Rattle.lq_new_names.specs.NewNames.{HasNoNames, IsInScope}
+use Rattle.lq_parts.specs.Assignment.{Assignment}
+use Rattle.lq_plain.specs.Plain.{IsBase, IsFlow}
+use Rattle.lq_pred.specs.Sum as sums
+use Rattle.lq_pred.specs.Sum.{Sum}
+use Rattle.lq_pred.specs.declared.symbol.Symbol.{Symbol}
+use Rattle.lq_pred.specs.declared.symbol.Symbol.TheVariants.{Value}
+use Rattle.lq_pures.specs.Pures.{PureOver, scene_of}
+use Rattle.lq_pures.proofs.Values.{formula_over, sum_over}
+use Rattle.lq_refined.specs.Context.{Context}
+use Rattle.lq_refined.specs.Operations.{applied, symbol_of}
+use Rattle.lq_refined.specs.Refined.{Refined, int_with, bool_with, unit_type, function, tuple_of, array_with, data_with, map_with, type_variable, Kind, number, truth_value, object, other, kind, argument_of, result_of, binder_of, element_of}
+use Rattle.lq_renamed.specs.Names.{NamesApart, with_twins}
+use Rattle.lq_runs.specs.Closed.{names_in, IsTypeOver}
+use Rattle.lq_runs.proofs.Closing.{sum_more}
+use Rattle.lq_templates.specs.Scopes.{Unknown}
+use Rattle.lq_scalar.specs.Scalar.{HaveTwins}
+use Rattle.lq_scalar.specs.Written.{IsGivenWritten, IsNameless, IsOperationWritten, IsScalar}
+use Rattle.lq_scalar.proofs.Contexts as contexts
+use Rattle.lq_scalar.proofs.Contexts.{function_far, own_near, pure_fine, small_names, sorted_any, type_over, use_known, wide}
+use Rattle.lq_scalar.proofs.Forms.{function_scalar, pure_more, pure_uses, scalar_flow}
+use Rattle.lq_scalar.proofs.NameKinds.{Agree, operation_kinds}
+use Rattle.lq_scalar.proofs.Templates.{base_nameless}
+use Rattle.lq_scalar.proofs.Types.{IsApart, IsNamed, applied_keeps, apart_less, apart_nameless, base_apart, base_scalar, both_put, name_within, named_nameless, named_put, same_kind, twins_within}
+
+-- one more name at its sort is one more of any sort
+pub sort_within : (N : Symbols) (k : Kind) (x : Symbol) → AreWithin (with_sort (of_any_sort N) k x) (of_any_sort (with_symbol N x))
+sort_within N number x = record { terms = λ y e. e; flags = within_one N x }
+sort_within N truth_value x = record { terms = within_one N x; flags = λ y e. e }
+sort_within N object x = record { terms = λ y e. e; flags = within_one N x }
+sort_within N other x = record { terms = λ y e. e; flags = within_one N x }
+
+own_has : (k : Kind) (e : Pure) → HasKind k (atom_by k e)
+own_has number e = tt
+own_has truth_value e = tt
+own_has object e = tt
+own_has other e = tt
+
+atom_over : (N : Symbols) (k : Kind) (e : Pure) → PureOver N e → AtomOver (of_any_sort N) (atom_by k e)
+atom_over N number e o = sum_over N e o
+atom_over N truth_value e o = sorted_any N (formula_of e) (formula_over N e o)
+atom_over N object e o = sum_over N e o
+atom_over N other e o = sum_over N e o
+
+module _ (P : Basis) (unknowns : ℕ → Unknown) (keep : KeepNames P.setting.constructors unknowns P.setting.scopes) (m : ℕ → Kind) where
+  abbrev Over : Symbols → Refined → Type 0
+  Over N t = TypeOver P.setting.constructors unknowns (of_any_sort N) t
+
+  abbrev Fine : Symbols → Refined → Type 0
+  Fine = contexts.IsFine P unknowns keep m
+
+  abbrev Good : Context → Type 0
+  Good = contexts.IsGood P unknowns keep m
+
+  unit_fine : (N : Symbols) → Fine N unit_type
+  unit_fine N = record { scalar = tt; over = (tt, tt); apart = tt; named = tt }
+
+  pub nameless_fine : (N : Symbols) (t : Refined) → IsNameless t → Over N t → Fine N t
+  nameless_fine N t h o = record { scalar = h.0; over = o; apart = apart_nameless N t h.0 h.1; named = named_nameless m t h.1 }
+
+  base_fine : (N : Symbols) (t : Refined) → IsBase t → Over N t → Fine N t
+  base_fine N t h o = nameless_fine N t (base_scalar t h, base_nameless t h) o
+
+  -- an array's elements
+  element_fine : (N : Symbols) (t : Refined) → IsScalar t → Over N t → Fine N (element_of t)
+  element_fine N (int_with p) s h = unit_fine N
+  element_fine N (bool_with p) s h = unit_fine N
+  element_fine N unit_type s h = unit_fine N
+  element_fine N (function x a b) s h = unit_fine N
+  element_fine N (tuple_of ts) s h = absurd s
+  element_fine N (array_with e p) s h = base_fine N e s h.0
+  element_fine N (data_with d ts n p) s h = absurd s
+  element_fine N (map_with e p) s h = absurd s
+  element_fine N (type_variable i) s h = absurd s
+
+  -- a function's argument
+  pub argument_fine : (N : Symbols) (t : Refined) → IsScalar t → Over N t → IsNameless (argument_of t) × Over N (argument_of t)
+  argument_fine N (int_with p) s h = ((tt, tt), (tt, tt))
+  argument_fine N (bool_with p) s h = ((tt, tt), (tt, tt))
+  argument_fine N unit_type s h = ((tt, tt), (tt, tt))
+  argument_fine N (function x a b) s h = ((s.0, s.1), (h.0.0, h.0.1))
+  argument_fine N (tuple_of ts) s h = absurd s
+  argument_fine N (array_with e p) s h = ((tt, tt), (tt, tt))
+  argument_fine N (data_with d ts n p) s h = absurd s
+  argument_fine N (map_with e p) s h = absurd s
+  argument_fine N (type_variable i) s h = absurd s
+
+  result_apart : (N : Symbols) (x : Option ℕ) (a b : Refined) → IsScalar b → NamesApart N (function x a b) → NamesApart N b
+  result_apart N None a b s h = h.1
+  result_apart N (Some x) a b s h = apart_less N (with_twins N x) (twins_within N x) b s h.4
+
+  result_named : (x : Option ℕ) (a b : Refined) → IsNamed m (function x a b) → IsNamed m b
+  result_named None a b h = h
+  result_named (Some x) a b h = h.1
+
+  -- the result of a call
+  called_fine : (Γ : Context) (e : Pure) → PureOver (names_in Γ) e → (t : Refined) → Fine (names_in Γ) t
+      → SameType (pure_type P Γ e) (argument_of t)
+      → Fine (names_in Γ) (applied P.setting.scopes (binder_of t) (pure_atom P Γ e) (result_of t))
+  called_fine Γ e o (function x a b) k same =
+      let N = names_in Γ in
+      let atom = pure_atom P Γ e in
+      let both = applied_keeps P.setting.scopes (IsApart P.setting.scopes N) (both_put P.setting.scopes N) x atom b
+      (k.scalar.2, result_apart N x a b k.scalar.2 k.apart) in
+      record {
+        scalar = both.0;
+        over = keep.applying (of_any_sort N) x (kind a) atom (atom_over N (kind (pure_type P Γ e)) e o)
+            (subst (λ i. HasKind i atom) (same_kind (pure_type P Γ e) a same) (own_has (kind (pure_type P Γ e)) e)) b (k.over.0.2, k.over.0.3);
+        apart = both.1;
+        named = applied_keeps P.setting.scopes (IsNamed m) (named_put P.setting.scopes m) x atom b (result_named x a b k.named);
+      }
+  called_fine Γ e o (int_with p) k same = unit_fine (names_in Γ)
+  called_fine Γ e o (bool_with p) k same = unit_fine (names_in Γ)
+  called_fine Γ e o unit_type k same = unit_fine (names_in Γ)
+  called_fine Γ e o (tuple_of ts) k same = unit_fine (names_in Γ)
+  called_fine Γ e o (array_with u p) k same = unit_fine (names_in Γ)
+  called_fine Γ e o (data_with d ts n p) k same = unit_fine (names_in Γ)
+  called_fine Γ e o (map_with u p) k same = unit_fine (names_in Γ)
+  called_fine Γ e o (type_variable i) k same = unit_fine (names_in Γ)
+
+  -- ---- numbers
+
+  more_sum : (N : Symbols) (e : Pure) → PureOver N e → SumOn (with_symbol N Value) (sum_of e)
+  more_sum N e o = sum_more N (with_symbol N Value) (within_one N Value) (sum_of e) (sum_over N e o)
+
+  facts_over : (N : Symbols) (x y : Sum) → SumOn (with_symbol N Value) x → PartsOver unknowns (with_sort (of_any_sort N) number Value) (quotient_facts x y)
+  facts_over N x (sums.whole (pos (suc c))) o =
+      let v = own_one N Value in
+      (((((tt, o), ((tt, v), o)), (o, ((tt, v), tt))), (((o, tt), (o, (tt, v))), ((tt, v), (o, tt)))), tt)
+  facts_over N x _ o = tt
+
+  -- ---- operations
+
+  pub operation_fine : (N : Symbols) (Γ : Context) → IsWithin N (names_in Γ) → Good Γ → (o : Operation) → OperationInScope P unknowns N o
+      → IsOperationWritten P o → IsGivenWritten P o → IsReadyOperation P Γ o (type_of P Γ o) → HaveTwins (operation_binders o)
+      → Agree m (operation_kinds P Γ o (type_of P Γ o)) → Fine (names_in Γ) (type_of P Γ o)
+  operation_fine N Γ w good (pure e) scoped written given ready twins kinds =
+      pure_fine P unknowns keep m Γ good e (pure_more N (names_in Γ) w e (pure_uses P unknowns N e scoped written))
+  operation_fine N Γ w good (fun p y b) scoped written given ready twins kinds =
+      let t = P.template p in
+      let far = function_far P m y b Γ t (names_in Γ) (own_near Γ) (small_names P unknowns keep m Γ good) ready.0 ready.1 twins kinds given in
+      record { scalar = function_scalar y p b t given; over = wide P unknowns keep m N (names_in Γ) w t scoped.0; apart = far.0; named = far.1 }
+  operation_fine N Γ w good (if_else p c a b) scoped written given ready twins kinds =
+      nameless_fine (names_in Γ) (P.template p) given (wide P unknowns keep m N (names_in Γ) w (P.template p) scoped.0)
+  operation_fine N Γ w good (match_on p u arms) scoped written given ready twins kinds = absurd written
+  operation_fine N Γ w good (call g a) scoped written given ready twins kinds =
+      called_fine Γ a (pure_more N (names_in Γ) w a (pure_uses P unknowns N a scoped.1 written.1)) (pure_type P Γ g)
+      (pure_fine P unknowns keep m Γ good g (pure_more N (names_in Γ) w g (pure_uses P unknowns N g scoped.0 written.0))) ready
+  operation_fine N Γ w good (tuple es) scoped written given ready twins kinds = absurd written
+  operation_fine N Γ w good (build p c es) scoped written given ready twins kinds = absurd written
+  operation_fine N Γ w good (make p n e) scoped written given ready twins kinds =
+      let o = pure_more N (names_in Γ) w n (pure_uses P unknowns N n scoped.1 written.0) in
+      record {
+        scalar = written.2;
+        over = (wide P unknowns keep m N (names_in Γ) w (P.template p) scoped.0, ((own_one (names_in Γ) Value, more_sum (names_in Γ) n o), tt));
+        apart = base_apart (names_in Γ) (P.template p) written.2;
+        named = tt;
+      }
+  operation_fine N Γ w good (fetch u i) scoped written given ready twins kinds =
+      let k = use_known P unknowns keep m Γ good u (w (symbol_of u.name) scoped.0.0, written.0) in
+      element_fine (names_in Γ) (type_of_use P Γ u) k.scalar (wide P unknowns keep m k.own (names_in Γ) k.within (type_of_use P Γ u) k.over)
+  operation_fine N Γ w good (store u i e) scoped written given ready twins kinds = unit_fine (names_in Γ)
+  operation_fine N Γ w good (divide x y) scoped written given ready twins kinds =
+      let v = own_one (names_in Γ) Value in
+      let a = more_sum (names_in Γ) x (pure_more N (names_in Γ) w x (pure_uses P unknowns N x scoped.0 written.0)) in
+      let b = more_sum (names_in Γ) y (pure_more N (names_in Γ) w y (pure_uses P unknowns N y scoped.1 written.1)) in
+      record { scalar = tt; over = (tt, ((v, (a, b)), facts_over (names_in Γ) (sum_of x) (sum_of y) a)); apart = tt; named = tt }
+  operation_fine N Γ w good (remainder x y) scoped written given ready twins kinds =
+      let v = own_one (names_in Γ) Value in
+      let a = more_sum (names_in Γ) x (pure_more N (names_in Γ) w x (pure_uses P unknowns N x scoped.0 written.0)) in
+      let b = more_sum (names_in Γ) y (pure_more N (names_in Γ) w y (pure_uses P unknowns N y scoped.1 written.1)) in
+      record { scalar = tt; over = (tt, ((v, (a, b)), ((((a, tt), (b, tt)), ((tt, v), (v, b))), tt))); apart = tt; named = tt }
+  operation_fine N Γ w good (assert e) scoped written given ready twins kinds = unit_fine (names_in Γ)
+  operation_fine N Γ w good (assert_false p) scoped written given ready twins kinds =
+      nameless_fine (names_in Γ) (P.template p) written (wide P unknowns keep m N (names_in Γ) w (P.template p) scoped)
+  operation_fine N Γ w good (read e) scoped written given ready twins kinds = record { scalar = tt; over = (tt, tt); apart = tt; named = tt }
+  operation_fine N Γ w good (print e) scoped written given ready twins kinds = unit_fine (names_in Γ)
+  operation_fine N Γ w good (map_empty p) scoped written given ready twins kinds = absurd written
+  operation_fine N Γ w good (map_add p k e n) scoped written given ready twins kinds = absurd written
+  operation_fine N Γ w good (map_find k n) scoped written given ready twins kinds = absurd written
+
+  -- ---- flows
+
+  module _ (laws : TypesAreOver) (A : Assignment) (O : Objects) (sorted : AreSorted unknowns A) where
+    abbrev S : Scene
+    S = scene_of P A O
+
+    pub typed : (N : Symbols) (t : Refined) → Over N t → IsTypeOver S N t
+    typed N t h = type_over P unknowns keep m laws A O sorted N t h
+
+    base_scoped : (N : Symbols) (t : Refined) → IsBase t → IsInScope S N t
+    base_scoped N (int_with p) h = tt
+    base_scoped N (bool_with p) h = tt
+    base_scoped N unit_type h = tt
+    base_scoped N (function x a b) h = absurd h
+    base_scoped N (tuple_of ts) h = h
+    base_scoped N (array_with e p) h = absurd h
+    base_scoped N (data_with d ts n p) h = h
+    base_scoped N (map_with e p) h = tt
+    base_scoped N (type_variable i) h = tt
+
+    scoped_in : (N : Symbols) (t : Refined) → IsScalar t → NamesApart N t → Over N t → IsInScope S N t
+    scoped_in N (int_with p) s n h = tt
+    scoped_in N (bool_with p) s n h = tt
+    scoped_in N unit_type s n h = tt
+    scoped_in N (function None a b) s n h = (
+      typed N a (h.0.0, h.0.1),
+      scoped_in N a s.0 n.0 (h.0.0, h.0.1),
+      typed N b (h.0.2, h.0.3),
+      scoped_in N b s.2 n.1 (h.0.2, h.0.3),
+    )
+    scoped_in N (function (Some x) a b) s n h =
+        let M = with_symbol N (symbol_of x) in
+        let o : Over M b =
+        keep.widening (with_sort (of_any_sort N) (kind a) (symbol_of x)) (of_any_sort M) (sort_within N (kind a) (symbol_of x)) b (h.0.2, h.0.3) in (
+          n.0,
+          typed N a (h.0.0, h.0.1),
+          scoped_in N a s.0 n.3 (h.0.0, h.0.1),
+          typed M b o,
+          scoped_in M b s.2 (apart_less M (with_twins N x) (name_within N x) b s.2 n.4) o,
+        )
+    scoped_in N (tuple_of ts) s n h = absurd s
+    scoped_in N (array_with e p) s n h = (typed N e h.0, base_scoped N e s)
+    scoped_in N (data_with d ts k p) s n h = absurd s
+    scoped_in N (map_with e p) s n h = tt
+    scoped_in N (type_variable i) s n h = tt
+
+    -- what is fine flows into a type without names
+    pub flow : (N : Symbols) (l r : Refined) → Fine N l → IsNameless r → Over N r → SameType l r → IsFlow S N l r
+    flow N l r k h o e =
+        scalar_flow S N l r k.scalar h.0 e
+        (λ x y a b c d f g. (
+          subst (λ t. IsTypeOver S N t) f (typed N l k.over),
+          subst (λ t. IsInScope S N t) f (scoped_in N l k.scalar k.apart k.over),
+          subst (λ t. IsTypeOver S N t) g (typed N r o),
+          subst (λ t. IsInScope S N t) g (scoped_in N r h.0 (apart_nameless N r h.0 h.1) o),
+          inr (subst HasNoNames g h.1),
+        ))

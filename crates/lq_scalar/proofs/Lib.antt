@@ -1,0 +1,11 @@
+-- Lemmas.
+mod Templates
+mod Reading
+mod Twins
+mod Types
+mod NameKinds
+mod Contexts
+mod Forms
+mod Fine
+mod Plain
+mod Example

@@ -1,0 +1,280 @@
+-- What is read of scalar programs is written as their templates name it.
+use Rattle.std.proofs.Common.{◌≡◌, ℕ, suc, ◌+◌, arith, Bool, true, false, List, [], ◌∷◌, ◌++◌, length, Option, None, Some, refl, sym, subst}
+use Rattle.lq_checks.specs.Basis.{Basis}
+use Rattle.lq_checks.specs.Ready.{Where}
+use Rattle.lq_checks.specs.Tree as t
+use Rattle.lq_checks.specs.Tree.{has_template, last_operation}
+use Rattle.lq_instances.specs.Scopes.{Scope}
+use Rattle.lq_name.specs.declared.operation.ArithOp.{ArithOp}
+use Rattle.lq_name.specs.declared.place.Place.{Place}
+use Rattle.lq_plain.specs.Plain.{IsBase}
+use Rattle.lq_points.specs.Annotation.{Annotation, argument_name, arguments_at, element_type}
+use Rattle.lq_points.specs.Point.{Point, whole}
+use Rattle.lq_points.specs.Pure.{Read, after, arithmetic_of, pure_of, use_with, variable_of}
+use Rattle.lq_points.specs.Reading as reading
+use Rattle.lq_points.specs.Reading.{block_of, defined, expecting, item, own_point, program_from, program_of, written_names}
+use Rattle.lq_points.specs.Seen.{Seen, seen, seen_until, scope_at}
+use Rattle.lq_points.specs.Templates.{Datatypes, basis_of, made_at, templates_at, templates_from}
+use Rattle.lq_read.specs.Normal.{is_name, IsPure, pure_whole, pure_flag, pure_unit, pure_use, pure_arithmetic, pure_negated, pure_compare, pure_not, pure_and, pure_or, pure_length, IsRing, ring_add, ring_subtract, ring_multiply, IsUse, is_use, IsBlock, block_let, block_let_rec, block_operation, IsOperation, is_pure, is_fun, is_if, is_match, is_tuple, is_build, is_call, is_quotient, is_remainder, is_assert, is_assert_false, is_make, is_fetch, is_store, is_print, is_read, IsItem, item_type, item_name, item_any, item_unit, item_function, AreNormal}
+use Rattle.lq_refined.specs.Refined.{Refined, Refineds}
+use Rattle.lq_scoped.specs.Numbers.{number_of}
+use Rattle.lq_subtype.specs.Splitting.{first_of}
+use Rattle.lq_templates.specs.Fresh.{fresh}
+use Rattle.lq_tree.specs.Items.{ItemTree, ItemForm}
+use Rattle.lq_tree.specs.MlType as ml
+use Rattle.lq_tree.specs.MlType.{MlType, MlTypes}
+use Rattle.lq_tree.specs.Tree.{Tree}
+use Rattle.lq_scalar.specs.Laws.{TemplatesAreWritten}
+use Rattle.lq_scalar.specs.Scalar.{IsBaseType, IsScalarType, IsScalarTree, IsScalarItem, IsScalarProgram}
+use Rattle.lq_scalar.specs.Written.{IsNameless, IsFunctionFor, IsPlainUse, HasPlainUses, IsGivenWritten, IsOperationWritten, IsBlockWritten, IsWritten}
+use Rattle.lq_scalar.proofs.Templates.{base_made, function_made, nameless_made}
+
+-- ---- templates of points
+
+module _ (D : Datatypes) (T : ℕ → Refineds) where
+  -- the templates from the number k on are made for these points
+  abbrev IsMade : ℕ → Point → Type 0
+  IsMade k q = (m : ℕ) × (T k ≡ (made_at D m q).types)
+
+  abbrev AreMade : ℕ → List Point → Type 0
+  AreMade k [] = Unit {0}
+  AreMade k (q ∷ qs) = IsMade k q × AreMade (suc k) qs
+
+  made_first : (k : ℕ) (ps qs : List Point) → AreMade k (ps ++ qs) → AreMade k ps
+  made_first k [] qs h = tt
+  made_first k (p ∷ ps) qs h = (h.0, made_first (suc k) ps qs h.1)
+
+  made_second : (k : ℕ) (ps qs : List Point) → AreMade k (ps ++ qs) → AreMade (k + length ps) qs
+  made_second k [] qs h = let e : k ≡ k + 0 = omega arith in subst (λ (m : ℕ). AreMade m qs) e h
+  made_second k (p ∷ ps) qs h =
+      let e : suc k + length ps ≡ k + suc (length ps) = omega arith in subst (λ (m : ℕ). AreMade m qs) e (made_second (suc k) ps qs h.1)
+
+made_later : (D : Datatypes) (T : ℕ → Refineds) (k : ℕ) (ps : List Point) → AreMade D (λ i. T (suc i)) k ps → AreMade D T (suc k) ps
+made_later D T k [] h = tt
+made_later D T k (p ∷ ps) h = (h.0, made_later D T (suc k) ps h.1)
+
+all_made : (D : Datatypes) (n : ℕ) (ps : List Point) → AreMade D (templates_at (templates_from D n ps)) 0 ps
+all_made D n [] = tt
+all_made D n (p ∷ ps) =
+    let m = made_at D n p in
+    ((n, refl), made_later D (templates_at (templates_from D n (p ∷ ps))) 0 ps (all_made D (n + length m.unknowns) ps))
+
+-- ---- expressions
+
+module _ (n : Annotation) where
+  use_plain : (Δ : List Seen) (k i x : ℕ) (o : Option MlTypes) → o ≡ None → IsPlainUse (use_with n Δ k i x o).read
+  use_plain Δ k i x None h = refl
+  use_plain Δ k i x (Some ts) h = cc
+
+  variable_plain : {e : Tree} → IsUse e → IsScalarTree n e → (Δ : List Seen) (k : ℕ) → IsPlainUse (variable_of n Δ k e).read
+  variable_plain (is_use {i = i} {x = x}) s Δ k = use_plain Δ k i x (arguments_at n i x) s.1
+
+  ring_plain : {o : ArithOp} (a b : t.Pure) → IsRing o → HasPlainUses a → HasPlainUses b → HasPlainUses (arithmetic_of o a b)
+  ring_plain a b ring_add h k = (h, k)
+  ring_plain a b ring_subtract h k = (h, k)
+  ring_plain a b ring_multiply h k = (h, k)
+
+  pure_plain : {e : Tree} → IsPure e → IsScalarTree n e → (Δ : List Seen) (k : ℕ) → HasPlainUses (pure_of n Δ k e).read
+  pure_plain pure_whole s Δ k = tt
+  pure_plain pure_flag s Δ k = tt
+  pure_plain pure_unit s Δ k = tt
+  pure_plain (pure_use {i = i} {x = x}) s Δ k = use_plain Δ k i x (arguments_at n i x) s.1
+  pure_plain (pure_arithmetic {a = a} {b = b} r p q) s Δ k =
+      let A = pure_of n Δ k a in
+      ring_plain A.read (pure_of n Δ (after k A) b).read r (pure_plain p s.1.0 Δ k) (pure_plain q s.1.1 Δ (after k A))
+  pure_plain (pure_negated p) s Δ k = pure_plain p s.1 Δ k
+  pure_plain (pure_compare {a = a} p q) s Δ k = (pure_plain p s.1.0 Δ k, pure_plain q s.1.1 Δ (after k (pure_of n Δ k a)))
+  pure_plain (pure_not p) s Δ k = pure_plain p s.1 Δ k
+  pure_plain (pure_and {a = a} p q) s Δ k = (pure_plain p s.1.0 Δ k, pure_plain q s.1.1 Δ (after k (pure_of n Δ k a)))
+  pure_plain (pure_or {a = a} p q) s Δ k = (pure_plain p s.1.0 Δ k, pure_plain q s.1.1 Δ (after k (pure_of n Δ k a)))
+  pure_plain (pure_length p) s Δ k = pure_plain p s.1 Δ k
+
+element_base : (t : MlType) → IsScalarType t → IsBaseType (element_type t)
+element_base ml.int s = tt
+element_base ml.bool s = tt
+element_base ml.unit s = tt
+element_base (ml.var i) s = absurd s
+element_base (ml.arrow a b) s = tt
+element_base (ml.tuple ts) s = absurd s
+element_base (ml.array a) s = s
+element_base (ml.named d ts) s = absurd s
+element_base (ml.map_of a) s = absurd s
+
+-- ---- blocks and programs
+
+module _ (D : Datatypes) (n : Annotation) (all : List Point) where
+  abbrev P : Basis
+  P = basis_of D all
+
+  abbrev At : ℕ → Point → Type 0
+  At = IsMade D P.type_arguments
+
+  abbrev Made : ℕ → List Point → Type 0
+  Made = AreMade D P.type_arguments
+
+  front : (k : ℕ) (ps qs : List Point) → Made k (ps ++ qs) → Made k ps
+  front k ps qs h = made_first D P.type_arguments k ps qs h
+
+  back : (k : ℕ) (ps qs : List Point) → Made k (ps ++ qs) → Made (k + length ps) qs
+  back k ps qs h = made_second D P.type_arguments k ps qs h
+
+  -- what holds of each fresh template for a point holds of its template
+  template_at : (C : Refined → Type 0) (k : ℕ) (Γ : Scope) (xs : List (Option ℕ)) (a : MlType) → At k (whole Γ xs a)
+      → ((m : ℕ) → C (fresh D.constructors D.ordered m Γ xs a).type) → C (P.template k)
+  template_at C k Γ xs a h f = subst (λ ts. C (first_of ts)) (sym h.1) (f h.0)
+
+  -- where no type is expected
+  given_at : (C : Refined → Type 0) (g : Bool) (k : ℕ) (Γ : Scope) (xs : List (Option ℕ)) (a : MlType) → At k (expecting g (whole Γ xs a))
+      → ((m : ℕ) → C (fresh D.constructors D.ordered m Γ xs a).type) → Where g (Unit {0}) (C (P.template k))
+  given_at C true k Γ xs a h f = tt
+  given_at C false k Γ xs a h f = template_at C k Γ xs a h f
+
+  -- an operation, and the block that it is alone
+  abbrev OperationRead : Bool → t.Block → Type 0
+  OperationRead g B =
+      (IsOperationWritten P (last_operation B) × Where g (Unit {0}) (IsGivenWritten P (last_operation B))) × IsBlockWritten P g B
+
+  twice : {A : Type 0} → A → A × A
+  twice h = (h, h)
+
+  nothing_given : (g : Bool) → Where g (Unit {0}) (Unit {0})
+  nothing_given true = tt
+  nothing_given false = tt
+
+  pure_block : (g : Bool) (k : ℕ) (Δ : List Seen) {e : Tree} → IsPure e → IsScalarTree n e → OperationRead g (block_of n g k Δ e).read
+  pure_block g k Δ (pure_whole {l = l}) s = twice (tt, nothing_given g)
+  pure_block g k Δ (pure_flag {l = l}) s = twice (tt, nothing_given g)
+  pure_block g k Δ (pure_unit {l = l}) s = twice (tt, nothing_given g)
+  pure_block g k Δ (pure_use {i = i} {l = l} {x = x}) s = twice (pure_plain n (pure_use {i = i} {l = l} {x = x}) s Δ k, nothing_given g)
+  pure_block g k Δ (pure_arithmetic {i = i} {l = l} ring_add p q) s = twice (pure_plain n (pure_arithmetic {i = i} {l = l} ring_add p q) s Δ k, nothing_given g)
+  pure_block g k Δ (pure_arithmetic {i = i} {l = l} ring_subtract p q) s = twice (pure_plain n (pure_arithmetic {i = i} {l = l} ring_subtract p q) s Δ k, nothing_given g)
+  pure_block g k Δ (pure_arithmetic {i = i} {l = l} ring_multiply p q) s = twice (pure_plain n (pure_arithmetic {i = i} {l = l} ring_multiply p q) s Δ k, nothing_given g)
+  pure_block g k Δ (pure_negated {i = i} {l = l} p) s = twice (pure_plain n (pure_negated {i = i} {l = l} p) s Δ k, nothing_given g)
+  pure_block g k Δ (pure_compare {i = i} {l = l} {o = o} p q) s = twice (pure_plain n (pure_compare {i = i} {l = l} {o = o} p q) s Δ k, nothing_given g)
+  pure_block g k Δ (pure_not {i = i} {l = l} p) s = twice (pure_plain n (pure_not {i = i} {l = l} p) s Δ k, nothing_given g)
+  pure_block g k Δ (pure_and {i = i} {l = l} p q) s = twice (pure_plain n (pure_and {i = i} {l = l} p q) s Δ k, nothing_given g)
+  pure_block g k Δ (pure_or {i = i} {l = l} p q) s = twice (pure_plain n (pure_or {i = i} {l = l} p q) s Δ k, nothing_given g)
+  pure_block g k Δ (pure_length {i = i} {l = l} p) s = twice (pure_plain n (pure_length {i = i} {l = l} p) s Δ k, nothing_given g)
+
+  mutual
+    block_read : (g : Bool) (k : ℕ) (Δ : List Seen) {e : Tree} → IsBlock e → IsScalarTree n e → Made k (block_of n g k Δ e).points
+        → IsBlockWritten P g (block_of n g k Δ e).read
+    block_read g k Δ (block_let {i = i} {q = q} {e = e} {b = b} m f r) s h =
+        let E : Read t.Block = block_of n false k Δ e in
+        let Θ : List Seen = seen_until i (reading.parameter_of q) ∷ Δ in
+        let B : Read t.Block = block_of n g (after k E) Θ b in
+        let X : OperationRead false E.read = operation_read false k Δ f s.1.0 (front k E.points B.points h) in
+        (X.0.0, X.0.1, block_read g (after k E) Θ r s.1.1 (back k E.points B.points h))
+    block_read g k Δ (block_let_rec {i = i} {f = f} {j = j} {b = b} {e = e} (is_name {l = l} {x = x}) r z) s h =
+        let Θ : List Seen = seen_until i f ∷ Δ in
+        let B : Read t.Block = block_of n true (suc k) (seen x ∷ Θ) b in
+        let E : Read t.Block = block_of n g (after (suc k) B) Θ e in (
+          template_at (IsFunctionFor x B.read) k (scope_at n Θ j) (argument_name n x ∷ written_names n b) (n.names f) h.0
+              (λ m. function_made D.constructors D.ordered n r x (suc k) (seen x ∷ Θ) m (scope_at n Θ j) (n.names f) s.1.0),
+          block_read true (suc k) (seen x ∷ Θ) r s.1.1 (front (suc k) B.points E.points h.1),
+          block_read g (after (suc k) B) Θ z s.1.2 (back (suc k) B.points E.points h.1),
+        )
+    block_read g k Δ (block_operation f) s h = (operation_read g k Δ f s h).1
+
+    operation_read : (g : Bool) (k : ℕ) (Δ : List Seen) {e : Tree} → IsOperation e → IsScalarTree n e → Made k (block_of n g k Δ e).points
+        → OperationRead g (block_of n g k Δ e).read
+    operation_read g k Δ (is_pure p) s h = pure_block g k Δ p s
+    operation_read g k Δ (is_fun {i = i} {b = b} (is_name {l = l} {x = x}) r) s h =
+        let B : Read t.Block = block_of n true (suc k) (seen x ∷ Δ) b in
+        twice (
+          block_read true (suc k) (seen x ∷ Δ) r s.1 h.1,
+          given_at (IsFunctionFor x B.read) g k (scope_at n Δ i) (argument_name n x ∷ written_names n b) (n.types i) h.0
+              (λ m. function_made D.constructors D.ordered n r x (suc k) (seen x ∷ Δ) m (scope_at n Δ i) (n.types i) s.0),
+        )
+    operation_read g k Δ (is_if {i = i} {c = c} {a = a} {b = b} p r z) s h =
+        let C = pure_of n Δ (suc k) c in
+        let A = block_of n true (after (suc k) C) Δ a in
+        let B = block_of n true (after (after (suc k) C) A) Δ b in
+        let rest = back (suc k) C.points (A.points ++ B.points) h.1 in
+        twice (
+          (
+            pure_plain n p s.1.0 Δ (suc k),
+            block_read true (after (suc k) C) Δ r s.1.1 (front (after (suc k) C) A.points B.points rest),
+            block_read true (after (after (suc k) C) A) Δ z s.1.2 (back (after (suc k) C) A.points B.points rest),
+          ),
+          given_at IsNameless g k (scope_at n Δ i) [] (n.types i) h.0 (λ m. nameless_made D.constructors D.ordered m (scope_at n Δ i) (n.types i) s.0),
+        )
+    operation_read g k Δ (is_match p r) s h = absurd s.1
+    operation_read g k Δ (is_tuple p) s h = absurd s.1
+    operation_read g k Δ (is_build p) s h = absurd s.1
+    operation_read g k Δ (is_call {f = f} p q) s h =
+        twice ((pure_plain n p s.1.0 Δ k, pure_plain n q s.1.1 Δ (after k (pure_of n Δ k f))), nothing_given g)
+    operation_read g k Δ (is_quotient {a = a} p q) s h =
+        twice ((pure_plain n p s.1.0 Δ k, pure_plain n q s.1.1 Δ (after k (pure_of n Δ k a))), nothing_given g)
+    operation_read g k Δ (is_remainder {a = a} p q) s h =
+        twice ((pure_plain n p s.1.0 Δ k, pure_plain n q s.1.1 Δ (after k (pure_of n Δ k a))), nothing_given g)
+    operation_read g k Δ (is_assert p) s h = twice (pure_plain n p s.1 Δ k, nothing_given g)
+    operation_read g k Δ (is_assert_false {i = i}) s h =
+        twice (
+          template_at IsNameless k (scope_at n Δ i) [] (n.types i) h.0 (λ m. nameless_made D.constructors D.ordered m (scope_at n Δ i) (n.types i) s.0),
+          nothing_given g,
+        )
+    operation_read g k Δ (is_make {i = i} {n = a} p q) s h =
+        let A = pure_of n Δ (suc k) a in
+        let t = element_type (n.types i) in
+        twice (
+          (
+            pure_plain n p s.1.0 Δ (suc k),
+            pure_plain n q s.1.1 Δ (after (suc k) A),
+            template_at IsBase k (scope_at n Δ i) [] t h.0
+                (λ m. base_made D.constructors D.ordered m (scope_at n Δ i) [] t (element_base (n.types i) s.0)),
+          ),
+          nothing_given g,
+        )
+    operation_read g k Δ (is_fetch {a = a} p q) s h =
+        twice ((variable_plain n p s.1.0 Δ k, pure_plain n q s.1.1 Δ (after k (variable_of n Δ k a))), nothing_given g)
+    operation_read g k Δ (is_store {a = a} {n = b} p q r) s h =
+        let A = variable_of n Δ k a in
+        let B = pure_of n Δ (after k A) b in
+        twice
+        ((variable_plain n p s.1.0 Δ k, pure_plain n q s.1.1 Δ (after k A), pure_plain n r s.1.2 Δ (after (after k A) B)), nothing_given g)
+    operation_read g k Δ (is_print p) s h = twice (pure_plain n p s.1 Δ k, nothing_given g)
+    operation_read g k Δ (is_read p) s h = twice (pure_plain n p s.1 Δ k, nothing_given g)
+
+  -- ---- definitions
+
+  -- what is behind an item is written so
+  abbrev RestRead : (ℕ → List Seen → Read t.Program) → Type 0
+  RestRead rest = (k : ℕ) (Δ : List Seen) → Made k (rest k Δ).points → IsWritten P (rest k Δ).read
+
+  name_read : (k : ℕ) (Δ : List Seen) (l : Place) (x : ℕ) {e : Tree} → IsBlock e → IsScalarTree n e → (rest : ℕ → List Seen → Read t.Program)
+      → RestRead rest → Made k (defined n k Δ l x e rest).points → IsWritten P (defined n k Δ l x e rest).read
+  name_read k Δ l x {e} b s rest r h =
+      let B : Read t.Block = block_of n false k Δ e in
+      let own : List Point = own_point n (has_template B.read) (whole (scope_at n Δ (number_of e)) [] (n.names x)) in (
+        block_read false k Δ b s (front k B.points _ h),
+        r (after k B + length own) (seen x ∷ Δ) (back (after k B) own _ (back k B.points _ h)),
+      )
+
+  item_read : (k : ℕ) (Δ : List Seen) {i : ItemForm} → IsItem i → IsScalarItem n i → (rest : ℕ → List Seen → Read t.Program) → RestRead rest
+      → Made k (item n k Δ i rest).points → IsWritten P (item n k Δ i rest).read
+  item_read k Δ item_type s rest r h = r k Δ h
+  item_read k Δ (item_name {l = l} {x = x} {e = e} b) s rest r h = name_read k Δ l x b s rest r h
+  item_read k Δ (item_any {e = e} b) s rest r h =
+      let B : Read t.Block = block_of n false k Δ e in
+      (block_read false k Δ b s (front k B.points _ h), r (after k B) Δ (back k B.points _ h))
+  item_read k Δ (item_unit {e = e} b) s rest r h =
+      let B : Read t.Block = block_of n true k Δ e in
+      (block_read true k Δ b s (front k B.points _ h), r (after k B) Δ (back k B.points _ h))
+  item_read k Δ (item_function {f = f} {r = z} m b) s rest r h =
+      let Θ : List Seen = seen f ∷ Δ in
+      let y : ℕ = reading.parameter_of z.parameter in
+      let B : Read t.Block = block_of n true (suc k) (seen y ∷ Θ) z.body in (
+        template_at (IsFunctionFor y B.read) k (scope_at n Θ z.id) (argument_name n y ∷ written_names n z.body) (n.names f) h.0
+            (λ m. function_made D.constructors D.ordered n b y (suc k) (seen y ∷ Θ) m (scope_at n Θ z.id) (n.names f) s.0),
+        block_read true (suc k) (seen y ∷ Θ) b s.1 (front (suc k) B.points _ h.1),
+        r (after (suc k) B) Θ (back (suc k) B.points _ h.1),
+      )
+
+  items_read : (is : List ItemTree) → AreNormal is → IsScalarProgram n is → RestRead (λ k Δ. program_from n k Δ is)
+  items_read [] m s k Δ h = tt
+  items_read (i ∷ is) m s k Δ h = item_read k Δ m.0 s.0 (λ j Θ. program_from n j Θ is) (items_read is m.1 s.1) h
+
+pub templates_written : TemplatesAreWritten
+templates_written D n is m s =
+    let ps : List Point = (program_of n is).points in items_read D n ps is m s 0 [] (all_made D 0 ps)

@@ -1,0 +1,5 @@
+use Rattle.lq_scalar.proofs.Reading.{templates_written}
+use Rattle.lq_scalar.proofs.laws.templates_are_written.Goals as goal
+
+pub returns : goal.returns
+returns c = templates_written

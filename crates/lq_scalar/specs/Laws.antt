@@ -1,0 +1,36 @@
+-- Scalar programs are plain.
+use Rattle.std.specs.Prelude.{◌≡◌, ℕ, List, []}
+use Rattle.lq_tree.specs.Items.{ItemTree}
+use Rattle.lq_parts.specs.Assignment.{Assignment}
+use Rattle.lq_checks.specs.Basis.{Basis}
+use Rattle.lq_checks.specs.Binders.{AllDiffer, binders}
+use Rattle.lq_checks.specs.Ready.{IsReady}
+use Rattle.lq_checks.specs.Tree.{Program}
+use Rattle.lq_checks.specs.Typing.{Points, AreTemplates, HasProgram}
+use Rattle.lq_points.specs.Annotation.{Annotation}
+use Rattle.lq_points.specs.Reading.{program_of}
+use Rattle.lq_points.specs.Templates.{Datatypes, basis_of}
+use Rattle.lq_inhabits.specs.Truth.{Objects}
+use Rattle.lq_read.specs.Normal.{AreNormal}
+use Rattle.lq_in_scope.specs.InScope.{InScope, no_names}
+use Rattle.lq_in_scope.specs.Over.{AreSorted}
+use Rattle.lq_templates.specs.Scopes.{Unknown, symbols_in}
+use Rattle.lq_safe.specs.Programs.{no_symbols}
+use Rattle.lq_plain.specs.Plain.{IsPlainProgram}
+use Rattle.lq_scalar.specs.Scalar.{HaveTwins, IsScalarProgram}
+use Rattle.lq_scalar.specs.Written.{IsWritten}
+
+-- The templates of a scalar program's points name arguments of functions that are written there alone, and its forms are scalar as they are read.
+abbrev pub TemplatesAreWritten : Type 0
+TemplatesAreWritten =
+    (D : Datatypes) (n : Annotation) (is : List ItemTree) → AreNormal is → IsScalarProgram n is
+    → let p = program_of n is in IsWritten (basis_of D p.points) p.read
+
+-- Where its forms are scalar and its templates written so, a simply typed program that is ready and in scope, with binders that differ and have
+-- twins, is plain, under instances that speak of what their unknowns may speak of, at its sorts.
+abbrev pub ScalarProgramsArePlain : Type 0
+ScalarProgramsArePlain =
+    (P : Basis) (unknowns : ℕ → Unknown) (A : Assignment) (O : Objects) → AreSorted unknowns A
+    → ((u : ℕ) → P.setting.scopes u ≡ symbols_in (unknowns u).0) → (Q : Points) → AreTemplates P Q → (p : Program) → HasProgram P Q [] p
+    → IsReady P [] p → InScope P unknowns no_names p → AllDiffer (binders p) → HaveTwins (binders p) → IsWritten P p
+    → IsPlainProgram P A O no_symbols [] p

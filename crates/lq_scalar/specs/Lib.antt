@@ -1,0 +1,5 @@
+-- Scalar programs, and that what is read of them is plain: definitions and laws.
+pub mod Scalar
+pub mod Written
+pub mod Laws
+pub mod Example

@@ -1,0 +1,92 @@
+-- Scalar programs: over numbers, truth values, unit, arrays of these, and functions over all these, whatever their order.
+use Rattle.std.specs.Prelude.{◌≡◌, ℕ, ◌<◌, ◌^◌, None, List, [], ◌∷◌}
+use Rattle.lq_points.specs.Annotation.{Annotation, arguments_at}
+use Rattle.lq_tree.specs.Items.{ItemTree, ItemForm, type_of, let_of, let_rec_of}
+use Rattle.lq_tree.specs.MlType as ml
+use Rattle.lq_tree.specs.MlType.{MlType}
+use Rattle.lq_tree.specs.Tree as form
+use Rattle.lq_tree.specs.Tree.{Tree, tree, Form}
+
+-- ---- types
+
+abbrev pub IsBaseType : MlType → Type 0
+IsBaseType ml.int = Unit {0}
+IsBaseType ml.bool = Unit {0}
+IsBaseType ml.unit = Unit {0}
+IsBaseType (ml.var i) = ⊥
+IsBaseType (ml.arrow a b) = ⊥
+IsBaseType (ml.tuple ts) = ⊥
+IsBaseType (ml.array a) = ⊥
+IsBaseType (ml.named d ts) = ⊥
+IsBaseType (ml.map_of a) = ⊥
+
+abbrev pub IsScalarType : MlType → Type 0
+IsScalarType ml.int = Unit {0}
+IsScalarType ml.bool = Unit {0}
+IsScalarType ml.unit = Unit {0}
+IsScalarType (ml.var i) = ⊥
+IsScalarType (ml.arrow a b) = IsScalarType a × IsScalarType b
+IsScalarType (ml.tuple ts) = ⊥
+IsScalarType (ml.array a) = IsBaseType a
+IsScalarType (ml.named d ts) = ⊥
+IsScalarType (ml.map_of a) = ⊥
+
+-- ---- expressions, definitions and programs
+
+module _ (n : Annotation) where
+  -- Each node has a scalar type, and no name is used at an instance of a generalised type. Forms are all but tuples, constructors, matches and
+  -- maps, and but lists and sequences, of which there are none in a normal form.
+  abbrev mutual
+    pub IsScalarTree : Tree → Type 0
+    IsScalarTree (tree i l f) = IsScalarType (n.types i) × IsScalarForm i f
+
+    pub IsScalarForm : ℕ → Form → Type 0
+    IsScalarForm i (form.whole z) = Unit {0}
+    IsScalarForm i (form.flag b) = Unit {0}
+    IsScalarForm i form.unit = Unit {0}
+    IsScalarForm i (form.use_of x) = arguments_at n i x ≡ None
+    IsScalarForm i (form.qualified m x) = ⊥
+    IsScalarForm i (form.fun q b) = IsScalarTree b
+    IsScalarForm i (form.tuple es) = ⊥
+    IsScalarForm i (form.build c w es) = ⊥
+    IsScalarForm i (form.list_of es) = ⊥
+    IsScalarForm i (form.let_in q e b) = IsScalarTree e × IsScalarTree b
+    IsScalarForm i (form.let_rec f j m q b e) = IsScalarType (n.names f) × IsScalarTree b × IsScalarTree e
+    IsScalarForm i (form.call f a) = IsScalarTree f × IsScalarTree a
+    IsScalarForm i (form.arithmetic o a b) = IsScalarTree a × IsScalarTree b
+    IsScalarForm i (form.negated a) = IsScalarTree a
+    IsScalarForm i (form.compare o a b) = IsScalarTree a × IsScalarTree b
+    IsScalarForm i (form.not_of a) = IsScalarTree a
+    IsScalarForm i (form.and_of a b) = IsScalarTree a × IsScalarTree b
+    IsScalarForm i (form.or_of a b) = IsScalarTree a × IsScalarTree b
+    IsScalarForm i (form.if_else c a b) = IsScalarTree c × IsScalarTree a × IsScalarTree b
+    IsScalarForm i (form.match_on e cs) = ⊥
+    IsScalarForm i (form.chain es) = ⊥
+    IsScalarForm i (form.assert e) = IsScalarTree e
+    IsScalarForm i form.assert_false = Unit {0}
+    IsScalarForm i (form.make a b) = IsScalarTree a × IsScalarTree b
+    IsScalarForm i (form.length_of a) = IsScalarTree a
+    IsScalarForm i (form.fetch a b) = IsScalarTree a × IsScalarTree b
+    IsScalarForm i (form.store a b c) = IsScalarTree a × IsScalarTree b × IsScalarTree c
+    IsScalarForm i (form.print e) = IsScalarTree e
+    IsScalarForm i (form.read e) = IsScalarTree e
+    IsScalarForm i form.map_empty = ⊥
+    IsScalarForm i (form.map_add a b c) = ⊥
+    IsScalarForm i (form.map_find a b) = ⊥
+
+  abbrev pub IsScalarItem : ItemForm → Type 0
+  IsScalarItem (type_of d) = Unit {0}
+  IsScalarItem (let_of q e) = IsScalarTree e
+  IsScalarItem (let_rec_of f r) = IsScalarType (n.names f) × IsScalarTree r.body
+
+  -- definitions in normal form
+  abbrev pub IsScalarProgram : List ItemTree → Type 0
+  IsScalarProgram [] = Unit {0}
+  IsScalarProgram (i ∷ is) = IsScalarItem i.form × IsScalarProgram is
+
+-- ---- names
+
+-- each of these names has a twin
+abbrev pub HaveTwins : List ℕ → Type 0
+HaveTwins [] = Unit {0}
+HaveTwins (x ∷ xs) = (x < 2 ^ 31) × HaveTwins xs

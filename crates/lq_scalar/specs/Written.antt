@@ -1,0 +1,136 @@
+-- What is asked of a program of the typing rules and of its templates, so that it is plain: its forms are scalar, and its templates name
+-- arguments of functions that are written there alone.
+use Rattle.std.specs.Prelude.{◌≡◌, ℕ, Bool, true, false, Option, Some, None}
+use Rattle.lq_refined.specs.Refined.{Refined, int_with, bool_with, unit_type, function, tuple_of, array_with, data_with, map_with, type_variable}
+use Rattle.lq_checks.specs.Basis.{Basis}
+use Rattle.lq_checks.specs.Ready.{Where}
+use Rattle.lq_checks.specs.Tree.{Use, Pure, whole, flag, unit, use_of, negated, add, subtract, multiply, length_of, compare, not_of, and_of, or_of, Operation, pure, fun, if_else, match_on, call, tuple, build, make, fetch, store, divide, remainder, assert, assert_false, read, print, map_empty, map_add, map_find, Block, last, binding, recursive, Program, no_items, define, define_recursive, run_unit, run_any}
+use Rattle.lq_new_names.specs.NewNames.{HasNoNames}
+use Rattle.lq_plain.specs.Plain.{IsBase}
+
+-- a type of numbers, truth values, unit, arrays of these, and functions whose arguments are of such types without names
+abbrev pub IsScalar : Refined → Type 0
+IsScalar (int_with p) = Unit {0}
+IsScalar (bool_with p) = Unit {0}
+IsScalar unit_type = Unit {0}
+IsScalar (function x a b) = IsScalar a × HasNoNames a × IsScalar b
+IsScalar (tuple_of ts) = ⊥
+IsScalar (array_with e p) = IsBase e
+IsScalar (data_with d ts m p) = ⊥
+IsScalar (map_with e p) = ⊥
+IsScalar (type_variable i) = ⊥
+
+-- and no function in it names its argument
+abbrev pub IsNameless : Refined → Type 0
+IsNameless t = IsScalar t × HasNoNames t
+
+-- by this parameter, or not at all
+abbrev pub IsNamedBy : ℕ → Option ℕ → Type 0
+IsNamedBy y None = Unit {0}
+IsNamedBy y (Some x) = x ≡ y
+
+-- A type of a function whose argument is named by this parameter or not at all, and whose result is of these; else one without names.
+abbrev pub IsFunctionBy : ℕ → (Refined → Type 0) → Refined → Type 0
+IsFunctionBy y result (function x a r) = IsNamedBy y x × IsNameless a × result r
+IsFunctionBy y result (int_with p) = IsNameless (int_with p)
+IsFunctionBy y result (bool_with p) = IsNameless (bool_with p)
+IsFunctionBy y result unit_type = IsNameless unit_type
+IsFunctionBy y result (tuple_of ts) = IsNameless (tuple_of ts)
+IsFunctionBy y result (array_with e p) = IsNameless (array_with e p)
+IsFunctionBy y result (data_with d ts m p) = IsNameless (data_with d ts m p)
+IsFunctionBy y result (map_with e p) = IsNameless (map_with e p)
+IsFunctionBy y result (type_variable i) = IsNameless (type_variable i)
+
+-- A type for what is written: where that is a function, its type may name its argument by the parameter, and so on where its body is a
+-- function; else there are no names.
+abbrev mutual
+  pub IsBlockFor : Block → Refined → Type 0
+  IsBlockFor (last l o) t = IsOperationFor o t
+  IsBlockFor (binding x l o b) t = IsNameless t
+  IsBlockFor (recursive g p y b c) t = IsNameless t
+
+  pub IsOperationFor : Operation → Refined → Type 0
+  IsOperationFor (fun p y b) t = IsFunctionBy y (λ r. IsBlockFor b r) t
+  IsOperationFor (pure e) t = IsNameless t
+  IsOperationFor (if_else p c a b) t = IsNameless t
+  IsOperationFor (match_on p u arms) t = IsNameless t
+  IsOperationFor (call g a) t = IsNameless t
+  IsOperationFor (tuple es) t = IsNameless t
+  IsOperationFor (build p c es) t = IsNameless t
+  IsOperationFor (make p n e) t = IsNameless t
+  IsOperationFor (fetch u i) t = IsNameless t
+  IsOperationFor (store u i e) t = IsNameless t
+  IsOperationFor (divide x y) t = IsNameless t
+  IsOperationFor (remainder x y) t = IsNameless t
+  IsOperationFor (assert e) t = IsNameless t
+  IsOperationFor (assert_false p) t = IsNameless t
+  IsOperationFor (read e) t = IsNameless t
+  IsOperationFor (print e) t = IsNameless t
+  IsOperationFor (map_empty p) t = IsNameless t
+  IsOperationFor (map_add p k e m) t = IsNameless t
+  IsOperationFor (map_find k m) t = IsNameless t
+
+-- of a function of this parameter and body
+abbrev pub IsFunctionFor : ℕ → Block → Refined → Type 0
+IsFunctionFor y b t = IsFunctionBy y (λ r. IsBlockFor b r) t
+
+-- no use is of a generalised name
+abbrev pub IsPlainUse : Use → Type 0
+IsPlainUse u = u.type_arguments ≡ None
+
+abbrev pub HasPlainUses : Pure → Type 0
+HasPlainUses (whole n) = Unit {0}
+HasPlainUses (flag b) = Unit {0}
+HasPlainUses unit = Unit {0}
+HasPlainUses (use_of u) = IsPlainUse u
+HasPlainUses (negated a) = HasPlainUses a
+HasPlainUses (add a b) = HasPlainUses a × HasPlainUses b
+HasPlainUses (subtract a b) = HasPlainUses a × HasPlainUses b
+HasPlainUses (multiply a b) = HasPlainUses a × HasPlainUses b
+HasPlainUses (length_of a) = HasPlainUses a
+HasPlainUses (compare o a b) = HasPlainUses a × HasPlainUses b
+HasPlainUses (not_of a) = HasPlainUses a
+HasPlainUses (and_of a b) = HasPlainUses a × HasPlainUses b
+HasPlainUses (or_of a b) = HasPlainUses a × HasPlainUses b
+
+module _ (P : Basis) where
+  -- where no type is expected of a function or a conditional, its template is one of what is written
+  abbrev pub IsGivenWritten : Operation → Type 0
+  IsGivenWritten (fun p y b) = IsFunctionFor y b (P.template p)
+  IsGivenWritten (if_else p c a b) = IsNameless (P.template p)
+  IsGivenWritten _ = Unit {0}
+
+  abbrev mutual
+    pub IsOperationWritten : Operation → Type 0
+    IsOperationWritten (pure e) = HasPlainUses e
+    IsOperationWritten (fun p y b) = IsBlockWritten true b
+    IsOperationWritten (if_else p c a b) = HasPlainUses c × IsBlockWritten true a × IsBlockWritten true b
+    IsOperationWritten (match_on p u arms) = ⊥
+    IsOperationWritten (call g a) = HasPlainUses g × HasPlainUses a
+    IsOperationWritten (tuple es) = ⊥
+    IsOperationWritten (build p c es) = ⊥
+    IsOperationWritten (make p n e) = HasPlainUses n × HasPlainUses e × IsBase (P.template p)
+    IsOperationWritten (fetch u i) = IsPlainUse u × HasPlainUses i
+    IsOperationWritten (store u i e) = IsPlainUse u × HasPlainUses i × HasPlainUses e
+    IsOperationWritten (divide x y) = HasPlainUses x × HasPlainUses y
+    IsOperationWritten (remainder x y) = HasPlainUses x × HasPlainUses y
+    IsOperationWritten (assert e) = HasPlainUses e
+    IsOperationWritten (assert_false p) = IsNameless (P.template p)
+    IsOperationWritten (read e) = HasPlainUses e
+    IsOperationWritten (print e) = HasPlainUses e
+    IsOperationWritten (map_empty p) = ⊥
+    IsOperationWritten (map_add p k e m) = ⊥
+    IsOperationWritten (map_find k m) = ⊥
+
+    -- and whether a type is expected of its last operation
+    pub IsBlockWritten : Bool → Block → Type 0
+    IsBlockWritten g (last l o) = IsOperationWritten o × Where g (Unit {0}) (IsGivenWritten o)
+    IsBlockWritten g (binding x l o b) = IsOperationWritten o × IsGivenWritten o × IsBlockWritten g b
+    IsBlockWritten g (recursive f p y b c) = IsFunctionFor y b (P.template p) × IsBlockWritten true b × IsBlockWritten g c
+
+  abbrev pub IsWritten : Program → Type 0
+  IsWritten no_items = Unit {0}
+  IsWritten (define x l k b rest) = IsBlockWritten false b × IsWritten rest
+  IsWritten (define_recursive g p y b rest) = IsFunctionFor y b (P.template p) × IsBlockWritten true b × IsWritten rest
+  IsWritten (run_unit b rest) = IsBlockWritten true b × IsWritten rest
+  IsWritten (run_any b rest) = IsBlockWritten false b × IsWritten rest

@@ -1,0 +1,26 @@
+// Laws of the definitions. Nothing is run.
+ghost use Rattle.lq_scalar.specs.Example.{ExampleIsScalar};
+ghost use Rattle.lq_scalar.specs.Laws.{ScalarProgramsArePlain, TemplatesAreWritten};
+
+use lq_in_scope::types_over_names_are_over_them;
+use lq_names_kept::names_are_kept;
+use lq_plain_scope::recursions_are_over_environments;
+
+/// What is read of a scalar program has scalar forms, and templates that name arguments of functions that are written there alone.
+pub fn templates_are_written()
+    ensures { TemplatesAreWritten }
+{}
+
+/// A simply typed program with scalar forms and templates that are written so is plain, where it is ready and in scope, and its binders differ.
+pub fn scalar_programs_are_plain()
+    ensures { ScalarProgramsArePlain }
+{
+    types_over_names_are_over_them();
+    names_are_kept();
+    recursions_are_over_environments();
+}
+
+/// A recursive function that goes along an array, with a use of it, is a scalar program.
+pub fn an_example_is_scalar()
+    ensures { ExampleIsScalar }
+{}

@@ -1,0 +1,6 @@
+//! Scalar programs, and that what is read of them is plain: definitions and laws.
+#![tactic(auto)]
+
+mod laws;
+
+pub use laws::{an_example_is_scalar, scalar_programs_are_plain, templates_are_written};
