@@ -1,0 +1,103 @@
+-- Typed scalar texts are plain, and safe.
+use Rattle.std.proofs.Common.{List, [], length, refl, sym, subst}
+use Rattle.std.proofs.Math.Logic.{∥∥₁_elim, ∥∥₁_map}
+use Rattle.lq_annotated.specs.Whole.{program_of}
+use Rattle.lq_checks.specs.Binders.{AllDiffer, binders}
+use Rattle.lq_checks.specs.Tree.{Program}
+use Rattle.lq_checks.specs.Typing.{HasProgram}
+use Rattle.lq_in_scope.specs.InScope.{InScope, no_names}
+use Rattle.lq_in_scope.specs.Laws.{ScopesAreOfUnknowns, TemplatesAreInScope}
+use Rattle.lq_in_scope.specs.Over.{unknown_in}
+use Rattle.lq_inhabits.specs.Truth.{Objects}
+use Rattle.lq_instantiated.specs.declared.instantiated.Instantiated.{Instantiated}
+use Rattle.lq_model.specs.FromTree.{items_of}
+use Rattle.lq_normal_texts.specs.Laws.{ParsedProgramsAreWritten}
+use Rattle.lq_normal_types.specs.Laws.{ScopedProgramsArePlain}
+use Rattle.lq_normal_types.specs.Written.{ItemsAreWritten}
+use Rattle.lq_normalize.specs.Laws.{ProgramsAreOnePass}
+use Rattle.lq_notes.specs.Known.{Knows}
+use Rattle.lq_parts.specs.Assignment.{Assignment}
+use Rattle.lq_plain.specs.Plain.{IsPlainProgram}
+use Rattle.lq_points.specs.Annotation.{Annotation}
+use Rattle.lq_points.specs.Laws.{TemplatesAreOfPoints}
+use Rattle.lq_points.specs.Pure.{Read}
+use Rattle.lq_points.specs.Reading as reading
+use Rattle.lq_points.specs.Templates.{Datatypes, basis_of, points_of, unknowns_of}
+use Rattle.lq_problem.specs.Posed.{datatypes_of, read_of}
+use Rattle.lq_pures.specs.Pures.{KnowsLengths}
+use Rattle.lq_read.specs.Laws.{ReadIsTyped}
+use Rattle.lq_read.specs.Normal.{AreNormal}
+use Rattle.lq_read_binders.specs.Laws.{BindersOfNormalFormsDiffer}
+use Rattle.lq_safe.specs.Example.{objects_by_length}
+use Rattle.lq_safe.specs.Programs.{no_symbols}
+use Rattle.lq_scalar.specs.Laws.{ScalarProgramsArePlain, TemplatesAreWritten}
+use Rattle.lq_scoped.specs.Scoping.{Scoping}
+use Rattle.lq_scoped.specs.Signature.{signature_in}
+use Rattle.lq_sorted.specs.Sorted.{Measure}
+use Rattle.lq_text_ready.specs.Laws.{IsOfText, IsReadTyped, NotedTextsAreReady, NotedTextsAreTyped}
+use Rattle.lq_text_safe.specs.Safety.{basis_in, normal_in, CheckedTextsAreSafe}
+use Rattle.lq_text_safe.proofs.Outcomes.{safe_prop}
+use Rattle.lq_tree.specs.Items.{ItemTree}
+use Rattle.lq_scalar_texts.specs.Laws.{IsSortedIn, ScalarTextsArePlain, ScalarTextsAreSafe}
+use Rattle.lq_scalar_texts.specs.Scalar.{IsScalarText}
+
+pub record Laws : Type 1 where
+  pub typed : NotedTextsAreTyped
+  pub ready : NotedTextsAreReady
+  pub scope : TemplatesAreInScope
+  pub scopes : ScopesAreOfUnknowns
+  pub templates : TemplatesAreOfPoints
+  pub simple : ReadIsTyped
+  pub parsed : ParsedProgramsAreWritten
+  pub plain : ScopedProgramsArePlain
+  pub differ : BindersOfNormalFormsDiffer
+  pub one_pass : ProgramsAreOnePass
+  pub written : TemplatesAreWritten
+  pub scalar : ScalarProgramsArePlain
+
+module _ (L : Laws) (i : Instantiated) (n : Annotation) (ms : List Measure) (A : Assignment) (O : Objects) (t : IsOfText (program_of i.annotated))
+    (knows : Knows i n) (scalar : IsScalarText (program_of i.annotated) n) (sorted : IsSortedIn (program_of i.annotated) ms n A) where
+  abbrev s : Scoping
+  s = program_of i.annotated
+
+  abbrev is : List ItemTree
+  is = normal_in s
+
+  abbrev D : Datatypes
+  D = datatypes_of s.datatypes ms
+
+  abbrev there : Read Program
+  there = reading.program_of n is
+
+  items_written : ItemsAreWritten s.items
+  items_written = subst (λ (r : Scoping). ItemsAreWritten r.items) (sym t.bound) (L.parsed t.text t.names t.tokens t.trees t.read t.known)
+
+  binders_differ : AreNormal is → AllDiffer (binders there.read)
+  binders_differ normal =
+      let k = length s.sources in
+      let one = L.one_pass k s.items in
+      let scoped = i.annotated.program.scoped in
+      subst (λ js. AllDiffer (binders (reading.program_of n js).read)) (sym one)
+      (L.differ s scoped (L.plain s scoped items_written) (subst AreNormal one normal) n)
+
+  plain_there : IsReadTyped (signature_in s.datatypes) n is → IsPlainProgram (basis_in s ms n) A O no_symbols [] (read_of n is)
+  plain_there r =
+      L.scalar (basis_of D there.points) (unknown_in (unknowns_of D there.points)) A O sorted (L.scopes D there.points) (points_of there.points)
+      (L.templates D there.points) there.read
+      (subst (λ (q : Read Program). HasProgram (basis_of D q.points) (points_of q.points) [] q.read) r.same (L.simple D r.by is r.normal r.obeys r.uses))
+      (L.ready i n D t refl knows)
+      (subst (λ (q : Read Program). InScope (basis_of D q.points) (unknown_in (unknowns_of D q.points)) no_names q.read) r.same
+      (L.scope D r.by is r.normal r.obeys r.uses))
+      (binders_differ r.normal) scalar.few (L.written D n is r.normal scalar.scalar)
+
+pub scalar_plain : Laws → ScalarTextsArePlain
+scalar_plain L i n ms A O t knows scalar sorted = ∥∥₁_map (plain_there L i n ms A O t knows scalar sorted) (L.typed i n t knows)
+
+lengths_known : KnowsLengths objects_by_length
+lengths_known r k = refl
+
+pub scalar_safe : ScalarTextsArePlain → CheckedTextsAreSafe → ScalarTextsAreSafe
+scalar_safe plain checked i n ms A t knows scalar sorted covariant solved =
+    let s = program_of i.annotated in
+    ∥∥₁_elim (plain i n ms A objects_by_length t knows scalar sorted) (safe_prop (items_of s.items))
+    (λ there. checked i n ms A objects_by_length t knows covariant solved lengths_known there)

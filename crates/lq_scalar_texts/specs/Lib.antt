@@ -1,0 +1,3 @@
+-- Scalar texts: definitions and laws.
+pub mod Scalar
+pub mod Laws
