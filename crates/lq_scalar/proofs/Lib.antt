@@ -8,4 +8,5 @@ mod Contexts
 mod Forms
 mod Fine
 mod Plain
+mod Normal
 mod Example

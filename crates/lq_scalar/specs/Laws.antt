@@ -9,11 +9,14 @@ use Rattle.lq_checks.specs.Tree.{Program}
 use Rattle.lq_checks.specs.Typing.{Points, AreTemplates, HasProgram}
 use Rattle.lq_points.specs.Annotation.{Annotation}
 use Rattle.lq_points.specs.Reading.{program_of}
-use Rattle.lq_points.specs.Templates.{Datatypes, basis_of}
+use Rattle.lq_points.specs.Templates.{Datatypes, basis_of, unknowns_of}
 use Rattle.lq_inhabits.specs.Truth.{Objects}
+use Rattle.lq_read.specs.Laws.{types_of}
 use Rattle.lq_read.specs.Normal.{AreNormal}
+use Rattle.lq_read.specs.Uses.{ItemsUsesFit}
 use Rattle.lq_in_scope.specs.InScope.{InScope, no_names}
-use Rattle.lq_in_scope.specs.Over.{AreSorted}
+use Rattle.lq_in_scope.specs.Over.{AreSorted, unknown_in}
+use Rattle.lq_normal_types.specs.Programs.{NormalItemsAre}
 use Rattle.lq_templates.specs.Scopes.{Unknown, symbols_in}
 use Rattle.lq_safe.specs.Programs.{no_symbols}
 use Rattle.lq_plain.specs.Plain.{IsPlainProgram}
@@ -34,3 +37,12 @@ ScalarProgramsArePlain =
     → ((u : ℕ) → P.setting.scopes u ≡ symbols_in (unknowns u).0) → (Q : Points) → AreTemplates P Q → (p : Program) → HasProgram P Q [] p
     → IsReady P [] p → InScope P unknowns no_names p → AllDiffer (binders p) → HaveTwins (binders p) → IsWritten P p
     → IsPlainProgram P A O no_symbols [] p
+
+-- So is what is read of a scalar program in normal form, over its points, where it obeys the rules of types for normal trees and its uses fit by
+-- an annotation by which the same is read, where it is ready, and its binders differ and have twins.
+abbrev pub ScalarNormalFormsArePlain : Type 0
+ScalarNormalFormsArePlain =
+    (D : Datatypes) (n by : Annotation) (is : List ItemTree) (A : Assignment) (O : Objects)
+    → let p = program_of n is in program_of by is ≡ p → AreNormal is → NormalItemsAre D.constructors (types_of by) [] is → ItemsUsesFit by [] is
+    → IsScalarProgram n is → AreSorted (unknown_in (unknowns_of D p.points)) A → IsReady (basis_of D p.points) [] p.read
+    → AllDiffer (binders p.read) → HaveTwins (binders p.read) → IsPlainProgram (basis_of D p.points) A O no_symbols [] p.read

@@ -1,10 +1,12 @@
 // Laws of the definitions. Nothing is run.
 ghost use Rattle.lq_scalar.specs.Example.{ExampleIsScalar};
-ghost use Rattle.lq_scalar.specs.Laws.{ScalarProgramsArePlain, TemplatesAreWritten};
+ghost use Rattle.lq_scalar.specs.Laws.{ScalarNormalFormsArePlain, ScalarProgramsArePlain, TemplatesAreWritten};
 
-use lq_in_scope::types_over_names_are_over_them;
+use lq_in_scope::{scopes_are_of_unknowns, templates_are_in_scope, types_over_names_are_over_them};
 use lq_names_kept::names_are_kept;
 use lq_plain_scope::recursions_are_over_environments;
+use lq_points::templates_are_of_points;
+use lq_read::what_is_read_is_typed;
 
 /// What is read of a scalar program has scalar forms, and templates that name arguments of functions that are written there alone.
 pub fn templates_are_written()
@@ -18,6 +20,18 @@ pub fn scalar_programs_are_plain()
     types_over_names_are_over_them();
     names_are_kept();
     recursions_are_over_environments();
+}
+
+/// So is what is read of a scalar program in normal form that obeys the rules of types, is ready, and whose binders differ.
+pub fn scalar_normal_forms_are_plain()
+    ensures { ScalarNormalFormsArePlain }
+{
+    templates_are_in_scope();
+    scopes_are_of_unknowns();
+    templates_are_of_points();
+    what_is_read_is_typed();
+    templates_are_written();
+    scalar_programs_are_plain();
 }
 
 /// A recursive function that goes along an array, with a use of it, is a scalar program.

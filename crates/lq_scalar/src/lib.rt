@@ -3,4 +3,7 @@
 
 mod laws;
 
-pub use laws::{an_example_is_scalar, scalar_programs_are_plain, templates_are_written};
+pub use laws::{
+    an_example_is_scalar, scalar_normal_forms_are_plain, scalar_programs_are_plain,
+    templates_are_written,
+};

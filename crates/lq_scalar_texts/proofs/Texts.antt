@@ -4,10 +4,6 @@ use Rattle.std.proofs.Math.Logic.{∥∥₁_elim, ∥∥₁_map}
 use Rattle.lq_annotated.specs.Whole.{program_of}
 use Rattle.lq_checks.specs.Binders.{AllDiffer, binders}
 use Rattle.lq_checks.specs.Tree.{Program}
-use Rattle.lq_checks.specs.Typing.{HasProgram}
-use Rattle.lq_in_scope.specs.InScope.{InScope, no_names}
-use Rattle.lq_in_scope.specs.Laws.{ScopesAreOfUnknowns, TemplatesAreInScope}
-use Rattle.lq_in_scope.specs.Over.{unknown_in}
 use Rattle.lq_inhabits.specs.Truth.{Objects}
 use Rattle.lq_instantiated.specs.declared.instantiated.Instantiated.{Instantiated}
 use Rattle.lq_model.specs.FromTree.{items_of}
@@ -19,18 +15,16 @@ use Rattle.lq_notes.specs.Known.{Knows}
 use Rattle.lq_parts.specs.Assignment.{Assignment}
 use Rattle.lq_plain.specs.Plain.{IsPlainProgram}
 use Rattle.lq_points.specs.Annotation.{Annotation}
-use Rattle.lq_points.specs.Laws.{TemplatesAreOfPoints}
 use Rattle.lq_points.specs.Pure.{Read}
 use Rattle.lq_points.specs.Reading as reading
-use Rattle.lq_points.specs.Templates.{Datatypes, basis_of, points_of, unknowns_of}
+use Rattle.lq_points.specs.Templates.{Datatypes}
 use Rattle.lq_problem.specs.Posed.{datatypes_of, read_of}
 use Rattle.lq_pures.specs.Pures.{KnowsLengths}
-use Rattle.lq_read.specs.Laws.{ReadIsTyped}
 use Rattle.lq_read.specs.Normal.{AreNormal}
 use Rattle.lq_read_binders.specs.Laws.{BindersOfNormalFormsDiffer}
 use Rattle.lq_safe.specs.Example.{objects_by_length}
 use Rattle.lq_safe.specs.Programs.{no_symbols}
-use Rattle.lq_scalar.specs.Laws.{ScalarProgramsArePlain, TemplatesAreWritten}
+use Rattle.lq_scalar.specs.Laws.{ScalarNormalFormsArePlain}
 use Rattle.lq_scoped.specs.Scoping.{Scoping}
 use Rattle.lq_scoped.specs.Signature.{signature_in}
 use Rattle.lq_sorted.specs.Sorted.{Measure}
@@ -44,16 +38,11 @@ use Rattle.lq_scalar_texts.specs.Scalar.{IsScalarText}
 pub record Laws : Type 1 where
   pub typed : NotedTextsAreTyped
   pub ready : NotedTextsAreReady
-  pub scope : TemplatesAreInScope
-  pub scopes : ScopesAreOfUnknowns
-  pub templates : TemplatesAreOfPoints
-  pub simple : ReadIsTyped
   pub parsed : ParsedProgramsAreWritten
   pub plain : ScopedProgramsArePlain
   pub differ : BindersOfNormalFormsDiffer
   pub one_pass : ProgramsAreOnePass
-  pub written : TemplatesAreWritten
-  pub scalar : ScalarProgramsArePlain
+  pub scalar : ScalarNormalFormsArePlain
 
 module _ (L : Laws) (i : Instantiated) (n : Annotation) (ms : List Measure) (A : Assignment) (O : Objects) (t : IsOfText (program_of i.annotated))
     (knows : Knows i n) (scalar : IsScalarText (program_of i.annotated) n) (sorted : IsSortedIn (program_of i.annotated) ms n A) where
@@ -82,16 +71,10 @@ module _ (L : Laws) (i : Instantiated) (n : Annotation) (ms : List Measure) (A :
 
   plain_there : IsReadTyped (signature_in s.datatypes) n is → IsPlainProgram (basis_in s ms n) A O no_symbols [] (read_of n is)
   plain_there r =
-      L.scalar (basis_of D there.points) (unknown_in (unknowns_of D there.points)) A O sorted (L.scopes D there.points) (points_of there.points)
-      (L.templates D there.points) there.read
-      (subst (λ (q : Read Program). HasProgram (basis_of D q.points) (points_of q.points) [] q.read) r.same (L.simple D r.by is r.normal r.obeys r.uses))
-      (L.ready i n D t refl knows)
-      (subst (λ (q : Read Program). InScope (basis_of D q.points) (unknown_in (unknowns_of D q.points)) no_names q.read) r.same
-      (L.scope D r.by is r.normal r.obeys r.uses))
-      (binders_differ r.normal) scalar.few (L.written D n is r.normal scalar.scalar)
+      L.scalar D n r.by is A O r.same r.normal r.obeys r.uses scalar.scalar sorted (L.ready i n D t refl knows) (binders_differ r.normal) scalar.few
 
 pub scalar_plain : Laws → ScalarTextsArePlain
-scalar_plain L i n ms A O t knows scalar sorted = ∥∥₁_map (plain_there L i n ms A O t knows scalar sorted) (L.typed i n t knows)
+scalar_plain L i n ms A O t knows scalar sorted = ∥∥₁_map (L.typed i n t knows) (plain_there L i n ms A O t knows scalar sorted)
 
 lengths_known : KnowsLengths objects_by_length
 lengths_known r k = refl

@@ -1,14 +1,11 @@
 // Laws of scalar texts. Nothing is run.
 ghost use Rattle.lq_scalar_texts.specs.Laws.{ScalarTextsArePlain, ScalarTextsAreSafe};
 
-use lq_in_scope::{scopes_are_of_unknowns, templates_are_in_scope};
 use lq_normal_texts::parsed_programs_are_written;
 use lq_normal_types::scoped_programs_are_plain;
 use lq_normalize::programs_are_one_pass;
-use lq_points::templates_are_of_points;
-use lq_read::what_is_read_is_typed;
 use lq_read_binders::binders_of_normal_forms_differ;
-use lq_scalar::{scalar_programs_are_plain, templates_are_written};
+use lq_scalar::scalar_normal_forms_are_plain;
 use lq_text_ready::{noted_texts_are_ready, noted_texts_are_typed};
 use lq_text_safe::checked_texts_are_safe;
 
@@ -18,16 +15,11 @@ pub fn scalar_texts_are_plain()
 {
     noted_texts_are_typed();
     noted_texts_are_ready();
-    templates_are_in_scope();
-    scopes_are_of_unknowns();
-    templates_are_of_points();
-    what_is_read_is_typed();
     parsed_programs_are_written();
     scoped_programs_are_plain();
     binders_of_normal_forms_differ();
     programs_are_one_pass();
-    templates_are_written();
-    scalar_programs_are_plain();
+    scalar_normal_forms_are_plain();
 }
 
 /// A scalar program of a text is safe where such an assignment makes all of its implications valid.
