@@ -14,8 +14,8 @@ use Rattle.lq_verdict.specs.declared.judgement.Judgement.TheVariants.{Accepted, 
 pub safe_of : AcceptedAreSafe → (m : PosedTexts) (limit : ℕ) (b : Bytes) (t : Typed) (j : Judgement) → PosesTo b (Ok t) → IsPosedView m t
     → IsVerdictOn limit t j → IsSafe b j
 safe_of law m limit b t (Accepted types) poses view is =
-    let both = law m.texts.noted b t types (record { program = view.program; annotation = view.annotation }) poses is in
-    (t, poses, (is, both.0, both.1))
+    let all = law m.texts.noted b t types (record { program = view.program; annotation = view.annotation }) poses is in
+    (t, poses, (is, all.0, all.1, all.2))
 safe_of law m limit b t (Rejected failure explained) poses view is = tt
 safe_of law m limit b t (Undecided cause) poses view is = tt
 

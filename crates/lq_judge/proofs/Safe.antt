@@ -12,13 +12,16 @@ use Rattle.lq_parts.specs.Flowing.{assigned}
 use Rattle.lq_plain.specs.Plain.{IsPlainProgram}
 use Rattle.lq_points.specs.Annotation.{Annotation}
 use Rattle.lq_points.specs.Reading.{program_of}
-use Rattle.lq_posed_texts.specs.Stages.{PosesTo, Typed, constraints_in, normal_in, program_in}
+use Rattle.lq_posed_texts.specs.Stages.{PosesTo, Typed, constraints_in, normal_in, program_in, unknowns_in}
 use Rattle.lq_pred.specs.declared.pred.Stop.{Stop}
 use Rattle.lq_pred.specs.declared.pred.Stop.TheVariants.{Number, Gather, Pivots, Memory as MemoryStop}
 use Rattle.lq_problem.specs.Posed.{datatypes_of}
 use Rattle.lq_safe.specs.Programs.{no_symbols}
 use Rattle.lq_scoped.specs.Scoping.{Scoping}
 use Rattle.lq_scoped.specs.Signature.{signature_in}
+use Rattle.lq_scalar_texts.specs.Laws.{IsSortedIn, ScalarTextsAreSafe}
+use Rattle.lq_scalar_texts.specs.Scalar.{IsScalarText}
+use Rattle.lq_sorted_instances.specs.Laws.{InstancesAreSorted, QualifiersAreSorted}
 use Rattle.lq_straight_texts.specs.Laws.{StraightTextsAreSafe}
 use Rattle.lq_straight_texts.specs.Straight.{AreStraight}
 use Rattle.lq_text_ready.specs.Laws.{IsOfText}
@@ -29,14 +32,17 @@ use Rattle.lq_weaken.specs.Stops.{StopsSolving}
 use Rattle.lq_weakening.specs.declared.error.SolveError.TheVariants.{At}
 use Rattle.lq_judge.specs.Agreeing.{IsOfProver}
 use Rattle.lq_verdict.specs.Judgement.{IsAccepted, instances_of}
-use Rattle.lq_judge.specs.Safety.{IsNotedOf, IsSafeIfPlain, IsSafeIfStraight, SmallAreDecided}
-use Rattle.lq_judge.proofs.Texts.{named_text, of_text}
+use Rattle.lq_judge.specs.Safety.{IsNotedOf, IsSafeIfPlain, IsSafeIfScalar, IsSafeIfStraight, SmallAreDecided}
+use Rattle.lq_judge.proofs.Texts.{named_text, of_text, sorted_qualifiers}
 
 pub record Laws : Type 1 where
   pub known : NotedAreKnown
   pub scoped : InstancesAreScoped
   pub checked : CheckedTextsAreSafe
   pub straight : StraightTextsAreSafe
+  pub scalar : ScalarTextsAreSafe
+  pub qualifiers : QualifiersAreSorted
+  pub instances : InstancesAreSorted
   pub covariant : NamedProgramsAreCovariant
 
 module _ (laws : Laws) (m : Noted) (b : Bytes) (t : Typed) (types : List ℕ) (noted : IsNotedOf m t) (posed : PosesTo b (Ok t)) (is : IsAccepted t types) where
@@ -87,8 +93,25 @@ module _ (laws : Laws) (m : Noted) (b : Bytes) (t : Typed) (types : List ℕ) (n
       subst (λ (s : Scoping). IsSafe s.items) noted.program
       (laws.checked m.program (annotation_of m) t.bound.texts.measures assignment O text_there (laws.known m) covariant_there solved_there lengths plain_there)
 
-  pub safe : IsSafeIfStraight t × IsSafeIfPlain t is.solution
-  safe = (safe_straight, safe_plain)
+  sorted : IsSortedIn (program_in t) t.bound.texts.measures t.annotation assignment
+  sorted =
+      laws.instances (unknowns_in t) (map (λ x. x.name) t.bound.texts.measures) t.bound.texts.qualifiers is.solution
+      (sorted_qualifiers laws.qualifiers b t posed)
+
+  -- scalar with instances at their sorts
+  abbrev ScalarBy : Scoping → Annotation → Type 0
+  ScalarBy s n = IsScalarText s n × IsSortedIn s t.bound.texts.measures n assignment
+
+  safe_scalar : IsSafeIfScalar t
+  safe_scalar scalar =
+      let scalar_there : ScalarBy there (annotation_of m) = subst (λ (s : Scoping). ScalarBy s (annotation_of m)) (sym noted.program)
+      (subst (λ (n : Annotation). ScalarBy (program_in t) n) (sym noted.annotation) (scalar, sorted)) in
+      subst (λ (s : Scoping). IsSafe s.items) noted.program
+      (laws.scalar m.program (annotation_of m) t.bound.texts.measures assignment text_there (laws.known m) scalar_there.0 scalar_there.1 covariant_there
+      solved_there)
+
+  pub safe : IsSafeIfStraight t × IsSafeIfPlain t is.solution × IsSafeIfScalar t
+  safe = (safe_straight, safe_plain, safe_scalar)
 
 pub decided : SmallAreDecided
 decided limit t cause is small prover = by_stop is.stop is.stops prover

@@ -1,4 +1,4 @@
--- What is to be solved is of a text, with whose names nothing is wrong.
+-- What is to be solved is of a text, with whose names nothing is wrong, and with sorted qualifiers.
 use Rattle.std.proofs.Common.{◌≡◌, ℕ, List, [], Ok, ap, sym, subst, ◌∙◌}
 use Rattle.lq_bound_texts.specs.Stages.{BindsTo, Bound, Bytes}
 use Rattle.lq_datatypes.specs.Datatypes.{datatypes_in}
@@ -6,6 +6,8 @@ use Rattle.lq_posed_texts.specs.Stages.{PosesTo, Typed, program_in}
 use Rattle.lq_resolved.specs.Resolution.{scoping_of}
 use Rattle.lq_scope.specs.Uses.{of_program}
 use Rattle.lq_scoped.specs.Scoping.{Scoping}
+use Rattle.lq_sorted_instances.specs.Laws.{QualifiersAreSorted}
+use Rattle.lq_sorted_instances.specs.Sorts.{AreSortedQualifiers}
 use Rattle.lq_text_ready.specs.Laws.{IsOfText}
 use Rattle.lq_tree.specs.Items.{ItemTree}
 
@@ -53,3 +55,15 @@ named_text bytes t posed =
       datatypes = ap (λ x. x.program.datatypes) resolved.3;
     } in
     subst (λ (b : Bound). IsNamed b.texts.program) (sym bound ∙ sym (ap (λ x. x.bound) same)) there
+
+-- the qualifiers are sorted
+pub sorted_qualifiers : QualifiersAreSorted → (bytes : Bytes) (t : Typed) → PosesTo bytes (Ok t) → AreSortedQualifiers t.bound.texts.qualifiers
+sorted_qualifiers sorted bytes t posed =
+    let typed = posed.1 in
+    let same : t ≡ posed.0 = posed.2.0 in
+    let bound : posed.0.bound ≡ typed.0 = typed.2.0 in
+    let r = typed.0.read in
+    let resolved = typed.1.2.1 in
+    let there : AreSortedQualifiers typed.0.texts.qualifiers =
+    subst AreSortedQualifiers (sym (ap (λ x. x.qualifiers) resolved.3)) (sorted r.names (datatypes_in r.items) r.measures r.qualifiers resolved.2) in
+    subst (λ (b : Bound). AreSortedQualifiers b.texts.qualifiers) (sym bound ∙ sym (ap (λ x. x.bound) same)) there

@@ -13,6 +13,7 @@ use Rattle.lq_prove.specs.Stopping.{IsSmallDifference}
 use Rattle.lq_pures.specs.Pures.{KnowsLengths}
 use Rattle.lq_questions.specs.Assigned.{closed_under}
 use Rattle.lq_safe.specs.Programs.{no_symbols}
+use Rattle.lq_scalar_texts.specs.Scalar.{IsScalarText}
 use Rattle.lq_straight_texts.specs.Straight.{AreStraight}
 use Rattle.lq_text_safe.specs.Safety.{IsSafe}
 use Rattle.lq_judge.specs.Agreeing.{IsOfProver}
@@ -24,6 +25,10 @@ use Rattle.lq_verdict.specs.Judgement.{IsAccepted, IsUndecided, instances_of}
 abbrev pub IsSafeIfStraight : Typed → Type 0
 IsSafeIfStraight t = AreStraight (program_in t).items → IsSafe (program_in t).items
 
+-- Of a scalar one, whose normal form is over numbers, truth values, unit, arrays of these and functions.
+abbrev pub IsSafeIfScalar : Typed → Type 0
+IsSafeIfScalar t = IsScalarText (program_in t) t.annotation → IsSafe (program_in t).items
+
 -- Of one whose normal form is plain under the instances that are chosen, over objects that know the lengths of arrays.
 abbrev pub IsSafeIfPlain : Typed → Selection → Type 0
 IsSafeIfPlain t c =
@@ -33,7 +38,7 @@ IsSafeIfPlain t c =
 -- the texts are accepted with these types, and safe so
 abbrev pub IsSafelyAccepted : Bytes → List ℕ → Type 0
 IsSafelyAccepted b types =
-    (t : Typed) × PosesTo b (Ok t) × ((is : IsAccepted t types) × IsSafeIfStraight t × IsSafeIfPlain t is.solution)
+    (t : Typed) × PosesTo b (Ok t) × ((is : IsAccepted t types) × IsSafeIfStraight t × IsSafeIfPlain t is.solution × IsSafeIfScalar t)
 
 -- what is noted of a program in memory is what is known of it
 pub record IsNotedOf (m : Noted) (t : Typed) : Type 0 where
@@ -43,7 +48,7 @@ pub record IsNotedOf (m : Noted) (t : Typed) : Type 0 where
 abbrev pub AcceptedAreSafe : Type 0
 AcceptedAreSafe =
     (m : Noted) (b : Bytes) (t : Typed) (types : List ℕ) → IsNotedOf m t → PosesTo b (Ok t) → (is : IsAccepted t types)
-    → IsSafeIfStraight t × IsSafeIfPlain t is.solution
+    → IsSafeIfStraight t × IsSafeIfPlain t is.solution × IsSafeIfScalar t
 
 -- ---- the prover
 

@@ -7,6 +7,8 @@ use lq_failure::failures_differ_in_values;
 use lq_literals::sources_have_the_literals;
 use lq_notes::noted_are_known;
 use lq_posed_texts::one_posing;
+use lq_scalar_texts::scalar_texts_are_safe;
+use lq_sorted_instances::{instances_are_sorted, qualifiers_are_sorted};
 use lq_straight_texts::straight_texts_are_safe;
 use lq_text_safe::{checked_texts_are_safe, instances_are_scoped};
 use lq_weaken::some_instances_gather;
@@ -21,7 +23,7 @@ pub fn one_judgement()
     failures_differ_in_values();
 }
 
-/// What is accepted is safe by the meaning of the language, where it is straight-line, or plain as soundness asks for it.
+/// What is accepted is safe by the meaning of the language, where it is straight-line or scalar, or plain as soundness asks for it.
 pub fn accepted_are_safe()
     ensures { AcceptedAreSafe }
 {
@@ -29,6 +31,9 @@ pub fn accepted_are_safe()
     instances_are_scoped();
     checked_texts_are_safe();
     straight_texts_are_safe();
+    scalar_texts_are_safe();
+    qualifiers_are_sorted();
+    instances_are_sorted();
     named_programs_are_covariant();
 }
 
