@@ -47,4 +47,5 @@ pub record IsPosedView (m : PosedTexts) (t : Typed) : Type 0 where
   pub names : m.texts.names ≡ names_in t.bound
   pub program : annotated.program_of m.texts.noted.program.annotated ≡ program_in t
   pub annotation : annotation_of m.texts.noted ≡ t.annotation
+  pub normal : (normal_view m.texts.normal).items ≡ normal_in t
   pub problem : IsProblem m.problem t

@@ -49,7 +49,7 @@ returns-in-Ok-clause-posed c =
     ap (λ ms. with_parts q.datatypes (map measure_view ms) q.annotation q.items (map qualifier_view c.deref-2.result.now)) c.deref.ensures.value
     ∙ ap (λ qs. with_parts q.datatypes q.measures q.annotation q.items (map qualifier_view qs)) c.deref-2.ensures.value in
     let posed = posed_there m t.0 c.in-Ok.problem t.2 (subst (IsOver c.in-Ok.problem) same over) in
-    (t.0, (t.0, (b.0, b.1, t.1), posed.0), record { names = t.2.names; program = t.2.program; annotation = t.2.annotation; problem = posed.1 })
+    (t.0, (t.0, (b.0, b.1, t.1), posed.0), record { names = t.2.names; program = t.2.program; annotation = t.2.annotation; normal = t.2.normal; problem = posed.1 })
 
 pub returns-in-Err-clause-refused : goal.returns-in-Err-clause-refused
 returns-in-Err-clause-refused c =
