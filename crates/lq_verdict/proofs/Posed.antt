@@ -16,7 +16,9 @@ use Rattle.lq_point.specs.Values.{as_point}
 use Rattle.lq_point.specs.declared.point.Point.{Point}
 use Rattle.lq_pointed.specs.BlockView.{program_view}
 use Rattle.lq_points.specs.Templates.{templates_at}
-use Rattle.lq_posed_texts.specs.Stages.{Typed, basis_in, constraints_in, implications_in, read_in}
+use Rattle.lq_made_names.specs.Numbers.{made_number}
+use Rattle.lq_normalize.specs.Made.{normal_view}
+use Rattle.lq_posed_texts.specs.Stages.{Typed, basis_in, constraints_in, implications_in, normal_in, read_in}
 use Rattle.lq_posed_texts.specs.Views.{IsPosedView}
 use Rattle.lq_posed_texts.specs.declared.posing.PosedTexts.{PosedTexts}
 use Rattle.lq_pred.specs.ClosedImplication.{ClosedImplication}
@@ -30,6 +32,7 @@ use Rattle.lq_scoped.specs.Scoping.{Scoping}
 use Rattle.lq_substitution.specs.Views.{scopes_view}
 use Rattle.lq_subtype.specs.Implication.{Implication, constraint_of}
 use Rattle.lq_subtype.specs.Splitting.{first_of}
+use Rattle.lq_tree.specs.Items.{ItemTree}
 use Rattle.lq_type_text.specs.Types.{Writing}
 use Rattle.lq_weaken.specs.Gathering.{AreGathered}
 use Rattle.lq_weaken.specs.Stops.{StopsSolving}
@@ -39,7 +42,7 @@ use Rattle.lq_weakening.specs.declared.error.SolveError.{SolveError}
 use Rattle.lq_weakening.specs.declared.error.SolveError.TheVariants.{At}
 use Rattle.lq_weakening.specs.declared.solving.Solved.{Solved}
 use Rattle.lq_verdict.specs.Judgement.{IsVerdictOn, Refutes, instances_of, types_by}
-use Rattle.lq_verdict.specs.Names.{called_by, called_in, parameters_in, writing_in, written_by}
+use Rattle.lq_verdict.specs.Names.{called_by, called_in, numbers_in, parameters_in, writing_in, written_by}
 use Rattle.lq_verdict.specs.Posed.{IsPosed, IsSolution}
 use Rattle.lq_verdict.specs.declared.judgement.Judgement.TheVariants.{Accepted, Rejected, Undecided}
 use Rattle.lq_verdict.proofs.Scoped.{scoped_text}
@@ -63,20 +66,30 @@ module _ (m : PosedTexts) (t : Typed) (is : IsPosedView m t) where
 
   -- ---- names
 
-  pub called_are : called_by m.texts.names (program_of m.texts.noted.program.annotated).sources ≡ called_in t
+  abbrev texts_sources : List (Option ℕ)
+  texts_sources = (program_of m.texts.noted.program.annotated).sources
+
+  pub numbers_are : made_number texts_sources (normal_view m.texts.normal).items ≡ numbers_in t
+  numbers_are =
+      ap (λ (is : List ItemTree). made_number texts_sources is) is.normal
+      ∙ ap (λ (s : Scoping). made_number s.sources (normal_in t)) is.program
+
+  pub called_are : called_by m.texts.names texts_sources (made_number texts_sources (normal_view m.texts.normal).items) ≡ called_in t
   called_are =
-      ap (λ (names : List (List ℕ)). called_by names (program_of m.texts.noted.program.annotated).sources) is.names
-      ∙ ap (λ (s : Scoping). called_by (names_of t) s.sources) is.program
+      ap (λ (names : List (List ℕ)). called_by names texts_sources (made_number texts_sources (normal_view m.texts.normal).items)) is.names
+      ∙ ap (λ (numbers : ℕ → Option ℕ). called_by (names_of t) texts_sources numbers) numbers_are
+      ∙ ap (λ (s : Scoping). called_by (names_of t) s.sources (numbers_in t)) is.program
     where
       names_of : Typed → List (List ℕ)
       names_of u = (called_in u).names
 
   pub written_are :
-      written_by m.texts.names (program_of m.texts.noted.program.annotated).sources (parameters_in (program_of m.texts.noted.program.annotated).datatypes)
+      written_by m.texts.names texts_sources (made_number texts_sources (normal_view m.texts.normal).items) (parameters_in (program_of m.texts.noted.program.annotated).datatypes)
       ≡ writing_in t
   written_are =
-      ap (λ (names : List (List ℕ)). written_by names (program_of m.texts.noted.program.annotated).sources (parameters_in (program_of m.texts.noted.program.annotated).datatypes)) is.names
-      ∙ ap (λ (s : Scoping). written_by (called_in t).names s.sources (parameters_in s.datatypes)) is.program
+      ap (λ (names : List (List ℕ)). written_by names texts_sources (made_number texts_sources (normal_view m.texts.normal).items) (parameters_in (program_of m.texts.noted.program.annotated).datatypes)) is.names
+      ∙ ap (λ (numbers : ℕ → Option ℕ). written_by (called_in t).names texts_sources numbers (parameters_in (program_of m.texts.noted.program.annotated).datatypes)) numbers_are
+      ∙ ap (λ (s : Scoping). written_by (called_in t).names s.sources (numbers_in t) (parameters_in s.datatypes)) is.program
 
   -- ---- types
 
@@ -105,6 +118,9 @@ module _ (m : PosedTexts) (t : Typed) (is : IsPosedView m t) where
   abbrev sources : List (Option ℕ)
   sources = (program_of m.texts.noted.program.annotated).sources
 
+  abbrev numbers : ℕ → Option ℕ
+  numbers = made_number sources (normal_view m.texts.normal).items
+
   abbrev lists : Instances
   lists = lists_in m.problem.instances
 
@@ -112,10 +128,10 @@ module _ (m : PosedTexts) (t : Typed) (is : IsPosedView m t) where
   constraints = constraints_of m.problem.implications
 
   pub accepted_is : (limit : ℕ) (c : Selection) (text : List ℕ) → AreGathered lists constraints → IsStrongest lists constraints c
-      → text ≡ types_text_of (made m t is (assigned lists c) (written_by m.texts.names sources (parameters_in (program_of m.texts.noted.program.annotated).datatypes)))
+      → text ≡ types_text_of (made m t is (assigned lists c) (written_by m.texts.names sources numbers (parameters_in (program_of m.texts.noted.program.annotated).datatypes)))
       (program_view m.problem.program.items) → IsVerdictOn limit t (Accepted text)
   accepted_is limit c text gathered strongest written =
-      let w = written_by m.texts.names sources (parameters_in (program_of m.texts.noted.program.annotated).datatypes) in
+      let w = written_by m.texts.names sources numbers (parameters_in (program_of m.texts.noted.program.annotated).datatypes) in
       record {
         gathered = moved m t is AreGathered gathered;
         solution = c;
@@ -134,7 +150,7 @@ module _ (m : PosedTexts) (t : Typed) (is : IsPosedView m t) where
         (λ k e. if_some (slice_get constraints at) (λ x. closed ≡ closed_under (assigned lists c) x) k told e) there.first.constraint there.first.is
 
     -- what is told of the one is told of the other
-    retold : (R : Calling → List Implication → ClosedImplication → Type 0) → R (called_by m.texts.names sources) (implications_of m.problem.implications) closed
+    retold : (R : Calling → List Implication → ClosedImplication → Type 0) → R (called_by m.texts.names sources numbers) (implications_of m.problem.implications) closed
         → R (called_in t) (implications_in t) (closed_under (assigned (instances_of t) c) there.first.constraint)
     retold R holds =
         subst (R (called_in t) (implications_in t)) closed_is
@@ -142,8 +158,8 @@ module _ (m : PosedTexts) (t : Typed) (is : IsPosedView m t) where
         (subst (λ (C : Calling). R C (implications_of m.problem.implications) closed) (called_are m t is) holds))
 
     pub rejected_is : (limit : ℕ) (failure explained : List ℕ) → AreGathered lists constraints
-        → IsFailure (called_by m.texts.names sources) (implications_of m.problem.implications) at closed (as_point p) failure
-        → IsExplained (called_by m.texts.names sources) (implications_of m.problem.implications) at closed (as_point p) explained
+        → IsFailure (called_by m.texts.names sources numbers) (implications_of m.problem.implications) at closed (as_point p) failure
+        → IsExplained (called_by m.texts.names sources numbers) (implications_of m.problem.implications) at closed (as_point p) explained
         → IsVerdictOn limit t (Rejected failure explained)
     rejected_is limit failure explained gathered fails explains =
         let first = there.first in
@@ -164,7 +180,7 @@ module _ (m : PosedTexts) (t : Typed) (is : IsPosedView m t) where
         }
 
   pub undecided_is : (limit at : ℕ) (stop : Stop) (text : List ℕ) → StopsSolving limit lists constraints (At at stop)
-      → text ≡ undecided_lines (called_by m.texts.names sources) (implications_of m.problem.implications) at stop → IsVerdictOn limit t (Undecided text)
+      → text ≡ undecided_lines (called_by m.texts.names sources numbers) (implications_of m.problem.implications) at stop → IsVerdictOn limit t (Undecided text)
   undecided_is limit at stop text stops written =
       record {
         at = at;

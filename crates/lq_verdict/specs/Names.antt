@@ -3,7 +3,8 @@ use Rattle.std.specs.Prelude.{ℕ, true, false, ◌==◌, List, [], ◌∷◌, O
 use Rattle.lq_scoped.specs.Signature.{DataTree}
 use Rattle.lq_pretty.specs.Calling.{Calling}
 use Rattle.lq_type_text.specs.Types.{Writing}
-use Rattle.lq_posed_texts.specs.Stages.{Typed, names_in, program_in}
+use Rattle.lq_made_names.specs.Numbers.{made_number}
+use Rattle.lq_posed_texts.specs.Stages.{Typed, names_in, normal_in, program_in}
 
 -- the parameters of the last of these datatypes with the name, or else these
 abbrev pub parameters_among : List ℕ → List DataTree → ℕ → List ℕ
@@ -14,17 +15,21 @@ parameters_among known (x ∷ xs) d = parameters_among (if x.name == d then x.pa
 abbrev pub parameters_in : List DataTree → ℕ → List ℕ
 parameters_in ds d = if 5 == d then 11 ∷ [] else (if 4 == d then 11 ∷ [] else parameters_among [] ds d)
 
+-- the k of each made name `%k` of the program's normal form
+abbrev pub numbers_in : Typed → ℕ → Option ℕ
+numbers_in t = made_number (program_in t).sources (normal_in t)
+
 -- implications tell binders of one name apart
-abbrev pub called_by : List (List ℕ) → List (Option ℕ) → Calling
-called_by names sources = record { names = names; sources = sources; told_apart = true }
+abbrev pub called_by : List (List ℕ) → List (Option ℕ) → (ℕ → Option ℕ) → Calling
+called_by names sources numbers = record { names = names; sources = sources; made = numbers; told_apart = true }
 
 abbrev pub called_in : Typed → Calling
-called_in t = called_by (names_in t.bound) (program_in t).sources
+called_in t = called_by (names_in t.bound) (program_in t).sources (numbers_in t)
 
 -- types don't
-abbrev pub written_by : List (List ℕ) → List (Option ℕ) → (ℕ → List ℕ) → Writing
-written_by names sources parameters =
-    record { calling = record { names = names; sources = sources; told_apart = false }; parameters = parameters }
+abbrev pub written_by : List (List ℕ) → List (Option ℕ) → (ℕ → Option ℕ) → (ℕ → List ℕ) → Writing
+written_by names sources numbers parameters =
+    record { calling = record { names = names; sources = sources; made = numbers; told_apart = false }; parameters = parameters }
 
 abbrev pub writing_in : Typed → Writing
-writing_in t = written_by (names_in t.bound) (program_in t).sources (parameters_in (program_in t).datatypes)
+writing_in t = written_by (names_in t.bound) (program_in t).sources (numbers_in t) (parameters_in (program_in t).datatypes)

@@ -1,14 +1,19 @@
 // What binders and the parameters of datatypes are called.
 ghost use Rattle.std.specs.Prelude.{◌≡◌, ℕ, ◌+◌, ◌<◌, ◌≤◌, ◌^◌, length, map, slice_get, IfOk, OnOk};
+ghost use Rattle.lq_annotated.specs.Whole.{program_of};
+ghost use Rattle.lq_made_names.specs.Numbers.{made_number};
+ghost use Rattle.lq_normalize.specs.Made.{normal_view};
 ghost use Rattle.lq_pretty.specs.Calling.{AreOrdinals};
-ghost use Rattle.lq_pretty.specs.Views.{calling_view, source_view, IsTold};
+ghost use Rattle.lq_pretty.specs.Views.{calling_view, made_view, source_view, IsTold};
 ghost use Rattle.lq_scoped.specs.Views.{data_view};
 ghost use Rattle.lq_scoped.specs.Whole.{scoped_view};
 ghost use Rattle.lq_type_text.specs.Views.{names_at, parameters_view};
 ghost use Rattle.lq_verdict.specs.Names.{called_by, parameters_among, parameters_in};
 ghost use Rattle.lq_verdict.specs.Rows.{numbers_of, IsRowPut};
 
+use lq_made_names::made_numbers;
 use lq_name::{Binder, Name, NameTable};
+use lq_posed_texts::TypedTexts;
 use lq_pretty::Calling;
 use lq_scoped::{DataType, Scoped};
 use lq_type_text::Parameters;
@@ -71,20 +76,40 @@ pub(crate) fn parameters_of(alloc: Global, datatypes: &[DataType]) -> Result<Par
     Ok(Parameters { rows })
 }
 
+// The source name of each binder, and the k of each made name `%k`.
+#[derive(Drop)]
+pub(crate) struct Names {
+    pub(crate) sources: Vec<Option<Name>>,
+    pub(crate) made: Vec<Option<usize>>,
+}
+
+// What the binders of a program and of its normal form are called by.
+pub(crate) fn names_of(alloc: Global, texts: &TypedTexts) -> Result<Names, AllocError>
+    requires { length (program_of texts.now.noted.program.annotated).sources ≤ 2 ^ 31 }
+    ensures sources { IfOk result (λ n. map source_view n.sources.items ≡ (program_of texts.now.noted.program.annotated).sources) }
+    ensures made { IfOk result (λ n. made_view n.made.items
+        ≡ made_number (program_of texts.now.noted.program.annotated).sources (normal_view texts.now.normal).items) }
+{
+    let sources = binder_sources(alloc, texts.noted.program().annotated().scoped())?;
+    let made = made_numbers(alloc, &sources, texts.normal.definitions())?;
+    Ok(Names { sources, made })
+}
+
 // What binders are called where they are told apart.
 pub(crate) fn calling_of<'a>(
     table: &'a NameTable,
-    sources: &'a [Option<Name>],
+    names: &'a Names,
     ordinals: &'a [usize],
 ) -> Calling<'a>
-    requires { AreOrdinals (map source_view sources.now) ordinals.now }
-    ensures view { calling_view result ≡ called_by table.now (map source_view sources.now) }
+    requires { AreOrdinals (map source_view names.now.sources.items) ordinals.now }
+    ensures view { calling_view result ≡ called_by table.now (map source_view names.now.sources.items)
+        (made_view names.now.made.items) }
     ensures told { IsTold result }
 {
-    let ordinals = Some(ordinals);
     Calling {
         table,
-        sources,
-        ordinals,
+        sources: &names.sources,
+        made: &names.made,
+        ordinals: Some(ordinals),
     }
 }

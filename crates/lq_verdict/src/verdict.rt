@@ -1,16 +1,16 @@
 // The judgement on what is to be solved for three texts.
-ghost use Rattle.std.specs.Prelude.{◌≡◌, ◌<◌, ◌≤◌, ◌^◌, ℕ, length, map, slice_get, IfOk, IfSome};
+ghost use Rattle.std.specs.Prelude.{◌≡◌, ◌<◌, ◌≤◌, ◌^◌, ℕ, length, slice_get, IfOk, IfSome};
 ghost use Rattle.lq_annotated.specs.Whole.{program_of};
 ghost use Rattle.lq_implications.specs.Views.{implications_of};
 ghost use Rattle.lq_inferred.specs.Lines.{types_text_of};
 ghost use Rattle.lq_inferred.specs.Views.{inferred_in, AreThere};
+ghost use Rattle.lq_made_names.specs.Numbers.{made_number};
+ghost use Rattle.lq_normalize.specs.Made.{normal_view};
 ghost use Rattle.lq_parts.specs.Flowing.{IsStrongest};
 ghost use Rattle.lq_pointed.specs.BlockView.{program_view};
 ghost use Rattle.lq_posed_texts.specs.Stages.{Typed};
 ghost use Rattle.lq_posed_texts.specs.Views.{IsPosedView};
 ghost use Rattle.lq_pred.specs.PredView.{implication_of};
-ghost use Rattle.lq_pretty.specs.Calling.{AreOrdinals};
-ghost use Rattle.lq_pretty.specs.Views.{source_view};
 ghost use Rattle.lq_questions.specs.Assigned.{assignment_of, closed_under, constraints_of, instances_in};
 ghost use Rattle.lq_substitution.specs.Views.{scopes_view};
 ghost use Rattle.lq_weaken.specs.Gathering.{AreGathered};
@@ -25,12 +25,12 @@ ghost use Rattle.lq_verdict.specs.Posed.{IsPosed, IsSolution};
 
 use crate::counting::counts_of;
 use crate::judgement::{Judged, Judgement};
-use crate::naming::{binder_sources, calling_of, parameters_of};
+use crate::naming::{calling_of, names_of, parameters_of};
 use lq_failure::{explain_text, failure_text, ordinals, undecided_text};
 use lq_implications::Implications;
 use lq_inferred::{assignment_of, types_text};
 use lq_instances::Instances;
-use lq_name::{Name, TextBuf};
+use lq_name::TextBuf;
 use lq_point::Point;
 use lq_posed_texts::{PosedTexts, TypedTexts};
 use lq_pred::{Closed, Stop};
@@ -55,14 +55,16 @@ fn types_under(
     ensures { IfOk result (λ text. text ≡ types_text_of (inferred_in (scopes_view problem.old.scopes) problem.old.types
         problem.old.templates.items (assignment_of problem.old.instances chosen.now) (written_by texts.now.names
         (program_of texts.now.noted.program.annotated).sources
+        (made_number (program_of texts.now.noted.program.annotated).sources (normal_view texts.now.normal).items)
         (parameters_in (program_of texts.now.noted.program.annotated).datatypes))) (program_view problem.old.program.items)) }
 {
     let program = texts.noted.program().annotated().scoped();
-    let sources = binder_sources(alloc, program)?;
+    let names = names_of(alloc, texts)?;
     let parameters = parameters_of(alloc, program.datatypes())?;
     let writing = Writing {
         table: &texts.names,
-        sources: &sources,
+        sources: &names.sources,
+        made: &names.made,
         parameters: &parameters,
     };
     let assignment = assignment_of(alloc, &problem.instances, chosen)?;
@@ -90,23 +92,6 @@ fn accepted(alloc: Global, posed: &mut PosedTexts, chosen: &Chosen) -> Result<Ju
 }
 
 // ---- rejected, and undecided
-
-// The source names of binders, and which binder of its name each is.
-#[derive(Drop)]
-struct Names {
-    sources: Vec<Option<Name>>,
-    ordinals: Vec<usize>,
-}
-
-fn names_of(alloc: Global, texts: &TypedTexts) -> Result<Names, AllocError>
-    requires { length (program_of texts.now.noted.program.annotated).sources ≤ 2 ^ 31 }
-    ensures sources { IfOk result (λ n. map source_view n.sources.items ≡ (program_of texts.now.noted.program.annotated).sources) }
-    ensures ordinals { IfOk result (λ n. AreOrdinals (map source_view n.sources.items) n.ordinals.items) }
-{
-    let sources = binder_sources(alloc, texts.noted.program().annotated().scoped())?;
-    let ordinals = ordinals(alloc, &sources)?;
-    Ok(Names { sources, ordinals })
-}
 
 // The implication of a number with the chosen instances in place of its unknowns.
 fn closed_at(
@@ -143,7 +128,8 @@ fn rejected(
     ensures { IfOk result (λ j. (limit : ℕ) (t : Typed) → IsPosedView posed.now t → IsVerdictOn limit t j) }
 {
     let names = names_of(alloc, &posed.texts)?;
-    let calling = calling_of(&posed.texts.names, &names.sources, &names.ordinals);
+    let ordinals = ordinals(alloc, &names.sources)?;
+    let calling = calling_of(&posed.texts.names, &names, &ordinals);
     let implications = &posed.problem.implications;
     let closed = closed_at(alloc, implications, at, &posed.problem.instances, chosen)?;
     let failure = failure_text(alloc, &calling, implications, at, &closed, point)?;
@@ -165,7 +151,8 @@ fn undecided(
         (constraints_of posed.now.problem.implications) (At at stop.now) → IsPosedView posed.now t → IsVerdictOn limit t j) }
 {
     let names = names_of(alloc, &posed.texts)?;
-    let calling = calling_of(&posed.texts.names, &names.sources, &names.ordinals);
+    let ordinals = ordinals(alloc, &names.sources)?;
+    let calling = calling_of(&posed.texts.names, &names, &ordinals);
     let cause = undecided_text(alloc, &calling, &posed.problem.implications, at, stop)?;
     Ok(Judgement::Undecided(cause))
 }
@@ -194,11 +181,7 @@ fn judgement_by(
 }
 
 /// The judgement on what was posed, and how much was solved for it. A check of the prover takes at most `limit` pivots.
-pub fn verdict_on(
-    alloc: Global,
-    posed: &mut PosedTexts,
-    limit: u64,
-) -> Result<Judged, AllocError>
+pub fn verdict_on(alloc: Global, posed: &mut PosedTexts, limit: u64) -> Result<Judged, AllocError>
     requires { IsPosed posed.old }
     ensures { IfOk result (λ j. (t : Typed) → IsPosedView posed.old t → IsVerdictOn limit t j.judgement × HasCounts t j.counts) }
 {

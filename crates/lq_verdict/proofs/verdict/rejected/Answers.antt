@@ -1,10 +1,11 @@
-use Rattle.std.proofs.Common.{map, ap, subst, ◌∙◌}
+use Rattle.std.proofs.Common.{ℕ, List, Option, ap, subst, ◌∙◌}
+use Rattle.lq_annotated.specs.Whole.{program_of}
 use Rattle.lq_failure.specs.Failures.{IsExplained, IsFailure}
 use Rattle.lq_implications.specs.Views.{implications_of}
 use Rattle.lq_point.specs.Values.{as_point}
 use Rattle.lq_pred.specs.PredView.{implication_of}
 use Rattle.lq_pretty.specs.Calling.{Calling}
-use Rattle.lq_pretty.specs.Views.{source_view}
+use Rattle.lq_pretty.specs.Views.{made_view}
 use Rattle.lq_weakening.specs.Chosen.{chosen_in}
 use Rattle.lq_verdict.specs.Names.{called_by}
 use Rattle.lq_verdict.proofs.Posed.{rejected_is}
@@ -17,8 +18,9 @@ returns c =
     let p = as_point c.args.point.now in
     let is = implications_of m.problem.implications in
     let closed = implication_of c.in_ok-closed.closed in
-    let named = c.calling_of-calling.ensures.view ∙ ap (λ l. called_by m.texts.names (map source_view l)) c.deref.ensures.value
-    ∙ ap (called_by m.texts.names) c.in_ok-names.ensures.sources in
+    let named = c.calling_of-calling.ensures.view
+    ∙ ap (λ (ss : List (Option ℕ)). called_by m.texts.names ss (made_view c.in_ok-names.names.made.items)) c.in_ok-names.ensures.sources
+    ∙ ap (called_by m.texts.names (program_of m.texts.noted.program.annotated).sources) c.in_ok-names.ensures.made in
     rejected_is m t view (chosen_in c.args.chosen.now) c.args.at c.args.point.now closed c.requires.none c.in_ok-closed.ensures limit
     c.in_ok-failure.failure c.in_ok-explained.explained c.requires.gathered
     (subst (λ (C : Calling). IsFailure C is c.args.at closed p c.in_ok-failure.failure) named c.in_ok-failure.ensures)
