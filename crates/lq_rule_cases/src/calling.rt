@@ -75,12 +75,14 @@ pub(crate) fn labels_of(
     Ok(labels)
 }
 
-/// The texts of names, what each binder is called where those of one name are told apart, its source name, and the names of parameters.
+/// The texts of names, what each binder is called where those of one name are told apart, its source name, the numbers of made names, and the
+/// names of parameters.
 #[derive(Drop)]
 pub(crate) struct Labels {
     pub(crate) names: NameTable,
     pub(crate) labels: Vec<Option<Name>>,
     pub(crate) sources: Vec<Option<Name>>,
+    pub(crate) made: Vec<Option<usize>>,
     pub(crate) parameters: Parameters,
 }
 
@@ -91,6 +93,7 @@ impl Labels {
         Calling {
             table: &self.names,
             sources: &self.labels,
+            made: &self.made,
             ordinals: None,
         }
     }
@@ -99,6 +102,7 @@ impl Labels {
         Writing {
             table: &self.names,
             sources: &self.sources,
+            made: &self.made,
             parameters: &self.parameters,
         }
     }

@@ -8,6 +8,7 @@ use crate::texts::texts_of;
 use lq_annotated::infer;
 use lq_assignment::{Assignment, Given};
 use lq_instantiated::instantiate;
+use lq_made_names::made_numbers;
 use lq_name::{Name, NameTable};
 use lq_normal_texts::typed_texts_have_rules;
 use lq_normalize::{NormalProgram, normal};
@@ -147,14 +148,17 @@ pub(crate) struct Labelled {
 }
 
 // What the binders of a program are called.
-fn labels_for(alloc: Global, mut names: NameTable, scoped: &Scoped) -> Result<Labels, AllocError> {
+fn labels_for(alloc: Global, mut names: NameTable, typed: &Typed) -> Result<Labels, AllocError> {
+    let scoped = typed.scoped();
     let labels = labels_of(alloc, &mut names, scoped)?;
     let sources = sources_of(alloc, scoped)?;
+    let made = made_numbers(alloc, &sources, typed.normal.definitions())?;
     let parameters = parameters_of(alloc, scoped.datatypes())?;
     Ok(Labels {
         names,
         labels,
         sources,
+        made,
         parameters,
     })
 }
@@ -167,7 +171,7 @@ pub(crate) fn labelled_case(alloc: Global, case: &Case) -> Result<Option<Labelle
     let Some(typed) = typed_case(alloc, &mut names, case)? else {
         return Ok(None);
     };
-    let labels = labels_for(alloc, names, typed.scoped())?;
+    let labels = labels_for(alloc, names, &typed)?;
     Ok(Some(Labelled { typed, labels }))
 }
 
