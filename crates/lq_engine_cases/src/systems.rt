@@ -84,7 +84,12 @@ fn both_outcomes<E: LinearEngine>(
     requires placed { AreByPlace (E.standing engine.old) }
     requires going { E.last engine.old ≢ Stopped }
 {
-    if !take_rows(alloc, engine, given(turns.first.get(..turns.kept))?, differences)? {
+    if !take_rows(
+        alloc,
+        engine,
+        given(turns.first.get(..turns.kept))?,
+        differences,
+    )? {
         return Ok(None);
     }
     let mark = engine.mark();
@@ -103,7 +108,11 @@ struct Turns {
 }
 
 /// The rows of two lists of words.
-fn joined(alloc: Global, kept: &[&str], more: &[&str]) -> Result<Vec<RowCase>, CaseError> {
+fn joined<'a>(
+    alloc: Global,
+    kept: &[&'a str],
+    more: &[&'a str],
+) -> Result<Vec<RowCase>, CaseError> {
     let mut words = Vec::from_slice(alloc, kept)?;
     words.extend_from_slice(more)?;
     rows_of(alloc, &words)
