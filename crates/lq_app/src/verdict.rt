@@ -12,9 +12,9 @@ ghost use Rattle.lq_command.specs.declared.command.Mode.TheVariants.{Check};
 use crate::Status;
 use lq_command::{Judge, Mode};
 use lq_judge::{judge, judge_counted};
-use lq_verdict::{Judged, Judgement, Refusal};
 use lq_name::TextBuf;
 use lq_sample::{push_counts, sample_program, sample_qualifiers};
+use lq_verdict::{Judged, Judgement, Refusal};
 use std::alloc::{AllocError, Global};
 
 // A status, and the whole report that goes with it.
