@@ -1,5 +1,6 @@
 // The lines that report refusals.
 ghost use Rattle.std.specs.Prelude.{◌≡◌, ◌<◌, ◌++◌, codes, decimal, IfOk, OnOk};
+ghost use Rattle.lq_report.specs.Continued.{Continues};
 ghost use Rattle.lq_report.specs.Refusals.{name_of, kind_text, place_text, head_text, located_text, refusal_line};
 
 use crate::Refused;
@@ -42,16 +43,20 @@ fn kind_text(kind: TextKind) -> &'static [u8]
     }
 }
 
+#[tactic(auto, using(crate::specs::Continued::continuing))]
 fn push_number(line: &mut Vec<u8>, n: u64) -> Result<(), AllocError>
-    ensures { OnOk result (line.new.items ≡ line.old.items ++ decimal n) }
+    ensures written { OnOk result (line.new.items ≡ line.old.items ++ decimal n) }
+    ensures begins { Continues line.old.items line.new.items }
 {
     let mut number = Buffer::new();
     line.extend_from_slice(number.format(n).as_bytes())
 }
 
 /// Writes a line and a column behind the bytes.
+#[tactic(auto, using(crate::specs::Continued::continuing))]
 pub fn push_place(line: &mut Vec<u8>, place: Place) -> Result<(), AllocError>
-    ensures { OnOk result (line.new.items ≡ line.old.items ++ place_text place) }
+    ensures written { OnOk result (line.new.items ≡ line.old.items ++ place_text place) }
+    ensures begins { Continues line.old.items line.new.items }
 {
     push_number(line, place.line as u64)?;
     line.extend_from_slice(b":")?;
