@@ -8,4 +8,4 @@ pub returns : goal.returns
 unfolding assertion_text
 returns c =
     three_written c.extend_from_slice.result c.args.text.now.items (numbered (codes "let () = assert (0 <= f") c.args.number) (numbered (codes " ") c.args.number) (codes ")\n")
-    _ _ _ c.in_ok-push_numbered.ensures c.in_ok-push_numbered-2.ensures c.extend_from_slice.ensures.items
+    _ _ _ c.in_ok-push_numbered.ensures.written c.in_ok-push_numbered-2.ensures.written c.extend_from_slice.ensures.items
