@@ -75,10 +75,10 @@ known_same a equations s t h e f g k = known_by a equations equations s t g k
     (subst (λ l. IsKnown (form_at a) (length a.nodes.items) t.parents.items s.shapes.items l equations) (sym f)
     (same_known (form_at a) (length a.nodes.items) s.parents.items t.parents.items s.shapes.items s.found.items equations h k.known)))
 
-rejoined : (from : ℕ) (equations : List Equation) → take from equations ++ take (length equations - from) (drop from equations) ≡ equations
+pub rejoined : (from : ℕ) (equations : List Equation) → take from equations ++ take (length equations - from) (drop from equations) ≡ equations
 rejoined from equations = ap (λ l. take from equations ++ l) (take_all (length equations - from) (drop from equations) (omega (arith, length-drop from equations))) ∙ take-append-drop from equations
 
-sliced : (a : Arena) (equations : List Equation) (s : Solver) (old was : List ℕ) → old ≡ s.parents.items → was ≡ s.shapes.items
+pub sliced : (a : Arena) (equations : List Equation) (s : Solver) (old was : List ℕ) → old ≡ s.parents.items → was ≡ s.shapes.items
     → IsKnown (form_at a) (length a.nodes.items) s.parents.items s.shapes.items s.found.items equations → IsKnown (form_at a) (length a.nodes.items) old was s.found.items equations
 sliced a equations s old was e f k = subst (λ l. IsKnown (form_at a) (length a.nodes.items) l was s.found.items equations) (sym e)
     (subst (λ l. IsKnown (form_at a) (length a.nodes.items) s.parents.items l s.found.items equations) (sym f) k)

@@ -20,3 +20,4 @@ pub mod Listing
 pub mod Seating
 pub mod Copied
 pub mod Opening
+pub mod Standing

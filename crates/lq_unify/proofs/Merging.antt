@@ -1,5 +1,5 @@
 -- What the classes are after more equations.
-use Rattle.std.proofs.Common.{◌≡◌, ℕ, ◌+◌, ◌-◌, ◌<◌, inl, inr, Bool, List, ◌++◌, Option, All, Result, Ok, Err, OnOk, IfOk, length, get_or, take, refl, sym, ap, subst, ◌∙◌, arith, length-append}
+use Rattle.std.proofs.Common.{◌≡◌, ℕ, ◌+◌, ◌-◌, ◌<◌, inl, inr, Bool, List, ◌++◌, Option, All, Result, Ok, Err, IfOk, length, get_or, take, refl, sym, ap, subst, ◌∙◌, arith, length-append}
 use Rattle.std.proofs.lemmas.Bool.{cases_lt}
 use Rattle.std.proofs.lemmas.List.{get_or_append_left, get_or-append_right, take_more}
 use Rattle.lq_unify.specs.declared.arena.Equation.{Equation}
@@ -47,6 +47,6 @@ pub merged_clash : (forms : ℕ → Option Form) (n : ℕ) (old mid shapes : Lis
 merged_clash forms n old mid shapes f before equations known shared clash types s =
     let p = split_solution forms before equations types s in clash types s.fits (shared types (known.follows types p.0) p.1)
 
-pub if_ok : {E : Type 0} (r : Result Bool E) {S G H : Type 0} {C K : Bool → Type 0} → OnOk r S → OnOk r G → OnOk r H → IfOk r C → ((b : Bool) → S → G → H → C b → K b) → IfOk r K
-if_ok (Ok b) s g h c f = f b s g h c
-if_ok (Err e) s g h c f = tt
+pub if_ok : {E : Type 0} (r : Result Bool E) {C K : Bool → Type 0} → IfOk r C → ((b : Bool) → C b → K b) → IfOk r K
+if_ok (Ok b) c f = f b c
+if_ok (Err e) c f = tt

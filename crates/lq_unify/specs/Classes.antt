@@ -75,6 +75,13 @@ pub record Grows (old new : List ℕ) (before after : List Equation) : Type 0 wh
 abbrev pub AreFollowed : (ℕ → Option Form) → List ℕ → List Equation → Type 0
 AreFollowed forms parents found = All (λ e. rooted forms parents e.left ≡ rooted forms parents e.right) found
 
+-- classes from those that the first equations made to those that the second make: what was found of the first still stands, and nothing
+-- is there that doesn't follow from the second
+pub record AreBetween (forms : ℕ → Option Form) (n : ℕ) (parents shapes : List ℕ) (found before after : List Equation) : Type 0 where
+  pub state : IsState forms n parents shapes found
+  pub met : All (λ e. root parents e.left ≡ root parents e.right) before
+  pub follows : (types : ℕ → Simple) → IsSolution forms after types → AreShared parents types
+
 -- the classes that the equations make: all that follows from them, and nothing else
 pub record IsKnown (forms : ℕ → Option Form) (n : ℕ) (parents shapes : List ℕ) (found equations : List Equation) : Type 0 where
   pub state : IsState forms n parents shapes found

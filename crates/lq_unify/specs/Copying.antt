@@ -36,6 +36,12 @@ pub record AreOpened (old new : Arena) (count : ℕ) : Type 0 where
   pub kept : (i : ℕ) → i < length old.nodes.items → form_at new i ≡ form_at old i
   pub rest : (i : ℕ) → length old.nodes.items ≤ i → form_at new i ≡ None
 
+-- as many nodes or more, of which the first so many have the forms that they had
+pub record AreKept (old new : Arena) (base : ℕ) : Type 0 where
+  pub arena : IsArena new
+  pub more : length old.nodes.items ≤ length new.nodes.items
+  pub kept : (i : ℕ) → i < base → form_at new i ≡ form_at old i
+
 -- the form of a node, over what stands for its parts
 abbrev pub seated : Arena → ℕ → List ℕ → List ℕ → ℕ → Option Form
 seated a base parents copies i = option_map (renamed (λ p. seat base copies (root parents p))) (form_at a i)

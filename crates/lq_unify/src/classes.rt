@@ -40,12 +40,12 @@ fn link(
     requires inside { high < length arena.now.nodes.items }
     requires low_root { up parents.old low ≡ low }
     requires high_root { up parents.old high ≡ high }
-    ensures state { OnOk result (IsState (form_at arena.now) (length arena.now.nodes.items) parents.new
-        shapes.new found.new.items) }
-    ensures grows { OnOk result (Grows parents.old parents.new found.old.items found.new.items) }
+    ensures state { IsState (form_at arena.now) (length arena.now.nodes.items) parents.new shapes.new
+        found.new.items }
+    ensures grows { Grows parents.old parents.new found.old.items found.new.items }
     ensures same { OnOk result (root parents.new low ≡ root parents.new high) }
-    ensures shared { OnOk result ((types : ℕ → Simple) → AreShared parents.old types → types low ≡ types
-        high → AreShared parents.new types) }
+    ensures shared { (types : ℕ → Simple) → AreShared parents.old types → types low ≡ types
+        high → AreShared parents.new types }
 {
     let kept = shapes[low as usize];
     let lost = shapes[high as usize];
@@ -89,12 +89,12 @@ pub(crate) fn join(
         found.old.items }
     requires left_in { left < length arena.now.nodes.items }
     requires right_in { right < length arena.now.nodes.items }
-    ensures state { OnOk result (IsState (form_at arena.now) (length arena.now.nodes.items) parents.new
-        shapes.new found.new.items) }
-    ensures grows { OnOk result (Grows parents.old parents.new found.old.items found.new.items) }
+    ensures state { IsState (form_at arena.now) (length arena.now.nodes.items) parents.new shapes.new
+        found.new.items }
+    ensures grows { Grows parents.old parents.new found.old.items found.new.items }
     ensures same { OnOk result (root parents.new left ≡ root parents.new right) }
-    ensures shared { OnOk result ((types : ℕ → Simple) → AreShared parents.old types → types left ≡ types
-        right → AreShared parents.new types) }
+    ensures shared { (types : ℕ → Simple) → AreShared parents.old types → types left ≡ types
+        right → AreShared parents.new types }
 {
     let one = find(parents, left);
     let other = find(parents, right);
@@ -122,14 +122,14 @@ fn join_rows(
         found.old.items }
     requires first_in { first + count ≤ length arena.now.parts.items }
     requires start_in { start + count ≤ length arena.now.parts.items }
-    ensures state { OnOk result (IsState (form_at arena.now) (length arena.now.nodes.items) parents.new
-        shapes.new found.new.items) }
-    ensures grows { OnOk result (Grows parents.old parents.new found.old.items found.new.items) }
+    ensures state { IsState (form_at arena.now) (length arena.now.nodes.items) parents.new shapes.new
+        found.new.items }
+    ensures grows { Grows parents.old parents.new found.old.items found.new.items }
     ensures same { OnOk result ((k : ℕ) → k < count → root parents.new (slice_index arena.now.parts.items
         (first + k)) ≡ root parents.new (slice_index arena.now.parts.items (start + k))) }
-    ensures shared { OnOk result ((types : ℕ → Simple) → AreShared parents.old types → ((k : ℕ) → k < count
+    ensures shared { (types : ℕ → Simple) → AreShared parents.old types → ((k : ℕ) → k < count
         → types (slice_index arena.now.parts.items (first + k)) ≡ types (slice_index arena.now.parts.items
-        (start + k))) → AreShared parents.new types) }
+        (start + k))) → AreShared parents.new types }
 {
     for at in 0..count {
         let left = arena.parts[first as usize + at as usize];
@@ -151,13 +151,13 @@ fn join_parts(
     requires state { IsState (form_at arena.now) (length arena.now.nodes.items) parents.old shapes.old
         found.old.items }
     requires pair { IsFound (form_at arena.now) (length arena.now.nodes.items) parents.old pair }
-    ensures state { OnOk result (IsState (form_at arena.now) (length arena.now.nodes.items) parents.new
-        shapes.new found.new.items) }
-    ensures grows { OnOk result (Grows parents.old parents.new found.old.items found.new.items) }
+    ensures state { IsState (form_at arena.now) (length arena.now.nodes.items) parents.new shapes.new
+        found.new.items }
+    ensures grows { Grows parents.old parents.new found.old.items found.new.items }
     ensures same { IfOk result (λ yes. yes ≡ true → rooted (form_at arena.now) parents.new pair.left ≡
         rooted (form_at arena.now) parents.new pair.right) }
-    ensures shared { OnOk result ((types : ℕ → Simple) → Fits (form_at arena.now) types → AreShared
-        parents.old types → AreShared parents.new types) }
+    ensures shared { (types : ℕ → Simple) → Fits (form_at arena.now) types → AreShared
+        parents.old types → AreShared parents.new types }
     ensures clash { IfOk result (λ yes. yes ≡ false → (types : ℕ → Simple) → Fits (form_at arena.now) types
         → AreShared parents.old types → ⊥) }
 {
@@ -190,13 +190,13 @@ pub(crate) fn settle(
         found.old.items }
     requires within { followed ≤ length found.old.items }
     requires followed { AreFollowed (form_at arena.now) parents.old (take followed found.old.items) }
-    ensures state { OnOk result (IsState (form_at arena.now) (length arena.now.nodes.items) parents.new
-        shapes.new found.new.items) }
-    ensures grows { OnOk result (Grows parents.old parents.new found.old.items found.new.items) }
+    ensures state { IsState (form_at arena.now) (length arena.now.nodes.items) parents.new shapes.new
+        found.new.items }
+    ensures grows { Grows parents.old parents.new found.old.items found.new.items }
     ensures closed { IfOk result (λ yes. yes ≡ true → AreFollowed (form_at arena.now) parents.new
         found.new.items) }
-    ensures shared { OnOk result ((types : ℕ → Simple) → Fits (form_at arena.now) types → AreShared
-        parents.old types → AreShared parents.new types) }
+    ensures shared { (types : ℕ → Simple) → Fits (form_at arena.now) types → AreShared
+        parents.old types → AreShared parents.new types }
     ensures clash { IfOk result (λ yes. yes ≡ false → (types : ℕ → Simple) → Fits (form_at arena.now) types
         → AreShared parents.old types → ⊥) }
 {

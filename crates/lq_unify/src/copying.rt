@@ -1,13 +1,13 @@
 // Copies of types, for uses of definitions.
-ghost use Rattle.std.specs.Prelude.{◌≡◌, ℕ, ◌+◌, ◌<◌, ◌≤◌, ◌^◌, List, [], ◌∷◌, All, None, length, map, slice_index_or, OnOk, IfOk};
+ghost use Rattle.std.specs.Prelude.{◌≡◌, ℕ, ◌+◌, ◌<◌, ◌≤◌, ◌^◌, List, [], ◌∷◌, All, None, length, map, slice_index_or, OnOk, OnErr, IfOk};
 ghost use Rattle.std.specs.Option.{option_map};
 ghost use Rattle.lq_unify.specs.declared.arena.Arena.{Arena};
 ghost use Rattle.lq_unify.specs.declared.arena.Equation.{Equation};
-ghost use Rattle.lq_unify.specs.Nodes.{renamed, form_at, IsArena, HasFilled};
+ghost use Rattle.lq_unify.specs.Nodes.{renamed, form_at, IsArena, HasFilled, HasKept};
 ghost use Rattle.lq_unify.specs.Classes.{up, root, IsDown, IsSame};
 ghost use Rattle.lq_unify.specs.Value.{parts_of};
-ghost use Rattle.lq_unify.specs.Knowing.{IsLonger, Knows};
-ghost use Rattle.lq_unify.specs.Copying.{seat, seated, AreOpened, AreFilled, ArePlaced, IsPlaced, IsCopy};
+ghost use Rattle.lq_unify.specs.Knowing.{IsLonger, Knows, KeepsClasses};
+ghost use Rattle.lq_unify.specs.Copying.{seat, seated, AreOpened, AreFilled, AreKept, ArePlaced, IsPlaced, IsCopy};
 
 use crate::arena::{Arena, Node};
 use crate::classes::find;
@@ -53,7 +53,8 @@ fn seats_of(
 /// So many open nodes more.
 fn open_all(arena: &mut Arena, count: usize) -> Result<(), AllocError>
     requires { IsArena arena.old }
-    ensures { OnOk result (AreOpened arena.old arena.new count) }
+    ensures opened { OnOk result (AreOpened arena.old arena.new count) }
+    ensures kept { OnErr result (AreKept arena.old arena.new (length arena.old.nodes.items)) }
 {
     for _ in 0..count {
         arena.open()?;
@@ -81,6 +82,7 @@ fn fill_one(
     requires none { form_at arena.old node ≡ None }
     ensures filled { OnOk result (HasFilled arena.old arena.new node
         (seated arena.old base parents.old copies.now shape)) }
+    ensures kept { OnErr result (HasKept arena.old arena.new) }
     ensures classes { IsSame parents.old parents.new }
 {
     if let Node::Made(head, first, count) = arena.nodes[shape as usize] {
@@ -114,6 +116,7 @@ fn fill_all(
     requires rest { (i : ℕ) → base ≤ i → form_at arena.old i ≡ None }
     ensures filled { OnOk result (AreFilled arena.old arena.new base parents.old shapes.now copies.now
         classes.now) }
+    ensures kept { OnErr result (AreKept arena.old arena.new base) }
     ensures classes { IsSame parents.old parents.new }
 {
     for at in 0..classes.len() {
@@ -146,7 +149,8 @@ fn place(
     requires inside { node < length arena.old.nodes.items }
     ensures placed { IfOk result (IsPlaced arena.old arena.new parents.old shapes.now weak.now copies.new node) }
     ensures copies { OnOk result (length copies.new ≡ length arena.old.nodes.items) }
-    ensures classes { OnOk result (IsSame parents.old parents.new) }
+    ensures kept { OnErr result (AreKept arena.old arena.new (length arena.old.nodes.items)) }
+    ensures classes { IsSame parents.old parents.new }
 {
     let base = arena.nodes.len();
     let classes = reach(alloc, arena, parents, shapes, copies, weak, &[node])?;
@@ -169,14 +173,15 @@ impl Solver {
         requires arena { IsArena arena.old }
         requires node { node < length arena.old.nodes.items }
         requires knows { (equations : List Equation) × Knows arena.old equations self.old }
-        ensures arena { OnOk result (IsArena arena.new) }
-        ensures longer { OnOk result (IsLonger arena.old arena.new) }
+        ensures arena { IsArena arena.new }
+        ensures longer { IsLonger arena.old arena.new }
         ensures inside { IfOk result (λ used. used < length arena.new.nodes.items) }
         ensures copy { IfOk result (IsCopy (form_at arena.old) (form_at arena.new)
             (length arena.old.nodes.items) (length arena.new.nodes.items) self.old.parents.items
             self.old.shapes.items weak.now node) }
         ensures knows { OnOk result ((equations : List Equation) → Knows arena.old equations self.old
             → Knows arena.new equations self.new) }
+        ensures stands { KeepsClasses self.old self.new }
     {
         let used = place(
             alloc,

@@ -4,7 +4,7 @@ ghost use Rattle.lq_unify.specs.declared.arena.Equation.{Equation};
 ghost use Rattle.lq_unify.specs.Simple.{Simple};
 ghost use Rattle.lq_unify.specs.Nodes.{form_at, IsArena};
 ghost use Rattle.lq_unify.specs.Solution.{Fits, HasNoSolution, AreNodes};
-ghost use Rattle.lq_unify.specs.Classes.{up, root, IsDown, IsSame, IsState, AreFollowed, IsKnown};
+ghost use Rattle.lq_unify.specs.Classes.{up, root, IsDown, IsSame, IsState, AreBetween, AreFollowed, IsKnown};
 
 use crate::arena::{Arena, Equation};
 use crate::classes::{join, settle};
@@ -25,7 +25,7 @@ pub(crate) fn apart(alloc: Global, count: usize) -> Result<Vec<u32>, AllocError>
 pub(crate) fn widen(table: &mut Vec<u32>, count: usize) -> Result<(), AllocError>
     requires { count < 2 ^ 32 }
     ensures length { OnOk result (length table.old.items ≤ count → length table.new.items ≡ count) }
-    ensures same { OnOk result ((i : ℕ) → up table.new.items i ≡ up table.old.items i) }
+    ensures same { (i : ℕ) → up table.new.items i ≡ up table.old.items i }
 {
     for node in table.len()..count {
         table.push(node as u32)?;
@@ -50,6 +50,9 @@ pub(crate) fn merge(
         (length arena.now.nodes.items) parents.old shapes.old found.old.items before → IsKnown (form_at
         arena.now) (length arena.now.nodes.items) parents.new shapes.new found.new.items (before ++
         equations.now)) }
+    ensures stands { (before : List Equation) → IsKnown (form_at arena.now) (length arena.now.nodes.items)
+        parents.old shapes.old found.old.items before → AreBetween (form_at arena.now) (length
+        arena.now.nodes.items) parents.new shapes.new found.new.items before (before ++ equations.now) }
     ensures clash { IfOk result (λ yes. yes ≡ false → (before : List Equation) → IsKnown (form_at arena.now)
         (length arena.now.nodes.items) parents.old shapes.old found.old.items before → HasNoSolution
         (form_at arena.now) (before ++ equations.now)) }

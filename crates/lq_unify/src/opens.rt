@@ -3,7 +3,7 @@ ghost use Rattle.std.specs.Prelude.{◌≡◌, ℕ, ◌+◌, ◌-◌, ◌<◌, �
 ghost use Rattle.lq_unify.specs.declared.arena.Equation.{Equation};
 ghost use Rattle.lq_unify.specs.Nodes.{form_at, IsArena};
 ghost use Rattle.lq_unify.specs.Classes.{up};
-ghost use Rattle.lq_unify.specs.Knowing.{Knows};
+ghost use Rattle.lq_unify.specs.Knowing.{Knows, KeepsClasses};
 ghost use Rattle.lq_unify.specs.Opens.{AreOpenOf, AreOpens};
 
 use crate::arena::Arena;
@@ -62,6 +62,7 @@ impl Solver {
         ensures inside { IfOk result (λ all. All (λ r. r < length arena.now.nodes.items) all.items) }
         ensures knows { OnOk result ((equations : List Equation) → Knows arena.now equations self.old
             → Knows arena.now equations self.new) }
+        ensures stands { KeepsClasses self.old self.new }
     {
         let classes = reach(
             alloc,

@@ -4,7 +4,7 @@ ghost use Rattle.lq_unify.specs.declared.arena.Arena.{Arena};
 ghost use Rattle.lq_unify.specs.declared.arena.Equation.{Equation};
 ghost use Rattle.lq_unify.specs.Nodes.{form_at, IsArena};
 ghost use Rattle.lq_unify.specs.Solution.{AreNodes, IsPrincipal, HasNoSolution, HasSolution};
-ghost use Rattle.lq_unify.specs.Knowing.{IsLonger, Knows, IsOrdered, IsStretched};
+ghost use Rattle.lq_unify.specs.Knowing.{IsLonger, Knows, IsBetween, KeepsClasses, IsOrdered, IsWidened, IsStretched};
 ghost use Rattle.lq_unify.specs.Order.{AreOrdered};
 ghost use Rattle.lq_unify.specs.Solved.{types_of, HasOrder};
 
@@ -50,8 +50,10 @@ impl Solver {
     /// The same equations, where the arena has got more nodes.
     pub fn grow(&mut self, arena: &Arena) -> Result<(), AllocError>
         requires { IsArena arena.now }
-        ensures { OnOk result ((old : Arena) (equations : List Equation) → IsLonger old arena.now
+        ensures knows { OnOk result ((old : Arena) (equations : List Equation) → IsLonger old arena.now
             → Knows old equations self.old → Knows arena.now equations self.new) }
+        ensures stands { (old : Arena) (equations : List Equation) → Knows old equations self.old
+            → KeepsClasses self.old self.new }
     {
         self.stretch(arena.nodes.len())?;
         Ok(())
@@ -60,7 +62,8 @@ impl Solver {
     // Tables of so many nodes.
     pub(crate) fn stretch(&mut self, count: usize) -> Result<(), AllocError>
         requires { count < 2 ^ 32 }
-        ensures { OnOk result (IsStretched self.old self.new count) }
+        ensures stretched { OnOk result (IsStretched self.old self.new count) }
+        ensures widened { IsWidened self.old self.new }
     {
         widen(&mut self.parents, count)?;
         widen(&mut self.shapes, count)?;
@@ -80,6 +83,7 @@ impl Solver {
         requires from { from ≤ length equations.now }
         requires knows { Knows arena.now (take from equations.now) self.old }
         ensures knows { IfOk result (λ yes. yes ≡ true → Knows arena.now equations.now self.new) }
+        ensures stands { IsBetween arena.now (take from equations.now) equations.now self.new }
         ensures none { IfOk result (λ yes. yes ≡ false → HasNoSolution (form_at arena.now) equations.now) }
     {
         let met = merge(
@@ -97,8 +101,8 @@ impl Solver {
     fn order(&mut self, alloc: Global, arena: &Arena) -> Result<Option<Vec<u32>>, AllocError>
         requires arena { IsArena arena.now }
         requires knows { (equations : List Equation) × Knows arena.now equations self.old }
-        ensures knows { OnOk result ((equations : List Equation) → Knows arena.now equations self.old
-            → Knows arena.now equations self.new) }
+        ensures knows { (equations : List Equation) → Knows arena.now equations self.old
+            → Knows arena.now equations self.new }
         ensures some { IfOk result (λ found. IfSome found (λ order. IsOrdered arena.now self.new
             (length order.items + 1))) }
         ensures ordered { IfOk result (λ found. IfSome found (λ order. AreOrdered (form_at arena.now)
@@ -115,8 +119,8 @@ impl Solver {
     pub fn is_solvable(&mut self, alloc: Global, arena: &Arena) -> Result<bool, AllocError>
         requires arena { IsArena arena.now }
         requires knows { (equations : List Equation) × Knows arena.now equations self.old }
-        ensures knows { OnOk result ((equations : List Equation) → Knows arena.now equations self.old
-            → Knows arena.now equations self.new) }
+        ensures knows { (equations : List Equation) → Knows arena.now equations self.old
+            → Knows arena.now equations self.new }
         ensures yes { IfOk result (λ yes. yes ≡ true → (equations : List Equation)
             → Knows arena.now equations self.old → HasSolution (form_at arena.now) equations) }
         ensures no { IfOk result (λ yes. yes ≡ false → (equations : List Equation)

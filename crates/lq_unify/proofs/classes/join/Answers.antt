@@ -1,13 +1,9 @@
-use Rattle.std.proofs.Common.{◌≡◌, ℕ, ◌<◌, List, sym, ap, ◌∙◌, arith, OnOk, Result, Ok, Err}
+use Rattle.std.proofs.Common.{◌≡◌, ℕ, ◌<◌, List, sym, ap, ◌∙◌, arith}
 use Rattle.lq_unify.specs.Simple.{Simple}
 use Rattle.lq_unify.specs.Classes.{up, root, IsDown, IsSame, AreShared}
 use Rattle.lq_unify.proofs.Roots.{at_root, root_fixed, root_low}
 use Rattle.lq_unify.proofs.Same.{same_then, same_state, same_grows, same_shared, grows_later}
 use Rattle.lq_unify.proofs.classes.join.Goals as goal
-
-on_ok : {T E : Type 0} (r : Result T E) {P Q : Type 0} → (P → Q) → OnOk r P → OnOk r Q
-on_ok (Ok x) f p = f p
-on_ok (Err e) f p = p
 
 -- the root that the first search found is a root after the second
 root_later : (old mid new : List ℕ) (node r : ℕ) → IsDown old → IsSame old mid → IsSame mid new → r ≡ root old node → up new r ≡ r
@@ -47,10 +43,10 @@ pub link-requires-then-other-one-clause-high_root : goal.link-requires-then-othe
 link-requires-then-other-one-clause-high_root c = root_later _ _ _ _ _ c.requires.state.down c.find-one.ensures.classes c.find-other.ensures.classes c.find-one.ensures.value
 
 pub returns-then-one-other-clause-grows : goal.returns-then-one-other-clause-grows
-returns-then-one-other-clause-grows c = on_ok _ (grows_later _ _ _ _ _ (same_then _ _ _ c.find-one.ensures.classes c.find-other.ensures.classes)) c.link.ensures.grows
+returns-then-one-other-clause-grows c = grows_later _ _ _ _ _ (same_then _ _ _ c.find-one.ensures.classes c.find-other.ensures.classes) c.link.ensures.grows
 
 pub returns-then-other-one-clause-grows : goal.returns-then-other-one-clause-grows
-returns-then-other-one-clause-grows c = on_ok _ (grows_later _ _ _ _ _ (same_then _ _ _ c.find-one.ensures.classes c.find-other.ensures.classes)) c.link-then-other-one.ensures.grows
+returns-then-other-one-clause-grows c = grows_later _ _ _ _ _ (same_then _ _ _ c.find-one.ensures.classes c.find-other.ensures.classes) c.link-then-other-one.ensures.grows
 
 pub returns-clause-state : goal.returns-clause-state
 returns-clause-state c = same_state _ _ _ _ _ _ (same_then _ _ _ c.find-one.ensures.classes c.find-other.ensures.classes) c.requires.state
@@ -71,12 +67,12 @@ shared_step old mid new left right x y s e f types h g = f types (same_shared ol
 
 pub returns-then-one-other-clause-shared : goal.returns-then-one-other-clause-shared
 returns-then-one-other-clause-shared c =
-    on_ok _ (shared_step _ _ _ c.args.left c.args.right _ _ (same_then _ _ _ c.find-one.ensures.classes c.find-other.ensures.classes)
-    (λ types h e. types_at _ types c.args.left _ h c.find-one.ensures.value ∙ e ∙ sym (types_at _ types c.args.right _ (same_shared _ _ types c.find-one.ensures.classes h) c.find-other.ensures.value)))
+    shared_step _ _ _ c.args.left c.args.right _ _ (same_then _ _ _ c.find-one.ensures.classes c.find-other.ensures.classes)
+    (λ types h e. types_at _ types c.args.left _ h c.find-one.ensures.value ∙ e ∙ sym (types_at _ types c.args.right _ (same_shared _ _ types c.find-one.ensures.classes h) c.find-other.ensures.value))
     c.link.ensures.shared
 
 pub returns-then-other-one-clause-shared : goal.returns-then-other-one-clause-shared
 returns-then-other-one-clause-shared c =
-    on_ok _ (shared_step _ _ _ c.args.left c.args.right _ _ (same_then _ _ _ c.find-one.ensures.classes c.find-other.ensures.classes)
-    (λ types h e. types_at _ types c.args.right _ (same_shared _ _ types c.find-one.ensures.classes h) c.find-other.ensures.value ∙ sym e ∙ sym (types_at _ types c.args.left _ h c.find-one.ensures.value)))
+    shared_step _ _ _ c.args.left c.args.right _ _ (same_then _ _ _ c.find-one.ensures.classes c.find-other.ensures.classes)
+    (λ types h e. types_at _ types c.args.right _ (same_shared _ _ types c.find-one.ensures.classes h) c.find-other.ensures.value ∙ sym e ∙ sym (types_at _ types c.args.left _ h c.find-one.ensures.value))
     c.link-then-other-one.ensures.shared

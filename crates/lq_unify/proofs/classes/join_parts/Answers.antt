@@ -62,3 +62,19 @@ returns-clause-shared c = λ types fits shared.
     let e = same_made (form_at a) types c.args.pair.left c.args.pair.right f g fits left right (pair_types _ types _ _ shared p.same) in
     c.in_ok-join_rows-in-Made-Made.ensures.shared types shared
     (rows_types types xs m.first m.start m.count first_in (made_parts _ _ _ _ e ∙ ap (λ (k : ℕ). each types (take k (drop m.start xs))) (sym number)))
+
+pub returns-in_err-join_rows-in-Made-Made-clause-shared : goal.returns-in_err-join_rows-in-Made-Made-clause-shared
+returns-in_err-join_rows-in-Made-Made-clause-shared c = λ types fits shared.
+    let a = c.args.arena.now in
+    let xs = a.parts.items in
+    let m = c.in-Made-Made in
+    let p = c.requires.pair in
+    let number : m.count ≡ m.number = c.if-count-number.false in
+    let f : Form = record { head = m.head; parts = take m.count (drop m.first xs) } in
+    let g : Form = record { head = m.other; parts = take m.number (drop m.start xs) } in
+    let left = form_read a c.args.pair.left _ m.head m.first m.count p.left_in c.index.ensures m.is-0 in
+    let right = form_read a c.args.pair.right _ m.other m.start m.number p.right_in c.index-2.ensures m.is-1 in
+    let first_in = fits_read a c.requires.arena c.args.pair.left _ m.head m.first m.count p.left_in c.index.ensures m.is-0 in
+    let e = same_made (form_at a) types c.args.pair.left c.args.pair.right f g fits left right (pair_types _ types _ _ shared p.same) in
+    c.join_rows.ensures.shared types shared
+    (rows_types types xs m.first m.start m.count first_in (made_parts _ _ _ _ e ∙ ap (λ (k : ℕ). each types (take k (drop m.start xs))) (sym number)))

@@ -35,3 +35,14 @@ loop-at-preserved c =
           (ap (root new) (sym left) ∙ c.in_ok-join.ensures.same ∙ ap (root new) right);
       shared = λ types h e. c.in_ok-join.ensures.shared types (i.shared types h e) (ap types left ∙ e at inside ∙ ap types (sym right));
     }
+
+pub returns-in_err-join-clause-grows : goal.returns-in_err-join-clause-grows
+returns-in_err-join-clause-grows c = grows_then _ _ _ _ _ _ c.loop-at.invariant.grows c.join.ensures.grows
+
+pub returns-in_err-join-clause-shared : goal.returns-in_err-join-clause-shared
+returns-in_err-join-clause-shared c = λ types h e.
+    let xs = c.args.arena.now.parts.items in
+    let at : ℕ = c.loop-at.at in
+    let left : c.index-left.result.now ≡ get_or xs (c.args.first + at) 0 = get_or_read xs _ _ (let f = c.requires.first_in in omega arith) c.index-left.ensures 0 in
+    let right : c.index-right.result.now ≡ get_or xs (c.args.start + at) 0 = get_or_read xs _ _ (let f = c.requires.start_in in omega arith) c.index-right.ensures 0 in
+    c.join.ensures.shared types (c.loop-at.invariant.shared types h e) (ap types left ∙ e at c.loop-at-test.true ∙ ap types (sym right))

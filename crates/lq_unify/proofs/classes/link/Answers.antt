@@ -1,8 +1,9 @@
 use Rattle.std.proofs.Common.{◌≡◌, ℕ, ◌<◌, [], ◌∷◌, ◌++◌, length, get_or, set, sym, ap, subst, ◌∙◌, arith, append-nil, IsSome, Vec, Global}
 use Rattle.lq_unify.specs.declared.arena.Equation.{Equation}
 use Rattle.lq_unify.specs.Nodes.{form_at}
-use Rattle.lq_unify.specs.Classes.{up, IsFound}
+use Rattle.lq_unify.specs.Classes.{up, IsFound, Grows}
 use Rattle.lq_unify.proofs.Roots.{read_up}
+use Rattle.lq_unify.proofs.Same.{same_self, same_grows}
 use Rattle.lq_unify.proofs.Linking.{IsLink, linked_low, linked_high, linked_grows, linked_state, kept_both, kept_high, kept_low, found_here, pairs_later, All_push, moved}
 use Rattle.lq_unify.proofs.classes.link.Goals as goal
 use Rattle.lq_unify.proofs.classes.link.Goals.{then-is_made+then-is_made-2+in_ok-push, then-is_made+else-is_made-2, else-is_made}
@@ -62,3 +63,8 @@ pub returns-clause-same : goal.returns-clause-same
 returns-clause-same c =
     let l : IsLink c.args.parents.now c.args.low c.args.high = record { down = c.requires.state.down; order = c.requires.order; inside = let s = c.requires.state.parents_length in omega arith; low_root = c.requires.low_root; high_root = c.requires.high_root } in
     linked_low _ _ _ l ∙ sym (linked_high _ _ _ l)
+
+pub returns-in_err-push-clause-grows : goal.returns-in_err-push-clause-grows
+returns-in_err-push-clause-grows c =
+    let ps = c.args.parents.now in
+    subst (Grows ps ps c.args.found.now.items) (sym c.in_err-push.ensures.items) (same_grows ps ps c.args.found.now.items c.requires.state.down (same_self ps c.requires.state.down))

@@ -41,3 +41,9 @@ pairs-preserved c =
 
 pub returns-clause-closed : goal.returns-clause-closed
 returns-clause-closed c = λ t. let past : length c.pairs.found.items ≤ c.pairs.at = search rules in subst (AreFollowed (form_at c.args.arena.now) c.pairs.parents) (take_all c.pairs.at c.pairs.found.items past) c.pairs.invariant.followed
+
+pub returns-in_err-join_parts-clause-grows : goal.returns-in_err-join_parts-clause-grows
+returns-in_err-join_parts-clause-grows c = grows_then _ _ _ _ _ _ c.pairs.invariant.grows c.join_parts.ensures.grows
+
+pub returns-in_err-join_parts-clause-shared : goal.returns-in_err-join_parts-clause-shared
+returns-in_err-join_parts-clause-shared c = λ types f h. c.join_parts.ensures.shared types f (c.pairs.invariant.shared types f h)

@@ -19,4 +19,4 @@ pub returns-in_ok-fill-clause-filled : goal.returns-in_ok-fill-clause-filled
 returns-in_ok-fill-clause-filled c =
     subst (HasFilled c.args.arena.now c.fill.new.self c.args.node)
     (seated_read c.args.arena.now c.args.base c.args.parents.now c.args.copies.now c.args.shape c.index.result.now c.in-Made.head c.in-Made.first c.in-Made.count c.deref.result.now c.deref-in-Made.result.now
-    c.requires.shape c.index.ensures c.in-Made.is c.deref.ensures.value (c.deref-in-Made.ensures.value ∙ c.in_ok-parts.ensures.seats)) c.in_ok-fill.ensures
+    c.requires.shape c.index.ensures c.in-Made.is c.deref.ensures.value (c.deref-in-Made.ensures.value ∙ c.in_ok-parts.ensures.seats)) c.in_ok-fill.ensures.filled

@@ -6,6 +6,7 @@ use Rattle.lq_unify.specs.Classes.{root, AreFollowed, IsKnown}
 use Rattle.lq_unify.proofs.Same.{same_self, same_grows}
 use Rattle.lq_unify.proofs.Rows.{grows_then, followed_later}
 use Rattle.lq_unify.proofs.Merging.{one_taken, met_later, merged_known, merged_clash, if_ok}
+use Rattle.lq_unify.proofs.Standing.{between}
 use Rattle.lq_unify.proofs.merge.merge.Goals as goal
 
 abbrev none : Equation
@@ -48,12 +49,25 @@ returns-clause-known c =
     let past : length c.args.equations.now ≤ c.loop-equation.equation-index = c.loop-equation-test.false in
     let met = subst (All (λ e. root c.loop-equation.parents e.left ≡ root c.loop-equation.parents e.right)) (take_all c.loop-equation.equation-index c.args.equations.now past) i.met in
     if_ok c.settle.result {K = λ b. b ≡ true → (before : List Equation) → IsKnown (form_at c.args.arena.now) (length c.args.arena.now.nodes.items) c.args.parents.now c.args.shapes.now c.args.found.now.items before → IsKnown (form_at c.args.arena.now) (length c.args.arena.now.nodes.items) c.settle.new.parents c.settle.new.shapes c.settle.new.found.items (before ++ c.args.equations.now)}
-    c.settle.ensures.state c.settle.ensures.grows c.settle.ensures.shared c.settle.ensures.closed
-    (λ b s g h closed t before known. merged_known _ _ _ _ _ _ _ _ _ _ before c.args.equations.now known i.grows met i.shared s g (closed t) h)
+    c.settle.ensures.closed
+    (λ b closed t before known. merged_known _ _ _ _ _ _ _ _ _ _ before c.args.equations.now known i.grows met i.shared c.settle.ensures.state c.settle.ensures.grows (closed t) c.settle.ensures.shared)
 
 pub returns-clause-clash : goal.returns-clause-clash
 returns-clause-clash c =
     let i = c.loop-equation.invariant in
     if_ok c.settle.result {K = λ b. b ≡ false → (before : List Equation) → IsKnown (form_at c.args.arena.now) (length c.args.arena.now.nodes.items) c.args.parents.now c.args.shapes.now c.args.found.now.items before → HasNoSolution (form_at c.args.arena.now) (before ++ c.args.equations.now)}
-    c.settle.ensures.state c.settle.ensures.grows c.settle.ensures.shared c.settle.ensures.clash
-    (λ b s g h clash t before known. merged_clash _ _ _ _ _ _ before c.args.equations.now known i.shared (clash t))
+    c.settle.ensures.clash
+    (λ b clash t before known. merged_clash _ _ _ _ _ _ before c.args.equations.now known i.shared (clash t))
+
+pub returns-in_err-join-clause-stands : goal.returns-in_err-join-clause-stands
+returns-in_err-join-clause-stands c = λ before known.
+    let i = c.loop-equation.invariant in
+    let g = c.join.ensures.grows in
+    between _ _ _ _ _ _ _ _ before c.args.equations.now known c.join.ensures.state (grows_then _ _ _ _ _ _ i.grows g)
+    (λ types f h m. c.join.ensures.shared types (i.shared types h m) (m c.loop-equation.equation-index none c.loop-equation-test.true))
+
+pub returns-clause-stands : goal.returns-clause-stands
+returns-clause-stands c = λ before known.
+    let i = c.loop-equation.invariant in
+    between _ _ _ _ _ _ _ _ before c.args.equations.now known c.settle.ensures.state (grows_then _ _ _ _ _ _ i.grows c.settle.ensures.grows)
+    (λ types f h m. c.settle.ensures.shared types f (i.shared types h m))

@@ -15,7 +15,7 @@ returns-clause-added c =
       longer = a.grows.longer;
       room = front_short c.args.self.system.equations.items c.in_ok-system.system.equations.items a.more a.grows.equations_are;
       front = front_is c.args.self.system.equations.items c.in_ok-system.system.equations.items a.more a.grows.equations_are;
-      knows = c.in_ok-grow.ensures c.args.self.system.arena c.args.self.system.equations.items (longer_arena c.args.self.system c.in_ok-system.system a.more a.grows) c.requires.kept.knows;
+      knows = c.in_ok-grow.ensures.knows c.args.self.system.arena c.args.self.system.equations.items (longer_arena c.args.self.system c.in_ok-system.system a.more a.grows) c.requires.kept.knows;
       clear = c.requires.kept.clear;
       told = told_later c.args.nodes c.args.self.system c.args.self.definitions.plain.items c.args.self.opened.told c.args.self.opened.places.items c.requires.kept.told c.in_ok-system.system
           (rule_local s.0 c.args.nodes (visit_view Binder (λ b. b.0) c.args.visit) c.args.self.system c.in_ok-system.system c.requires.kept.system a).keeps_solved;

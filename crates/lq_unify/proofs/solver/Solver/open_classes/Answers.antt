@@ -1,4 +1,4 @@
-use Rattle.std.proofs.Common.{◌≡◌, ◌<◌, ℕ, [], length, sym, ap, subst, ◌∙◌, rules}
+use Rattle.std.proofs.Common.{◌≡◌, ◌<◌, ℕ, [], length, refl, sym, ap, subst, ◌∙◌, rules}
 use Rattle.std.specs.Vec.{with_items}
 use Rattle.std.proofs.lemmas.List.{with_items_is}
 use Rattle.lq_unify.specs.Nodes.{form_at}
@@ -7,6 +7,7 @@ use Rattle.lq_unify.specs.Reaching.{IsReached}
 use Rattle.lq_unify.specs.Opens.{AreOpenOf, AreOpens}
 use Rattle.lq_unify.proofs.Beginning.{same_known}
 use Rattle.lq_unify.proofs.Opening.{opens, opens_in}
+use Rattle.lq_unify.proofs.Standing.{same_keeps}
 use Rattle.lq_unify.proofs.solver.Solver.open_classes.Goals as goal
 
 pub returns-clause-open : goal.returns-clause-open
@@ -41,3 +42,18 @@ returns-clause-inside c =
     let forms = form_at c.args.arena.now in
     let found = subst (λ l. AreOpenOf forms l c.in_ok-classes.classes.items c.in_ok-all.all.items) c.deref-2.ensures.value (subst (λ l. AreOpenOf forms c.deref-2.result.now l c.in_ok-all.all.items) c.deref-3.ensures.value c.in_ok-all.ensures) in
     opens_in forms (length c.args.arena.now.nodes.items) c.args.self.now.shapes.items c.in_ok-classes.classes.items c.in_ok-all.all.items found c.in_ok-classes.ensures.reached.listed.inside
+
+pub returns-in_err-classes-clause-stands : goal.returns-in_err-classes-clause-stands
+returns-in_err-classes-clause-stands c =
+    let p : (with_items c.args.self.now.parents c.reach.new.parents).items ≡ c.reach.new.parents = with_items_is c.args.self.now.parents c.reach.new.parents (search rules) in
+    same_keeps c.args.self.now _ (subst (IsSame c.args.self.now.parents.items) (sym p) (subst (λ l. IsSame l c.reach.new.parents) c.deref_mut.ensures.value c.reach.ensures.classes)) refl refl
+
+pub returns-in_err-all-clause-stands : goal.returns-in_err-all-clause-stands
+returns-in_err-all-clause-stands c =
+    let p : (with_items c.args.self.now.parents c.reach.new.parents).items ≡ c.reach.new.parents = with_items_is c.args.self.now.parents c.reach.new.parents (search rules) in
+    same_keeps c.args.self.now _ (subst (IsSame c.args.self.now.parents.items) (sym p) (subst (λ l. IsSame l c.reach.new.parents) c.deref_mut.ensures.value c.reach.ensures.classes)) refl refl
+
+pub returns-clause-stands : goal.returns-clause-stands
+returns-clause-stands c =
+    let p : (with_items c.args.self.now.parents c.reach.new.parents).items ≡ c.reach.new.parents = with_items_is c.args.self.now.parents c.reach.new.parents (search rules) in
+    same_keeps c.args.self.now _ (subst (IsSame c.args.self.now.parents.items) (sym p) (subst (λ l. IsSame l c.reach.new.parents) c.deref_mut.ensures.value c.reach.ensures.classes)) refl refl

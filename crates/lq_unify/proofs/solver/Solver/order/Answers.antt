@@ -17,6 +17,12 @@ returns-clause-knows c = λ equations k.
     known_same c.args.arena.now equations c.args.self.now _
     (subst (IsSame c.args.self.now.parents.items) (sym p) (subst (λ l. IsSame l c.flatten.new.parents) c.deref_mut.ensures.value c.flatten.ensures.classes)) refl refl refl k
 
+pub returns-in_err-found-clause-knows : goal.returns-in_err-found-clause-knows
+returns-in_err-found-clause-knows c = λ equations k.
+    let p : (with_items c.args.self.now.parents c.flatten.new.parents).items ≡ c.flatten.new.parents = with_items_is c.args.self.now.parents c.flatten.new.parents (search rules) in
+    known_same c.args.arena.now equations c.args.self.now _
+    (subst (IsSame c.args.self.now.parents.items) (sym p) (subst (λ l. IsSame l c.flatten.new.parents) c.deref_mut.ensures.value c.flatten.ensures.classes)) refl refl refl k
+
 pub returns-clause-none : goal.returns-clause-none
 returns-clause-none c =
     let forms = form_at c.args.arena.now in
