@@ -1,4 +1,5 @@
 -- Replacements, parts and scopes: what the code's stand for.
+pub mod Extending
 pub mod Numbered
 pub mod Composing
 pub mod Scopes

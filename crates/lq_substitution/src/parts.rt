@@ -2,6 +2,7 @@
 ghost use Rattle.std.specs.Prelude.{◌≡◌, [], ◌∷◌, ◌++◌, length, slice_get, IfOk, OnOk, OnErr};
 ghost use Rattle.std.specs.Option.{option_copied};
 ghost use Rattle.lq_parts.specs.Part.{is_truth, part_by, parts_by};
+ghost use Rattle.lq_substitution.specs.Extending.{HasFirst};
 ghost use Rattle.lq_substitution.specs.Views.{part_view, part_items, parts_view, scopes_view, subst_view};
 
 use crate::composing::{after, restricted};
@@ -110,9 +111,10 @@ impl Parts {
         Ok(())
     }
 
-    /// Adds equal parts behind the others. Where memory is refused, some of them may stand there.
+    /// Adds equal parts behind the others. Where memory is refused, the first ones of them may stand there.
     pub fn extend(&mut self, alloc: Global, parts: &Parts) -> Result<(), AllocError>
-        ensures { OnOk result (parts_view self.new ≡ parts_view self.old ++ parts_view parts.now) }
+        ensures ok { OnOk result (parts_view self.new ≡ parts_view self.old ++ parts_view parts.now) }
+        ensures err { OnErr result (HasFirst (parts_view self.old) (parts_view self.new) (parts_view parts.now)) }
     {
         self.items.reserve_exact(parts.items.len())?;
         for part in &parts.items {
