@@ -20,7 +20,7 @@ same_scales (q ∷ qs) = (refl, refl, same_scales qs)
 one_some : pos 1 ≢ pos 0
 one_some e = absurd (let k : ⊥ = cc in k)
 
-own_multiple : (p : Parts) → AreMultiples p p
+pub own_multiple : (p : Parts) → AreMultiples p p
 own_multiple p = record { left = pos 1; right = pos 1; left_apart = one_some; right_apart = one_some; same = same_scales p }
 
 none_multiple : (parts form : Parts) → parts ≡ [] → IsNormal form → ¬ (AreMultiples parts form)

@@ -38,7 +38,7 @@ at_side limits j x Upper Lower l m u p e q = subst (λ y. Within Lower y (bound_
 pub at_keeps : (limits : Limits) (j : ℕ) (x : ℚ) → IsUncrossed limits j → IsAtLimit limits j x → (side : Side) → Keeps side x (limit_at limits side j)
 at_keeps limits j x u at side = keeps_by side x (limit_at limits side j) (λ m q. at_side limits j x at.side side at.limit m u at.is at.at q)
 
-keeps_limit : (side : Side) (x : ℚ) (o : Option Limit) (l : Limit) → Keeps side x o → o ≡ Some l → Within side x (bound_value l)
+pub keeps_limit : (side : Side) (x : ℚ) (o : Option Limit) (l : Limit) → Keeps side x o → o ≡ Some l → Within side x (bound_value l)
 keeps_limit side x o l h e = let k = subst (λ p. Keeps side x p) e h in k
 
 pub uncrossed_by : (limits : Limits) (k : ℕ) → ((upper : Limit) → limit_at limits Upper k ≡ Some upper → Keeps Lower (bound_value upper) (limit_at limits Lower k)) → IsUncrossed limits k

@@ -14,3 +14,10 @@ pub mod Explaining
 pub mod Readings
 pub mod Tables
 pub mod Resting
+pub mod Counting
+pub mod Bounding
+pub mod Configuring
+pub mod Naming
+pub mod Turning
+pub mod Chaining
+pub mod Determined

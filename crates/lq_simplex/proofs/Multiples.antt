@@ -10,7 +10,7 @@ use Rattle.lq_math.specs.Coprime.{Coprime, Coprime_swap, Coprime-from_gcd, eucli
 use Rattle.lq_math.specs.Lcm.{gcd_exists}
 use Rattle.lq_math.specs.IntOrder.{mul_cancel}
 use Rattle.lq_math.specs.IntRing.{at, nat, ◌⊗◌, ring, ring_out}
-use Rattle.lq_linear.specs.Forms.{Parts, DividesAll, FirstAbove, IsNormal, Scales, AreMultiples}
+use Rattle.lq_linear.specs.Forms.{Parts, DividesAll, FirstAbove, IsNormal, times, IsMultiple, Scales, AreMultiples}
 use Rattle.lq_simplex.specs.RowParts.{turned_by, IsTurned, IsDivided}
 
 -- ---- whole numbers
@@ -156,3 +156,77 @@ form_multiple t d parts made form some a h = record {
   right_apart = some_apart d some;
   same = form_scales t (pos d) parts made form a h;
 }
+
+-- ---- multiples by one whole number
+scaled_by : (a b k : ℤ) (parts form : Parts) → a ≢ pos 0 → b ≡ a *ℤ k → Scales a b parts form → parts ≡ times k form
+scaled_by a b k [] [] n e s = refl
+scaled_by a b k [] (q ∷ form) n e s = absurd s
+scaled_by a b k (p ∷ parts) [] n e s = absurd s
+scaled_by a b k (p ∷ parts) (q ∷ form) n e s =
+    let one : p.1 ≡ k *ℤ q.1 =
+    cancel p.1 (k *ℤ q.1) a n
+    (ring (at p.1 ⊗ at a) (at a ⊗ at p.1) (omega arith) ∙ s.1 ∙ ap (λ z. z *ℤ q.1) e ∙ ring (at a ⊗ at k ⊗ at q.1) (at k ⊗ at q.1 ⊗ at a) (omega arith)) in
+    ap₂ (λ (u : ℕ × ℤ) (us : Parts). u ∷ us) (ap₂ (λ (t : ℕ) (z : ℤ). (t, z)) s.0 one) (scaled_by a b k parts form n e s.2)
+
+-- where the size of one number divides that of another, so does the number
+quotient_of : (a b : ℤ) (m : ℕ) → a ≢ pos 0 → b ≢ pos 0 → m * unsigned_abs a ≡ unsigned_abs b → (k : ℤ) × (b ≡ a *ℤ k)
+quotient_of a b zero some apart e = absurd (let h = abs_apart b apart in omega arith)
+quotient_of (pos zero) b (suc m) some apart e = absurd (some refl)
+quotient_of (pos (suc a)) (pos b) (suc m) some apart e = (pos (suc m), ring (nat b) (nat (suc a) ⊗ nat (suc m)) (omega (arith, e)))
+quotient_of (pos (suc a)) (negsuc b) (suc m) some apart e = (negsuc m, ring (at (negsuc b)) (nat (suc a) ⊗ at (negsuc m)) (omega (arith, e)))
+quotient_of (negsuc a) (pos b) (suc m) some apart e = (negsuc m, ring (nat b) (at (negsuc a) ⊗ at (negsuc m)) (omega (arith, e)))
+quotient_of (negsuc a) (negsuc b) (suc m) some apart e = (pos (suc m), ring (at (negsuc b)) (at (negsuc a) ⊗ nat (suc m)) (omega (arith, e)))
+
+factor_apart : (a b k : ℤ) → b ≢ pos 0 → b ≡ a *ℤ k → k ≢ pos 0
+factor_apart a b k n e z = n (e ∙ ap (λ t. a *ℤ t) z ∙ ring (at a ⊗ nat 0) (nat 0) (omega arith))
+
+-- what is a multiple of a form in lowest terms is so by a whole number
+pub whole_multiple : (parts form : Parts) → IsNormal form → AreMultiples parts form → IsMultiple form parts
+whole_multiple parts form normal m =
+    let a = m.left in let b = m.right in
+    let d = gcd_exists (unsigned_abs a) (unsigned_abs b) in
+    let some : 0 < d.0 = pos_of_dvd_of_pos d.1.1 (abs_apart b m.right_apart) in
+    let u : unsigned_abs a / d.0 * d.0 ≡ unsigned_abs a = div-mul_cancel d.0 d.1.0 in
+    let v : unsigned_abs b / d.0 * d.0 ≡ unsigned_abs b = div-mul_cancel d.0 d.1.1 in
+    let apart : Coprime (unsigned_abs a / d.0) (unsigned_abs b / d.0) = Coprime-from_gcd (unsigned_abs a) (unsigned_abs b) d.0 (abs_apart b m.right_apart) d.1 in
+    let x : unsigned_abs a / d.0 ≡ 1 = normal.lowest _ (divides_other (unsigned_abs a / d.0) (unsigned_abs b / d.0) d.0 a b parts form some apart u v m.same) in
+    let whole : d.0 ≡ unsigned_abs a = (let e : 1 * d.0 ≡ unsigned_abs a = subst (λ k. k * d.0 ≡ unsigned_abs a) x u in omega arith) in
+    let q = quotient_of a b (unsigned_abs b / d.0) m.left_apart m.right_apart (ap (λ k. unsigned_abs b / d.0 * k) (sym whole) ∙ v) in
+    record { factor = q.0; some = factor_apart a b q.0 m.right_apart q.1; is = scaled_by a b q.0 parts form m.left_apart q.1 m.same }
+
+times_scales : (k : ℤ) (form : Parts) → Scales (pos 1) k (times k form) form
+times_scales k [] = tt
+times_scales k (q ∷ form) = (refl, ring (nat 1 ⊗ (at k ⊗ at q.1)) (at k ⊗ at q.1) (omega arith), times_scales k form)
+
+one_apart_zero : pos 1 ≢ pos 0
+one_apart_zero e = absurd (let k : ⊥ = cc in k)
+
+pub multiple_both : (parts form : Parts) → IsMultiple form parts → AreMultiples parts form
+multiple_both parts form m = record {
+  left = pos 1;
+  right = m.factor;
+  left_apart = one_apart_zero;
+  right_apart = m.some;
+  same = subst (λ p. Scales (pos 1) m.factor p form) (sym m.is) (times_scales m.factor form);
+}
+
+turned_back : (t : Bool) (n : ℤ) → turned_by t (turned_by t n) ≡ n
+turned_back true n = omega (arith, ints)
+turned_back false n = refl
+
+pub form_times : (t : Bool) (d : ℕ) (parts made form : Parts) → IsTurned t parts made → IsDivided (pos d) made form → parts ≡ times (turned_by t (pos d)) form
+form_times t d parts made form a h =
+    scaled_by (sign_of t) (pos d) (turned_by t (pos d)) parts form (sign_apart t) (sym (turned_back t (pos d)) ∙ sym (sign_times t (turned_by t (pos d)))) (form_scales t (pos d) parts made form a h)
+
+pub times_once : (k m : ℤ) (form : Parts) → FirstAbove false form → times k form ≡ times m form → k ≡ m
+times_once k m [] h e = absurd h
+times_once k m (q ∷ form) h e =
+    let first : k *ℤ q.1 ≡ m *ℤ q.1 = first_same (q.0, k *ℤ q.1) (q.0, m *ℤ q.1) (times k form) (times m form) e in
+    cancel k m q.1 (above_apart q.1 h) first
+  where
+    first_same : (x y : ℕ × ℤ) (xs ys : Parts) → x ∷ xs ≡ y ∷ ys → x.1 ≡ y.1
+    first_same x y xs ys e = let same : x ≡ y = cc in ap (λ (p : ℕ × ℤ). p.1) same
+
+pub times_none : (k : ℤ) (form : Parts) → FirstAbove false form → times k form ≢ []
+times_none k [] h e = absurd h
+times_none k (q ∷ form) h e = absurd (let z : ⊥ = cc in z)

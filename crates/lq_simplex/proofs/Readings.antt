@@ -57,7 +57,7 @@ divided_push by (o ∷ parts) [] p q a e f = absurd a
 divided_push by (o ∷ parts) (m ∷ made) p q a e f = (a.0, a.1, divided_push by parts made p q a.2 e f)
 
 -- ---- their sums, terms and signs
-turned_whole : (t : Bool) (n : ℤ) → whole (turned_by t n) ≡ signed t (whole n)
+pub turned_whole : (t : Bool) (n : ℤ) → whole (turned_by t n) ≡ signed t (whole n)
 turned_whole true n = sym (whole-negation n)
 turned_whole false n = refl
 

@@ -17,9 +17,9 @@ use Rattle.lq_simplex.specs.Systems.{System, form_at, line_at, Meets, IsFree, Ar
 use Rattle.lq_simplex.specs.Standing.{AllRead}
 use Rattle.lq_simplex.specs.Bounds.{Limits, limit_at, bound_value, IsLimit, Breaks}
 use Rattle.lq_simplex.specs.Conflicts.{AllGiven}
-use Rattle.lq_simplex.specs.Configurations.{IsConfiguration, IsGiven, Rests, AllAmong, AllStay, Brings, IsAtLimit, Settles}
-use Rattle.lq_simplex.proofs.Combinations.{eq_or, combine-same, unit_here, unit_elsewhere, own_combination}
-use Rattle.lq_simplex.proofs.Systems.{IsPivot, entry_free, pivot_free_before}
+use Rattle.lq_simplex.specs.Configurations.{IsConfiguration, IsGiven, Rests, AllAmong, AllStay, Brings, Exchanges, IsAtLimit, Settles}
+use Rattle.lq_simplex.proofs.Combinations.{one_apart, eq_or, combine-same, unit_here, unit_elsewhere, own_combination}
+use Rattle.lq_simplex.proofs.Systems.{IsPivot, entry_free, pivot_leaving, pivot_others, pivot_entering, pivot_free_before}
 use Rattle.lq_simplex.proofs.Forms.{form_is_line}
 use Rattle.lq_simplex.proofs.Explaining.{limit_read}
 use Rattle.lq_simplex.proofs.Tables.{reads_on}
@@ -33,9 +33,9 @@ configured s i = record {
   counted = i.counted;
   normal = i.are_forms.normal;
   once = i.are_forms.once;
-  shared = λ row other b c p q m.
-      i.are_forms.once b.variable c.variable p.inside q.inside
-      (multiples_once row.parts other.parts (form_at s.forms b.variable) (form_at s.forms c.variable) (i.are_forms.normal b.variable p.inside) (i.are_forms.normal c.variable q.inside) p.form q.form m);
+  shared = λ row other j k h g p q m.
+      i.are_forms.once j k h g
+      (multiples_once row.parts other.parts (form_at s.forms j) (form_at s.forms k) (i.are_forms.normal j h) (i.are_forms.normal k g) p q m);
   over_free = λ k at e h. entry_free s.forms s.lines k at e i.are_lines h;
   combined = λ v k h. form_is_line s.terms s.forms s.lines v k i.are_forms i.are_lines h;
   chosen = λ y.
@@ -156,17 +156,24 @@ shift_brings s values v bound by f e h j free =
 pub quotient_times : (by way f : ℚ) → ¬ (f ≡ whole (pos 0)) → by ≡ way /ℚ f → by *ℚ f ≡ way
 quotient_times by way f n e = ap (λ t. t *ℚ f) e ∙ /ℚ_is way f n
 
-pub pivot_brings : (s : System) (new : List (List Entry)) (values : List Frac) (b k : ℕ) (f : ℚ) (nil : List Entry) (bound by : ℚ) → AreLines s.forms s.lines → IsPivot s.lines new b k f nil
+pub pivot_exchanges : (s : System) (new : List (List Entry)) (values : List Frac) (b k : ℕ) (f : ℚ) (nil : List Entry) (bound by : ℚ) → AreLines s.forms s.lines → IsPivot s.lines new b k f nil
     → by *ℚ f ≡ bound -ℚ valuation_of s.values b → IsShifted s.lines s.values k by values
-    → Brings s (record { terms = s.terms; forms = s.forms; lines = new; values = values }) b bound
-pivot_brings s new values b k f nil bound by a p e h j free =
-    elim (eq_or j b) [
-      | inl q ↦ inl (
-        q,
-        ap (valuation_of values) q ∙ h.1 b p.inside ∙ ap (λ t. valuation_of s.values b +ℚ t *ℚ by) p.factor
-            ∙ solve (valuation_of s.values b ∷ f ∷ by ∷ []) (var 0 ⊕ var 1 ⊗ var 2) (var 0 ⊕ var 2 ⊗ var 1) refl
-            ∙ ap (λ t. valuation_of s.values b +ℚ t) e ∙ solve (valuation_of s.values b ∷ bound ∷ []) (var 0 ⊕ (var 1 ⊖ var 0)) (var 1) refl,
-      )
-      | inr n ↦ let before = pivot_free_before s.forms s.lines new b k f nil j a p free n in
-          inr (n, (before.0, unmoved s.lines s.values values k by j h before.0 (λ q. before.1 (sym q))))
+    → Exchanges s (record { terms = s.terms; forms = s.forms; lines = new; values = values }) b k bound
+pivot_exchanges s new values b k f nil bound by a p e h = record {
+  left = pivot_leaving s.lines new b k f nil p;
+  takes = h.1 b p.inside ∙ ap (λ t. valuation_of s.values b +ℚ t *ℚ by) p.factor
+      ∙ solve (valuation_of s.values b ∷ f ∷ by ∷ []) (var 0 ⊕ var 1 ⊗ var 2) (var 0 ⊕ var 2 ⊗ var 1) refl
+      ∙ ap (λ t. valuation_of s.values b +ℚ t) e ∙ solve (valuation_of s.values b ∷ bound ∷ []) (var 0 ⊕ (var 1 ⊖ var 0)) (var 1) refl;
+  entered = λ free. one_apart (sym (pivot_entering s.lines new b k f nil k p p.free.inside) ∙ free.own k ∙ unit_here k);
+  others = λ j m n. ((λ free. (pivot_free_before s.forms s.lines new b k f nil j a p free m).0), (λ free. pivot_others s.lines new b k f nil j p free n));
+  stays = λ j free n. unmoved s.lines s.values values k by j h free (λ q. n (sym q));
+}
+
+pub exchange_brings : (a b : System) (leaving entering : ℕ) (x : ℚ) → Exchanges a b leaving entering x → Brings a b leaving x
+exchange_brings a b leaving entering x e j free =
+    elim (eq_or j leaving) [
+      | inl q ↦ inl (q, ap (valuation_of b.values) q ∙ e.takes)
+      | inr m ↦
+          let n : j ≢ entering = (λ q. e.entered (subst (IsFree b.lines) q free)) in
+          let before = (e.others j m n).0 free in inr (m, (before, e.stays j before n))
     ]

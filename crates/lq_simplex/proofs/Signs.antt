@@ -17,11 +17,11 @@ use Rattle.lq_simplex.specs.Conflicts.{toward, negates}
 use Rattle.lq_math.specs.RationalQuotient.{◌/ℚ◌, /ℚ_is}
 
 -- the two signs of a factor
-data Sign (side : Side) (f : ℚ) : Type 0 where
+pub data Sign (side : Side) (f : ℚ) : Type 0 where
   below : f ≤ℚ whole (pos 0) → blocking_of side f ≡ side → Sign side f
   above : whole (pos 0) ≤ℚ f → blocking_of side f ≡ other side → Sign side f
 
-sign : (side : Side) (f : ℚ) → Sign side f
+pub sign : (side : Side) (f : ℚ) → Sign side f
 sign side f = by (is_at_most f (whole (pos 0))) refl
   where
     by : (b : Bool) → is_at_most f (whole (pos 0)) ≡ b → Sign side f

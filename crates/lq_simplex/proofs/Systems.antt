@@ -83,7 +83,7 @@ pivot_back forms lines new b k f zero x a p m r h =
     ∙ solve (combine x (line_at lines r) ∷ factor_of (line_at lines r) k ∷ []) (var 0 ⊕ var 1 ⊗ con (pos 0)) (var 0) refl
 
 -- the leaving variable is free
-pivot_leaving : (lines new : List (List Entry)) (b k : ℕ) (f : ℚ) (zero : List Entry) → IsPivot lines new b k f zero → IsFree new b
+pub pivot_leaving : (lines new : List (List Entry)) (b k : ℕ) (f : ℚ) (zero : List Entry) → IsPivot lines new b k f zero → IsFree new b
 pivot_leaving lines new b k f zero p = record {
   inside = let e = p.same in let h = p.inside in omega arith;
   own = λ i.
@@ -95,7 +95,7 @@ pivot_leaving lines new b k f zero p = record {
 }
 
 -- the other free ones stay free
-pivot_others : (lines new : List (List Entry)) (b k : ℕ) (f : ℚ) (zero : List Entry) (j : ℕ) → IsPivot lines new b k f zero → IsFree lines j → j ≢ k → IsFree new j
+pub pivot_others : (lines new : List (List Entry)) (b k : ℕ) (f : ℚ) (zero : List Entry) (j : ℕ) → IsPivot lines new b k f zero → IsFree lines j → j ≢ k → IsFree new j
 pivot_others lines new b k f zero j p free n = record {
   inside = let e = p.same in let h = free.inside in omega arith;
   own = λ i.
@@ -105,7 +105,7 @@ pivot_others lines new b k f zero j p free n = record {
 }
 
 -- the entering one stands in no line
-pivot_entering : (lines new : List (List Entry)) (b k : ℕ) (f : ℚ) (zero : List Entry) (r : ℕ) → IsPivot lines new b k f zero → r < length lines → factor_of (line_at new r) k ≡ whole (pos 0)
+pub pivot_entering : (lines new : List (List Entry)) (b k : ℕ) (f : ℚ) (zero : List Entry) (r : ℕ) → IsPivot lines new b k f zero → r < length lines → factor_of (line_at new r) k ≡ whole (pos 0)
 pivot_entering lines new b k f zero r p h =
     let minus : factor_of zero k ≡ neg_ℚ (whole (pos 1)) =
     *ℚ_cancel (factor_of zero k) f (neg_ℚ (whole (pos 1))) p.some

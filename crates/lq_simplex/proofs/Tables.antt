@@ -25,9 +25,9 @@ use Rattle.lq_linear.specs.declared.bound.Side.TheVariants.{Lower, Upper}
 use Rattle.lq_simplex.specs.declared.limits.Limit.{Limit}
 use Rattle.lq_simplex.specs.declared.limits.Broken.{Broken}
 use Rattle.lq_simplex.specs.Lines.{combine, factor_of, VariablesBelow}
-use Rattle.lq_linear.specs.Forms.{Parts, AreMultiples}
+use Rattle.lq_linear.specs.Forms.{Parts, times, AreMultiples}
 use Rattle.lq_simplex.specs.Systems.{System, form_at, line_at, Fits, IsSystem, GoesOn}
-use Rattle.lq_simplex.specs.Standing.{standing_of, multipliers_of, signed, scale_of, ReadsAs, ReadsBy, Reads, AllRead, HasNoTag, TagsApart, BareHolds, AllBare, BoundBelow}
+use Rattle.lq_simplex.specs.Standing.{standing_of, multipliers_of, signed, scale_of, multiple_of, ReadsAs, ReadsBy, Reads, AllRead, HasNoTag, TagsApart, BareHolds, AllBare, BoundBelow}
 use Rattle.lq_simplex.specs.Bounds.{other, Within, IsOn, Limits, interval_at, limit_at, bound_value, Covers, Keeps, AreTightest, Breaks, blocking_of, AllBlocked}
 use Rattle.lq_simplex.specs.Conflicts.{AllGiven, AllKeep, IsKept}
 use Rattle.lq_simplex.proofs.Combinations.{entry_is, unit_here, one_apart}
@@ -81,6 +81,7 @@ reads_on old new row None g r = r
 reads_on old new row (Some b) g r = record {
   inside = (g b.variable r.inside).0;
   form = subst (AreMultiples row.parts) (sym (g b.variable r.inside).1) r.form;
+  scaled = r.scaled ∙ ap (times (multiple_of b)) (sym (g b.variable r.inside).1);
   divides = r.divides;
   level = λ v. r.level v ∙ ap (λ f. scale_of b *ℚ (sum_at v f -ℚ value_of b.value)) (sym (g b.variable r.inside).1);
 }
@@ -115,7 +116,7 @@ bound_by forms row None r = tt
 bound_by forms row (Some b) r = r.inside
 
 -- ---- values that keep to the bounds solve the rows
-keeps_within : (side : Side) (v b : ℚ) (o : Option Limit) → Keeps side v o → Covers side o b → Within side v b
+pub keeps_within : (side : Side) (v b : ℚ) (o : Option Limit) → Keeps side v o → Covers side o b → Within side v b
 keeps_within side v b None k c = absurd c
 keeps_within side v b (Some l) k c = within_trans side v (bound_value l) b k c
 

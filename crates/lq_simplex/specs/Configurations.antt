@@ -1,5 +1,5 @@
 -- Which variables are free, and what each of these rests on.
-use Rattle.std.specs.Prelude.{◌≡◌, ◌≢◌, ℕ, pos, ◌<◌, ◌≤◌, ◌⊎◌, List, [], ◌∷◌, Some, All, Contains, length, slice_get}
+use Rattle.std.specs.Prelude.{◌≡◌, ◌≢◌, ◌↔◌, ℕ, pos, ◌<◌, ◌≤◌, ◌⊎◌, List, [], ◌∷◌, Some, All, Contains, length, slice_get}
 use Rattle.lq_math.specs.Rational.{ℚ, whole}
 use Rattle.lq_num.specs.Value.{value_of}
 use Rattle.lq_linear.specs.Row.{Row, Valuation}
@@ -28,7 +28,8 @@ pub record IsConfiguration (s : System) : Type 0 where
   pub named : (t : ℕ) → t < s.terms → form_at s.forms t ≡ (t, pos 1) ∷ []
   pub normal : (k : ℕ) → k < length s.forms → IsNormal (form_at s.forms k)
   pub once : (j k : ℕ) → j < length s.forms → k < length s.forms → form_at s.forms j ≡ form_at s.forms k → j ≡ k
-  pub shared : (row other : Row) (b c : Bound) → ReadsAs s.forms row b → ReadsAs s.forms other c → AreMultiples row.parts other.parts → b.variable ≡ c.variable
+  pub shared : (row other : Row) (j k : ℕ) → j < length s.forms → k < length s.forms → AreMultiples row.parts (form_at s.forms j)
+      → AreMultiples other.parts (form_at s.forms k) → AreMultiples row.parts other.parts → j ≡ k
   pub counted : AreCounted s.terms s.lines
   pub over_free : (k at : ℕ) (e : Entry) → slice_get (line_at s.lines k) at ≡ Some e → IsFree s.lines e.variable
   pub combined : (point : Valuation) (k : ℕ) → k < length s.forms → form_values s.forms point k ≡ combine (form_values s.forms point) (line_at s.lines k)
@@ -67,6 +68,15 @@ AllStay old new = (j : ℕ) → IsFree new.lines j → Stays old new j
 -- what is free now is the variable, with this value, or another that was free before, with the same value
 abbrev pub Brings : System → System → ℕ → ℚ → Type 0
 Brings old new variable x = (j : ℕ) → IsFree new.lines j → ((j ≡ variable) × (valuation_of new.values j ≡ x)) ⊎ ((j ≢ variable) × Stays old new j)
+
+-- the leaving variable is free now, with this value, and the entering one isn't; each other one is free exactly where it was, with the
+-- value that it had
+pub record Exchanges (old new : System) (leaving entering : ℕ) (x : ℚ) : Type 0 where
+  pub left : IsFree new.lines leaving
+  pub takes : valuation_of new.values leaving ≡ x
+  pub entered : ¬ (IsFree new.lines entering)
+  pub others : (j : ℕ) → j ≢ leaving → j ≢ entering → IsFree new.lines j ↔ IsFree old.lines j
+  pub stays : (j : ℕ) → IsFree old.lines j → j ≢ entering → valuation_of new.values j ≡ valuation_of old.values j
 
 -- the value is a bound of the variable
 pub record IsAtLimit (limits : Limits) (variable : ℕ) (x : ℚ) : Type 0 where

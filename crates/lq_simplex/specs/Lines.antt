@@ -60,8 +60,8 @@ pub data IsPut (old : List Entry) (variable : ℕ) (factor : Frac) (new : List E
   added : ¬ (value_of factor ≡ whole (pos 0)) → new ≡ old ++ (record { variable = variable; factor = factor }) ∷ [] → IsPut old variable factor new
   left_out : value_of factor ≡ whole (pos 0) → new ≡ old → IsPut old variable factor new
 
--- an operation on two fractions that has no result within 128 bits, a spent limit, or want of memory
+-- an operation on two fractions that has no result within 128 bits, or want of memory
 abbrev pub IsTableauError : TableauError → Type 0
 IsTableauError (Past e) = IsPast e
-IsTableauError Spent = Unit {0}
+IsTableauError Spent = ⊥
 IsTableauError Memory = Unit {0}

@@ -1,5 +1,5 @@
 -- The rows that stand, and what each says of its variable.
-use Rattle.std.specs.Prelude.{◌≡◌, ◌≢◌, ℕ, pos, ◌<◌, Bool, true, false, List, [], ◌∷◌, Option, Some, None, length, MatchBool}
+use Rattle.std.specs.Prelude.{◌≡◌, ◌≢◌, ℕ, ℤ, pos, ◌<◌, Bool, true, false, List, [], ◌∷◌, Option, Some, None, length, MatchBool}
 use Rattle.lq_math.specs.RationalOrder.{◌≤ℚ◌}
 use Rattle.std.specs.Int.Signed.{◌<ℤ◌}
 use Rattle.lq_math.specs.Rational.{ℚ, whole, ◌-ℚ◌, ◌*ℚ◌, neg_ℚ}
@@ -9,7 +9,8 @@ use Rattle.lq_linear.specs.Row.{Row, Valuation, level, sum_at}
 use Rattle.lq_linear.specs.Contradiction.{Tagged}
 use Rattle.lq_simplex.specs.declared.row.Bound.{Bound}
 use Rattle.lq_simplex.specs.declared.row.Standing.{Standing}
-use Rattle.lq_linear.specs.Forms.{Parts, AreMultiples}
+use Rattle.lq_linear.specs.Forms.{Parts, times, AreMultiples}
+use Rattle.lq_simplex.specs.RowParts.{turned_by}
 use Rattle.lq_simplex.specs.Systems.{form_at}
 
 abbrev pub standing_of : List Standing → Tagged
@@ -31,10 +32,15 @@ signed false x = x
 abbrev pub scale_of : Bound → ℚ
 scale_of b = signed b.turned (whole b.divisor)
 
+-- by which the form of its variable is multiplied in the row
+abbrev pub multiple_of : Bound → ℤ
+multiple_of b = turned_by b.turned b.divisor
+
 -- the row is a multiple of the variable's form, and is read "so many times the variable minus the bound"
 pub record ReadsAs (forms : List Parts) (row : Row) (b : Bound) : Type 0 where
   pub inside : b.variable < length forms
   pub form : AreMultiples row.parts (form_at forms b.variable)
+  pub scaled : row.parts ≡ times (multiple_of b) (form_at forms b.variable)
   pub divides : pos 0 <ℤ b.divisor
   pub level : (v : Valuation) → level v row ≡ scale_of b *ℚ (sum_at v (form_at forms b.variable) -ℚ value_of b.value)
 

@@ -12,7 +12,14 @@ use Rattle.lq_linear.specs.declared.engine.Answer.TheVariants.{Solved, Contradic
 use Rattle.lq_linear.specs.declared.engine.LinearStop.{LinearStop}
 use Rattle.lq_linear.specs.declared.engine.LinearStop.TheVariants.{Number, Pivots, Memory}
 use Rattle.lq_simplex.specs.declared.row.Standing.{Standing}
+use Rattle.lq_simplex.specs.declared.error.TableauError.{TableauError}
+use Rattle.lq_simplex.specs.declared.error.TableauError.TheVariants as failed
+use Rattle.lq_simplex.specs.declared.error.TableauError.TheVariants.{Past, Spent}
 use Rattle.lq_linear.specs.Difference.{TermsBelow}
+use Rattle.lq_pivots.specs.Rows.{Variables}
+use Rattle.lq_pivots.specs.Configurations.{Configuration}
+use Rattle.lq_pivots.specs.Pivots.{IsChain}
+use Rattle.lq_pivots.specs.Variables.{AreVariables}
 use Rattle.lq_simplex.specs.Systems.{System}
 use Rattle.lq_simplex.specs.Standing.{standing_of, multipliers_of, AllRead, TagsApart}
 use Rattle.lq_simplex.specs.Bounds.{Limits}
@@ -50,16 +57,30 @@ abbrev pub TakesRow : List ℕ → Tagged → Row → Type 0
 TakesRow [] rows row = ⊥
 TakesRow (terms ∷ more) rows row = TermsBelow terms row.parts
 
--- an operation on two fractions that has no result within 128 bits, the limit on pivots, or want of memory
-abbrev pub StopsAt : ℕ → LinearStop → Type 0
-StopsAt limit (Number e) = IsPast e
-StopsAt limit (Pivots count) = count ≡ limit
-StopsAt limit Memory = Unit {0}
+-- the rows without their tags
+abbrev pub untagged : Tagged → List Row
+untagged [] = []
+untagged (r ∷ rows) = r.1 ∷ untagged rows
+
+-- a chain of so many pivots leads from configuration to configuration: of the variables of the rows ever handed over, under the rows that
+-- stand
+pub record IsSpent (terms limit : ℕ) (standing : Tagged) (ever : List Row) : Type 0 where
+  pub variables : Variables
+  pub over : variables.terms ≡ terms
+  pub listed : AreVariables ever variables
+  pub chain : ℕ → Configuration
+  pub pivots : IsChain variables ever (untagged standing) limit chain
+
+-- an operation on two fractions that has no result within 128 bits, the limit on pivots where a chain spends it, or want of memory
+abbrev pub StopsAt : ℕ → ℕ → Tagged → List Row → LinearStop → Type 0
+StopsAt terms limit standing ever (Number e) = IsPast e
+StopsAt terms limit standing ever (Pivots count) = (count ≡ limit) × IsSpent terms limit standing ever
+StopsAt terms limit standing ever Memory = Unit {0}
 
 abbrev pub MayStop : List ℕ → Tagged → List Row → LinearStop → Type 0
 MayStop [] rows ever stop = ⊥
 MayStop (terms ∷ []) rows ever stop = ⊥
-MayStop (terms ∷ limit ∷ more) rows ever stop = StopsAt limit stop
+MayStop (terms ∷ limit ∷ more) rows ever stop = StopsAt terms limit rows ever stop
 
 -- the forms past the terms are those of these rows, by their first appearance; the rows that stand are among these, and each free
 -- variable has the value 0 or a bound that one of these gives it
@@ -67,6 +88,17 @@ pub record Handed (t : Table) (rows : List Row) : Type 0 where
   pub forms : AreFormsOf rows t.system.terms t.system.forms
   pub among : AllAmong rows t.rows
   pub rests : Rests rows t.system
+
+-- why a check finds no verdict, with these rows standing and these ever handed over: where the limit is spent, by a chain of pivots
+abbrev pub FailsBy : ℕ → ℕ → Tagged → List Row → TableauError → Type 0
+FailsBy terms limit standing ever (Past e) = IsPast e
+FailsBy terms limit standing ever Spent = IsSpent terms limit standing ever
+FailsBy terms limit standing ever failed.Memory = Unit {0}
+
+-- and so whatever rows were ever handed over
+abbrev pub HasCause : System → List Standing → ℕ → TableauError → Type 0
+HasCause s rows limit error =
+    (ever : List Row) → AreFormsOf ever s.terms s.forms → AllAmong ever rows → Rests ever s → FailsBy s.terms limit (standing_of rows) ever error
 
 pub record IsTable (t : Table) : Type 0 where
   pub read : AllRead t.system.forms t.rows

@@ -10,7 +10,7 @@ ghost use Rattle.lq_linear.specs.Forms.{IsNormal};
 ghost use Rattle.lq_linear.specs.Difference.{TermsBelow};
 ghost use Rattle.lq_simplex.specs.Systems.{form_at, line_at, change_at, after, IsChange, IsAdded, IsShifted, IsFree, IsSystem, GoesOn};
 ghost use Rattle.lq_simplex.specs.Appearing.{IsExtended};
-ghost use Rattle.lq_simplex.specs.Configurations.{AllStay, Brings};
+ghost use Rattle.lq_simplex.specs.Configurations.{AllStay, Brings, Exchanges};
 
 use crate::error::TableauError;
 use crate::line::{Entry, Line};
@@ -291,7 +291,8 @@ impl Basis {
 
     /// How many variables there are.
     pub(crate) fn len(&self) -> usize
-        ensures { result ≡ length self.now.forms }
+        ensures count { result ≡ length self.now.forms }
+        ensures system { IsSystem self.now }
     {
         self.forms.len()
     }
@@ -376,6 +377,7 @@ impl Basis {
     ) -> Result<(), TableauError>
         requires { IsFree self.old.lines variable }
         ensures brought { OnOk result (Brings self.old self.new variable (value_of bound.now)) }
+        ensures system { IsSystem self.new }
         ensures kept { OnErr result (self.new ≡ self.old) }
         ensures terms { self.new.terms ≡ self.old.terms }
         ensures forms { self.new.forms ≡ self.old.forms }
@@ -397,7 +399,9 @@ impl Basis {
         requires inside { leaving < length self.old.forms }
         requires entry { (at : ℕ) × (slice_get (line_at self.old.lines leaving) at ≡ Some entering) }
         requires apart { entering.variable ≢ leaving }
-        ensures brought { OnOk result (Brings self.old self.new leaving (value_of bound.now)) }
+        ensures exchanged { OnOk result (Exchanges self.old self.new leaving entering.variable
+            (value_of bound.now)) }
+        ensures system { IsSystem self.new }
         ensures kept { OnErr result (self.new ≡ self.old) }
         ensures terms { self.new.terms ≡ self.old.terms }
         ensures forms { self.new.forms ≡ self.old.forms }

@@ -6,6 +6,7 @@ mod conflict;
 mod error;
 mod fractions;
 mod gather;
+mod laws;
 mod limits;
 mod line;
 mod merge;
@@ -15,4 +16,5 @@ mod row;
 mod tableau;
 mod whole;
 
+pub use laws::spent_limits_are_small;
 pub use tableau::Tableau;

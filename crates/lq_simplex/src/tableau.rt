@@ -1,21 +1,22 @@
 // The tableau: an engine of all rows.
-ghost use Rattle.std.specs.Prelude.{◌≡◌, List, [], ◌∷◌, ◌++◌, length, pos, MatchBool, true, false, IfOk, IfErr, IfSome, IfNone, IsNone, OnOk, OnErr};
+ghost use Rattle.std.specs.Prelude.{◌≡◌, ℕ, List, [], ◌∷◌, ◌++◌, length, pos, MatchBool, true, false, IfOk, IfErr, IfSome, IfNone, IsNone, OnOk, OnErr};
 ghost use Rattle.lq_math.specs.Rational.{whole, ◌*ℚ◌};
 ghost use Rattle.lq_math.specs.RationalOrder.{◌≤ℚ◌, ◌<ℚ◌, NotNegative};
 ghost use Rattle.lq_num.specs.Value.{value_of};
 ghost use Rattle.lq_linear.specs.Row.{Row};
-ghost use Rattle.lq_linear.specs.Contradiction.{tagged, Solves, IsContradiction};
+ghost use Rattle.lq_linear.specs.Contradiction.{Tagged, tagged, Solves, IsContradiction};
 ghost use Rattle.lq_linear.specs.Steps.{valuation_of};
 ghost use Rattle.lq_simplex.specs.Lines.{IsTableauError};
 ghost use Rattle.lq_linear.specs.Forms.{Parts};
 ghost use Rattle.lq_linear.specs.Difference.{TermsBelow};
 ghost use Rattle.lq_simplex.specs.Standing.{standing_of, multipliers_of, AllRead, TagsApart, AllBare};
-ghost use Rattle.lq_simplex.specs.Conflicts.{AllGiven, AllKeep};
+ghost use Rattle.lq_simplex.specs.Systems.{IsSystem};
+ghost use Rattle.lq_simplex.specs.Conflicts.{AllKeep};
 ghost use Rattle.lq_simplex.specs.Appearing.{AreFormsOf};
 ghost use Rattle.lq_simplex.specs.Configurations.{AllAmong, Rests, FreeKeep, Settles};
 ghost use Rattle.lq_simplex.specs.Bounds.{interval_at, AreTightest, AreUncrossed};
 ghost use Rattle.lq_simplex.specs.History.{IsHistory};
-ghost use Rattle.lq_simplex.specs.Table.{StopsAt};
+ghost use Rattle.lq_simplex.specs.Table.{FailsBy, HasCause, StopsAt};
 
 use crate::basis::Basis;
 use crate::conflict::explain;
@@ -99,6 +100,7 @@ fn refuted(alloc: Global, rows: &[Standing]) -> Result<Option<Vec<(u64, Frac)>>,
 fn settle(alloc: Global, basis: &mut Basis, limits: &Limits) -> Result<(), TableauError>
     requires { AreUncrossed limits.now (length basis.old.forms) }
     ensures keeps { OnOk result (FreeKeep limits.now basis.new) }
+    ensures system { IsSystem basis.new }
     ensures settles { Settles limits.now basis.old basis.new }
     ensures terms { basis.new.terms ≡ basis.old.terms }
     ensures forms { basis.new.forms ≡ basis.old.forms }
@@ -124,9 +126,10 @@ fn pivots(
     limits: &Limits,
     limit: u64,
 ) -> Result<Option<Vec<(u64, Frac)>>, TableauError>
+    requires system { IsSystem basis.old }
     requires read { AllRead basis.old.forms rows.now }
     requires apart { TagsApart rows.now }
-    requires given { AllGiven rows.now limits.now }
+    requires tightest { AreTightest rows.now (interval_at limits.now) }
     requires uncrossed { AreUncrossed limits.now (length basis.old.forms) }
     requires keeps { FreeKeep limits.now basis.old }
     ensures solved { IfOk result (λ found. IfNone found (AllKeep limits.now basis.new)) }
@@ -135,7 +138,7 @@ fn pivots(
         (multipliers_of ms.items))) }
     ensures terms { basis.new.terms ≡ basis.old.terms }
     ensures forms { basis.new.forms ≡ basis.old.forms }
-    ensures stop { IfErr result IsTableauError }
+    ensures stop { IfErr result (HasCause basis.old rows.now limit) }
 {
     let mut left = limit;
     loop {
@@ -172,7 +175,7 @@ fn decide(
         (multipliers_of ms.items))) }
     ensures terms { basis.new.terms ≡ basis.old.terms }
     ensures forms { basis.new.forms ≡ basis.old.forms }
-    ensures stop { IfErr result IsTableauError }
+    ensures stop { IfErr result (HasCause basis.old rows.now limit) }
 {
     if let Some(found) = refuted(alloc, rows)? {
         return Ok(Some(found));
@@ -232,8 +235,8 @@ fn stand(
 
 /// What the engine answers.
 fn stop_of(stop: TableauError, limit: u64) -> LinearStop
-    requires { IsTableauError stop }
-    ensures { StopsAt limit result }
+    ensures { (terms : ℕ) (standing : Tagged) (ever : List Row) → FailsBy terms limit standing ever stop
+        → StopsAt terms limit standing ever result }
 {
     match stop {
         TableauError::Past(past) => LinearStop::Number(past),

@@ -5,11 +5,11 @@ use Rattle.std.proofs.lemmas.Int.{to_z-of_z, ints}
 use Rattle.lq_math.specs.Rational.{whole, ◌-ℚ◌, ◌*ℚ◌, neg_ℚ}
 use Rattle.lq_num.specs.Value.{value_of}
 use Rattle.lq_linear.specs.Row.{sum_at}
-use Rattle.lq_linear.specs.Forms.{Parts, FirstAbove, IsNormal, AreMultiples}
+use Rattle.lq_linear.specs.Forms.{Parts, times, FirstAbove, IsNormal, AreMultiples}
 use Rattle.lq_simplex.specs.Standing.{signed}
-use Rattle.lq_simplex.specs.RowParts.{IsTurned, IsDivided, IsGreatest}
+use Rattle.lq_simplex.specs.RowParts.{turned_by, IsTurned, IsDivided, IsGreatest}
 use Rattle.lq_simplex.proofs.Readings.{turned_below, divided_below, turned_first, form_normal, row_reads}
-use Rattle.lq_simplex.proofs.Multiples.{form_multiple}
+use Rattle.lq_simplex.proofs.Multiples.{form_multiple, form_times}
 use Rattle.lq_simplex.proofs.reading.read.Goals as goal
 
 pub variable-requires-clause-below : goal.variable-requires-clause-below
@@ -41,6 +41,8 @@ returns-clause-reads c =
     record {
       inside = c.in_ok-variable.ensures.found.0;
       form = subst (AreMultiples parts) (sym (c.in_ok-variable.ensures.found.1 ∙ c.new-form.ensures)) (form_multiple c.is_turned-turned.result d parts made form c.shared-divisor.ensures.some t q);
+      scaled = form_times c.is_turned-turned.result d parts made form t q
+          ∙ ap₂ (λ z (f : Parts). times (turned_by c.is_turned-turned.result z) f) (sym same) (sym (c.in_ok-variable.ensures.found.1 ∙ c.new-form.ensures));
       divides = subst (λ z. pos 0 <ℤ z) (sym same) (let s = c.shared-divisor.ensures.some in omega (arith, ints));
       level = λ v.
           row_reads c.is_turned-turned.result v parts made form c.args.row.now.constant d (value_of c.in_ok-value.value) t q

@@ -1,5 +1,5 @@
 use Rattle.std.proofs.Common.{◌≡◌, ◌<◌, length, arith, ◌∙◌, sym, subst, List}
-use Rattle.std.proofs.lemmas.Result.{IfOk-weaker}
+use Rattle.std.proofs.lemmas.Result.{IfOk-weaker, IfErr-weaker}
 use Rattle.lq_linear.specs.Forms.{Parts}
 use Rattle.lq_simplex.specs.declared.line.Entry.{Entry}
 use Rattle.lq_simplex.specs.Conflicts.{IsKept}
@@ -7,6 +7,7 @@ use Rattle.lq_simplex.specs.Systems.{System}
 use Rattle.lq_simplex.specs.Standing.{AllRead, AllBare}
 use Rattle.lq_simplex.proofs.Tables.{crossed_kept, all_solved, none_weaker}
 use Rattle.lq_simplex.proofs.Resting.{rests_settled}
+use Rattle.lq_simplex.proofs.Chaining.{settled_cause}
 use Rattle.lq_simplex.proofs.tableau.decide.Goals as goal
 
 pub explain-requires : goal.explain-requires
@@ -40,8 +41,15 @@ returns-clause-rests c = λ ever among rests.
     (rests_settled ever rows limits c.args.basis.now c.settle.new.basis c.requires.read given forms c.in_ok-settle.ensures.settles among rests)
 
 pub settle-requires : goal.settle-requires
-settle-requires c k h = c.in_default-crossed.ensures.none k (let n = c.len.ensures in omega arith)
+settle-requires c k h = c.in_default-crossed.ensures.none k (let n = c.len.ensures.count in omega arith)
 
 pub pivots-requires-clause-uncrossed : goal.pivots-requires-clause-uncrossed
 pivots-requires-clause-uncrossed c k h =
-    c.in_default-crossed.ensures.none k (rw c.len.ensures (subst (λ (f : List Parts). k < length f) c.in_ok-settle.ensures.forms h))
+    c.in_default-crossed.ensures.none k (rw c.len.ensures.count (subst (λ (f : List Parts). k < length f) c.in_ok-settle.ensures.forms h))
+
+pub returns-clause-stop : goal.returns-clause-stop
+returns-clause-stop c =
+    let rows = c.args.rows.now in let s : System = c.settle.new.basis in
+    IfErr-weaker c.pivots.result _ _
+    (λ stop cause. settled_cause c.args.basis.now s rows c.args.limits.now c.args.limit stop c.requires.read c.requires.tightest c.in_ok-settle.ensures.terms c.in_ok-settle.ensures.forms
+    c.in_ok-settle.ensures.settles cause) c.pivots.ensures.stop

@@ -10,9 +10,10 @@ pub loop-variable-preserved : goal.loop-variable-preserved
 loop-variable-preserved c =
     let before = c.loop-variable.invariant in
     let s = c.loop-variable.basis in let k = c.loop-variable.variable in
-    let inside : k < length s.forms = (let t = c.loop-variable-test.true in let e = c.loop-variable.auto.variable-end in let n = c.len-variable-end.ensures in rw before.forms (omega arith)) in
+    let inside : k < length s.forms = (let t = c.loop-variable-test.true in let e = c.loop-variable.auto.variable-end in let n = c.len-variable-end.ensures.count in rw before.forms (omega arith)) in
     elim c.if-is_free.branch [
       | then-is_free+in-Some+in_ok-shift w ↦ rw w.basis-is (record {
+        system = w.in_ok-shift.ensures.system;
         terms = w.in_ok-shift.ensures.terms ∙ before.terms;
         forms = w.in_ok-shift.ensures.forms ∙ before.forms;
         settles = settle_step c.args.limits.now c.args.basis.now s w.shift.new.self k
@@ -21,6 +22,7 @@ loop-variable-preserved c =
             (c.requires k (rw (sym before.forms) inside)) w.in-Some.ensures.some.0 w.in-Some.ensures.some.1 w.in_ok-shift.ensures.brought before.keeps;
       })
       | then-is_free+in_default w ↦ rw w.basis-is (record {
+        system = before.system;
         terms = before.terms;
         forms = before.forms;
         settles = before.settles;
@@ -28,6 +30,7 @@ loop-variable-preserved c =
             (value_read s c.values.result.now k c.index-values-variable.result c.values.ensures.system c.values.ensures.values inside c.index-values-variable.is) before.keeps w.in_default.ensures.none;
       })
       | else-is_free w ↦ rw w.basis-is (record {
+        system = before.system;
         terms = before.terms;
         forms = before.forms;
         settles = before.settles;
@@ -38,5 +41,5 @@ loop-variable-preserved c =
 pub returns-clause-keeps : goal.returns-clause-keeps
 returns-clause-keeps c =
     let before = c.loop-variable.invariant in
-    let all : length c.loop-variable.basis.forms ≤ c.loop-variable.variable = (let t = c.loop-variable-test.false in let n = c.len-variable-end.ensures in rw before.forms (omega arith)) in
+    let all : length c.loop-variable.basis.forms ≤ c.loop-variable.variable = (let t = c.loop-variable-test.false in let n = c.len-variable-end.ensures.count in rw before.forms (omega arith)) in
     keep_all c.args.limits.now c.loop-variable.basis c.loop-variable.variable all before.keeps

@@ -25,3 +25,9 @@ returns-clause-brought c =
     (shift_brings s values c.args.variable (value_of c.args.bound.now) (value_of c.in_ok-by.by) free
     (c.in_ok-by.ensures.exact ∙ ap (λ t. value_of c.args.bound.now -ℚ t) (sym (value_there s.values c.args.variable c.index.result.now within c.index.ensures)))
     (rw (sym c.deref.ensures.value, sym c.deref-2.ensures.value) c.in_ok-self-inside.ensures.shifted))
+
+pub returns-clause-system : goal.returns-clause-system
+returns-clause-system c =
+    let s : System = record { terms = c.self.inside.terms; forms = c.self.inside.forms.items; lines = c.self.inside.lines.items; values = c.self.inside.values.items } in
+    shifted_system s c.in_ok-self-inside.field-0.items c.args.variable (value_of c.in_ok-by.by) c.self.invariant
+    (rw (sym c.deref.ensures.value, sym c.deref-2.ensures.value) c.in_ok-self-inside.ensures.shifted)

@@ -1,7 +1,8 @@
-use Rattle.std.proofs.Common.{◌∷◌, [], sym, subst}
+use Rattle.std.proofs.Common.{◌∷◌, ◌++◌, [], sym, subst}
 use Rattle.lq_simplex.specs.Configurations.{AllAmong}
-use Rattle.lq_simplex.specs.Table.{Table, Handed}
+use Rattle.lq_simplex.specs.Table.{Table, Handed, StopsAt, table_rows}
 use Rattle.lq_simplex.proofs.Resting.{rests_more}
+use Rattle.lq_simplex.proofs.Chaining.{error_fails}
 use Rattle.lq_simplex.proofs.tableau.TableauLinearEngine.assert_row.Goals as goal
 
 pub returns-in-Ok-clause-handed : goal.returns-in-Ok-clause-handed
@@ -23,3 +24,10 @@ returns-in-Err-clause-refused c = λ rows h.
       among = subst (λ l. AllAmong rows l) (sym c.in-Err.ensures.kept) before.among;
       rests = rw c.in-Err.ensures.refused before.rests;
     }
+
+pub returns-in-Err-clause-stop : goal.returns-in-Err-clause-stop
+returns-in-Err-clause-stop c = λ ever h.
+    let terms = c.args.self.now.system.terms in let limit = c.self.inside.limit in
+    let standing = table_rows c.args.self.now ++ (c.args.tag, c.args.row.now) ∷ [] in let rows = ever ++ c.args.row.now ∷ [] in
+    subst (λ (t : Table). StopsAt terms t.limit standing rows c.stop_of.result) c.self.view_is
+    (c.stop_of.ensures terms standing rows (error_fails terms limit standing rows c.in-Err.stop c.in-Err.ensures.stop))
