@@ -33,6 +33,7 @@ impl Implications {
     ghost use Rattle.std.specs.Option.{option_copied};
     ghost use Rattle.lq_subtype.specs.Implication.{goals};
     ghost use Rattle.lq_substitution.specs.Views.{part_view, parts_view};
+    ghost use Rattle.lq_implications.specs.Growing.{Continues};
     ghost use Rattle.lq_implications.specs.Views.{count_of, environment_at, environment_lists, hypotheses_left, implication_items, implication_view, implications_of, origin_view};
 
     /// No implications, and the empty environment alone.
@@ -171,6 +172,7 @@ impl Implications {
         ensures counted { OnOk result (count_of self.new ≡ min (count_of self.old
             + length (goals (environment_at self.old env) (parts_view left.now) (part_view goal.now ∷ [])
             (origin_view origin.0 origin.1))) (2 ^ 64 - 1)) }
+        ensures continues { Continues self.old self.new }
         ensures environments { environment_lists self.new ≡ environment_lists self.old }
     {
         if goal.is_truth() {
@@ -188,7 +190,7 @@ impl Implications {
     }
 
     /// Adds one implication for each part on the right, but none for a part that is written `true`. Where memory is refused, some of them may
-    /// stand there.
+    /// stand there, behind those that there were.
     pub fn imply(
         &mut self,
         alloc: Global,
@@ -204,6 +206,7 @@ impl Implications {
         ensures counted { OnOk result (count_of self.new ≡ min (count_of self.old
             + length (goals (environment_at self.old env) (parts_view left.now) (map part_view right.now)
             (origin_view origin.0 origin.1))) (2 ^ 64 - 1)) }
+        ensures continues { Continues self.old self.new }
         ensures environments { environment_lists self.new ≡ environment_lists self.old }
     {
         for goal in right {

@@ -1,6 +1,7 @@
 use Rattle.std.proofs.Common.{◌≡◌, ◌-◌, ◌^◌, ◌<◌, length, min, refl, ap, ◌∙◌, arith}
 use Rattle.std.proofs.lemmas.List.{length-map}
 use Rattle.lq_substitution.specs.Views.{parts_view}
+use Rattle.lq_implications.specs.Growing.{Continues-refl, Continues-trans}
 use Rattle.lq_implications.specs.Views.{count_of, environment_at, environment_in, implications_of, origin_view}
 use Rattle.lq_implications.proofs.Goals.{added-more, counted-more}
 use Rattle.lq_implications.proofs.Limits.{kept-nothing}
@@ -15,6 +16,7 @@ loop-goal-init c =
     record {
       added = kept-nothing 262144 (implications_of self) (omega arith);
       counted = omega arith;
+      continues = Continues-refl self;
       environments = refl;
     }
 
@@ -32,5 +34,10 @@ loop-goal-preserved c =
           (parts_view c.args.left.now) (origin_view c.args.origin.0 c.args.origin.1) c.args.right.now c.loop-goal.goal-index c.goal-item.result
           same c.loop-goal-test.true c.goal-item.is (2 ^ 64 - 1) (count_of self) (count_of now) (count_of next) c.loop-goal.invariant.counted
           c.in_ok-imply_one.ensures.counted;
+      continues = Continues-trans self now next c.loop-goal.invariant.continues c.imply_one.ensures.continues;
       environments = c.imply_one.ensures.environments ∙ c.loop-goal.invariant.environments;
     }
+
+pub returns-in_err-imply_one-clause-continues : goal.returns-in_err-imply_one-clause-continues
+returns-in_err-imply_one-clause-continues c =
+    Continues-trans c.args.self.now c.loop-goal.self c.imply_one.new.self c.loop-goal.invariant.continues c.imply_one.ensures.continues

@@ -1,6 +1,7 @@
 use Rattle.std.proofs.Common.{◌≡◌, ◌+◌, ◌-◌, ◌^◌, ◌++◌, length, map, min, take}
 use Rattle.lq_subtype.specs.Implication.{goals}
 use Rattle.lq_substitution.specs.Views.{part_view, parts_view}
+use Rattle.lq_implications.specs.Growing.{Continues}
 use Rattle.lq_implications.specs.Views.{count_of, environment_at, environment_lists, implications_of, origin_view}
 use Rattle.lq_implications.proofs.list.Implications.imply.Given as goal
 
@@ -10,5 +11,6 @@ invariant-loop-goal l =
     record {
       added : implications_of l.self ≡ take 262144 (implications_of l.initial.self ++ made);
       counted : count_of l.self ≡ min (count_of l.initial.self + length made) (2 ^ 64 - 1);
+      continues : Continues l.initial.self l.self;
       environments : environment_lists l.self ≡ environment_lists l.initial.self;
     }

@@ -2,6 +2,7 @@ use Rattle.std.proofs.Common.{◌≡◌, ◌++◌, length, min, true, take, sym,
 use Rattle.std.proofs.lemmas.List.{length-map}
 use Rattle.lq_parts.specs.Part.{is_truth}
 use Rattle.lq_substitution.specs.Views.{part_view, parts_view}
+use Rattle.lq_implications.specs.Growing.{Continues-either}
 use Rattle.lq_implications.specs.Views.{count_of, environment_at, implications_of, origin_view}
 use Rattle.lq_implications.proofs.Goals.{goals-truth}
 use Rattle.lq_implications.proofs.Limits.{kept-nothing}
@@ -16,3 +17,7 @@ returns-then-is_truth-clause-added c =
     kept-nothing 262144 (implications_of self) (omega arith)
     ∙ ap (λ l. take 262144 (implications_of self ++ l))
     (sym (goals-truth (environment_at self c.args.env) (parts_view c.args.left.now) (origin_view c.args.origin.0 c.args.origin.1) (part_view c.args.goal.now) e))
+
+pub returns-clause-continues : goal.returns-clause-continues
+returns-clause-continues c =
+    Continues-either c.push.result c.args.self.now c.push.new.self _ 1 c.push.ensures.added c.push.ensures.counted c.push.ensures.kept c.push.ensures.uncounted
