@@ -108,6 +108,9 @@ fn first_failing<J: Judge>(
     ensures some { IfOk result (λ found. IfSome found (λ f. IsFailingDemand (J.instances judge.old)
         (J.constraints judge.old) (chosen_in chosen.now) f.0 f.1)) }
     ensures stop { IfErr result (StopsAt (J.may_stop judge.old)) }
+    ensures instances { J.instances judge.new ≡ J.instances judge.old }
+    ensures constraints { J.constraints judge.new ≡ J.constraints judge.old }
+    ensures stops { (i : ℕ) (stop : Stop) → J.may_stop judge.new i stop → J.may_stop judge.old i stop }
 {
     for at in 0..goals.len() as u64 {
         match failing_point(judge, goals, at, chosen) {
@@ -123,6 +126,8 @@ fn first_failing<J: Judge>(
 /// stand that speak of it; or the first demand that fails under the greatest selection of instances for the flows. Flows are asked again
 /// only where an unknown of which they speak lost an instance, the first one in their order next.
 ///
+/// Whatever comes out, the judge may be asked again: of the same implications over the same instances.
+///
 /// This is iterative weakening of Rondon, Kawaguchi and Jhala (PLDI 2008), by a worklist.
 pub fn solve<J: Judge>(
     alloc: Global,
@@ -136,6 +141,9 @@ pub fn solve<J: Judge>(
     requires counts { AreCounts (J.instances judge.old) counts.now }
     ensures solved { IfOk result (IsSolved (J.instances judge.old) (J.constraints judge.old)) }
     ensures stop { IfErr result (StopsAt (J.may_stop judge.old)) }
+    ensures instances { J.instances judge.new ≡ J.instances judge.old }
+    ensures constraints { J.constraints judge.new ≡ J.constraints judge.old }
+    ensures stops { (i : ℕ) (stop : Stop) → J.may_stop judge.new i stop → J.may_stop judge.old i stop }
 {
     unions_of_selections();
     let Ok(mut chosen) = Chosen::all(alloc, counts) else {
