@@ -7,7 +7,7 @@ use Rattle.lq_linear.specs.Contradiction.{Tagged, tagged}
 use Rattle.lq_linear.specs.Difference.{IsDifference, TermsBelow}
 use Rattle.lq_diff.specs.Table as diff
 use Rattle.lq_case.specs.declared.stored.StoredRow.{StoredRow}
-use Rattle.lq_case.specs.Stored.{tagged_rows, differences_in, odd_from, AllBelow, AreApart, AllHoldAt, IsFront, IsKept, KeepsFirst, MayBeFilled}
+use Rattle.lq_case.specs.Stored.{tagged_rows, differences_in, odd_from, AllBelow, AreApart, AllHoldAt, IsFront, IsKept, KeepsFirst, MayBeFilled, Stands, StopsInTableau}
 use Rattle.std.proofs.lemmas.Option.{slice_get-get_or}
 use Rattle.lq_math.specs.Rational.{ℚ}
 use Rattle.lq_linear.specs.Contradiction.{Solves, IsContradiction}
@@ -133,15 +133,15 @@ pub kept_solves : (v : Valuation) (stored : List StoredRow) (odd : List ℕ) (d 
     → AllHoldAt v stored odd → Solves v (tagged_rows stored)
 kept_solves v stored odd d rows k e s h = solves_both v stored (subst (AllHoldAt v stored) k.places h) (subst (Solves v) (e ∙ k.standing) s)
 
-pub stops_distances : (pivots : ℕ) (stored : List StoredRow) (odd : List ℕ) (d : diff.Table) (stop : LinearStop) → IsKept stored odd d
-    → (stop ≡ Memory) ⊎ ((rows : List Row) → Unit {0} → PastBy (diff.constants (diff.table_rows d)) stop) → MayStop pivots (tagged_rows stored) stop
-stops_distances pivots stored odd d stop k h =
+pub stops_distances : (terms pivots : ℕ) (ever : List Row) (stored : List StoredRow) (odd : List ℕ) (d : diff.Table) (stop : LinearStop) → IsKept stored odd d
+    → (stop ≡ Memory) ⊎ ((rows : List Row) → Unit {0} → PastBy (diff.constants (diff.table_rows d)) stop) → MayStop terms pivots ever (Stands (tagged_rows stored)) (tagged_rows stored) stop
+stops_distances terms pivots ever stored odd d stop k h =
     let s = stops_more _ (diff.constants (tagged_rows stored)) stop (let m = constants_among stored in let e = ap diff.constants k.standing in omega arith) (stops_either _ stop h) in
     record { differences = λ all. s; any = inl s }
 
-pub stops_tableau : (pivots : ℕ) (stored : List StoredRow) (odd : List ℕ) (d : diff.Table) (stop : LinearStop) → IsKept stored odd d → (odd ≡ [] → ⊥)
-    → table.StopsAt pivots stop → MayStop pivots (tagged_rows stored) stop
-stops_tableau pivots stored odd d stop k some h =
+pub stops_tableau : (terms pivots : ℕ) (ever : List Row) (stored : List StoredRow) (odd : List ℕ) (d : diff.Table) (stop : LinearStop) → IsKept stored odd d → (odd ≡ [] → ⊥)
+    → StopsInTableau terms pivots ever (Stands (tagged_rows stored)) stop → MayStop terms pivots ever (Stands (tagged_rows stored)) (tagged_rows stored) stop
+stops_tableau terms pivots ever stored odd d stop k some h =
     record { differences = λ all. absurd (some (k.places ∙ none_odd 0 0 stored k.marked all)); any = inr h }
 
 pub held : (v : Valuation) (rows stored : List StoredRow) (indexes odd : List ℕ) → rows ≡ stored → indexes ≡ odd → AllHoldAt v rows indexes → AllHoldAt v stored odd
@@ -156,8 +156,6 @@ filled_first terms pivots count all (Some t) (Some u) f k = record {
   limits = k.0 ∙ f.limits;
   front = subst (λ l. IsFront l (take count all)) (sym k.1) (front_take count (table.table_rows t) all f.front);
   going = k.2 f.going;
-  ever = f.ever;
-  handed = k.3 f.ever f.handed;
 }
 
 pub filled_more : (terms pivots : ℕ) (all more : Tagged) (t : Option table.Table) → MayBeFilled terms pivots all t → MayBeFilled terms pivots (all ++ more) t
@@ -166,6 +164,4 @@ filled_more terms pivots all more (Some t) f = record {
   limits = f.limits;
   front = front_push (table.table_rows t) all more f.front;
   going = f.going;
-  ever = f.ever;
-  handed = f.handed;
 }

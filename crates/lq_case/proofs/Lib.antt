@@ -8,3 +8,4 @@ pub mod Giving
 pub mod Facts
 pub mod Pathing
 pub mod Objects
+pub mod Handing

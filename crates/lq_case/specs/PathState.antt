@@ -1,6 +1,7 @@
 -- What the state of a path is seen as, and what always holds of one.
 use Rattle.std.specs.Prelude.{◌≡◌, ℕ, suc, ◌≤◌, ◌<◌, ◌==◌, Bool, List, [], ◌∷◌, Option, Some, None, length, take, slice_get}
 use Rattle.lq_linear.specs.Contradiction.{Tagged}
+use Rattle.lq_linear.specs.Row as linear
 use Rattle.lq_linear.specs.declared.engine.LinearStop.{LinearStop}
 use Rattle.lq_pred.specs.Sum.{Sum}
 use Rattle.lq_pred.specs.declared.symbol.Symbol.{Symbol}
@@ -15,6 +16,8 @@ use Rattle.lq_combine.specs.declared.tree.CaseProof.{CaseProof}
 use Rattle.lq_combine.specs.declared.tree.Multipliers.{Multipliers}
 use Rattle.lq_case.specs.Flags.{AreFlagsOf, HasValue}
 use Rattle.lq_case.specs.RowState.{RowState, MayStop}
+use Rattle.lq_case.specs.Stored as stored
+use Rattle.lq_case.specs.Stored.{WasHanded}
 use Rattle.lq_case.specs.declared.flags.FlagClash.{FlagClash}
 use Rattle.lq_case.specs.declared.flags.Given.{Given}
 use Rattle.lq_case.specs.declared.state.Kind.{Kind}
@@ -112,9 +115,21 @@ pub record HaveClasses (name : ℕ → Sum) (class_of : ℕ → ℕ) (x y : Sum)
 abbrev pub AllObjectsHold : (ℕ → Sum) → (ℕ → ℕ) → List Fact → Type 0
 AllObjectsHold name class_of facts = (k : ℕ) (x y : Sum) (one : Bool) → numbered_at facts k ≡ Some (objects_fact x y one) → HaveClasses name class_of x y one
 
--- the stops of a check
-abbrev pub HasStops : ℕ → List Fact → LinearStop → Type 0
-HasStops pivots facts stop = MayStop pivots (rows_among facts) stop
+-- the rows are all that the tableau of the state was ever handed
+abbrev pub HasHanded : PathState → List linear.Row → Type 0
+HasHanded s ever = WasHanded s.rows.tableau ever
+
+-- what was handed stays
+abbrev pub KeepsHanded : PathState → PathState → Type 0
+KeepsHanded old new = (ever : List linear.Row) → HasHanded old ever → HasHanded new ever
+
+-- what was handed stays, and more was handed: rows of which P holds
+abbrev pub HandsMore : (linear.Row → Type 0) → PathState → PathState → Type 0
+HandsMore P old new = stored.HandsMore P old.rows.tableau new.rows.tableau
+
+-- the stops of a check, where these rows were ever handed, and then more of which P holds
+abbrev pub HasStops : ℕ → ℕ → List linear.Row → (linear.Row → Type 0) → List Fact → LinearStop → Type 0
+HasStops terms pivots ever P facts stop = MayStop terms pivots ever P (rows_among facts) stop
 
 -- a conflict of rows, as a clash
 abbrev pub IsByRows : Option Multipliers → Option CaseProof → Type 0

@@ -4,12 +4,12 @@ use Rattle.lq_math.specs.Rational.{whole}
 use Rattle.lq_linear.specs.Answers.{Held}
 use Rattle.lq_linear.specs.Contradiction.{Tagged, Solves}
 use Rattle.lq_linear.specs.Difference.{IsDifference}
-use Rattle.lq_linear.specs.Row.{Valuation}
+use Rattle.lq_linear.specs.Row.{Row, Valuation}
 use Rattle.lq_linear.specs.declared.engine.LinearStop.{LinearStop}
 use Rattle.lq_diff.specs.Stops.{StopsBy}
 use Rattle.lq_diff.specs.Table as diff
 use Rattle.lq_simplex.specs.Table as table
-use Rattle.lq_case.specs.Stored.{IsKept, MayBeFilled, SolvesBy, tagged_rows}
+use Rattle.lq_case.specs.Stored.{IsKept, MayBeFilled, SolvesBy, StopsInTableau, tagged_rows}
 use Rattle.lq_case.specs.declared.rows.Found.{Found}
 use Rattle.lq_case.specs.declared.rows.Found.TheVariants.{Nothing, ByDistances, ByTableau}
 use Rattle.lq_case.specs.declared.stored.StoredRow.{StoredRow}
@@ -65,7 +65,8 @@ pub record IsRowState (stored : List StoredRow) (odd : List ℕ) (d : diff.Table
   pub filled : MayBeFilled d.terms pivots (tagged_rows stored) t
   pub found_by : IsFoundBy found (tagged_rows stored) d t
 
--- A stop of the table of distances, by the sizes of the constants; or, where a row is no difference row, one of the tableau.
-pub record MayStop (pivots : ℕ) (rows : Tagged) (stop : LinearStop) : Type 0 where
+-- A stop of the table of distances, by the sizes of the constants; or, where a row is no difference row, one of the tableau that was ever
+-- handed some rows, and then more of which P holds.
+pub record MayStop (terms pivots : ℕ) (ever : List Row) (P : Row → Type 0) (rows : Tagged) (stop : LinearStop) : Type 0 where
   pub differences : AreDifferences rows → StopsBy (diff.constants rows) stop
-  pub any : StopsBy (diff.constants rows) stop ⊎ table.StopsAt pivots stop
+  pub any : StopsBy (diff.constants rows) stop ⊎ StopsInTableau terms pivots ever P stop

@@ -1,9 +1,10 @@
 -- The rows that stand, and what the distances have of them.
-use Rattle.std.specs.Prelude.{◌≡◌, ◌≢◌, ℕ, suc, List, [], ◌∷◌, Option, Some, None, length, take, slice_get, if◌then◌else◌, IsNone, MatchBool}
+use Rattle.std.specs.Prelude.{◌≡◌, ◌≢◌, ℕ, suc, List, [], ◌∷◌, ◌++◌, All, Option, Some, None, length, take, slice_get, if◌then◌else◌, IsNone, MatchBool}
 use Rattle.lq_linear.specs.Answers.{Held, Stopped}
 use Rattle.lq_linear.specs.Contradiction.{Tagged, tagged, Solves}
 use Rattle.lq_linear.specs.Difference.{IsDifference, TermsBelow}
 use Rattle.lq_linear.specs.Row.{Row, Valuation, RowHolds}
+use Rattle.lq_linear.specs.declared.engine.LinearStop.{LinearStop}
 use Rattle.lq_diff.specs.Table as diff
 use Rattle.lq_simplex.specs.Table as table
 use Rattle.lq_case.specs.declared.stored.StoredRow.{StoredRow}
@@ -65,8 +66,6 @@ pub record IsFilled (terms pivots : ℕ) (rows : Tagged) (tableau : table.Table)
   pub limits : table.table_limits tableau ≡ terms ∷ pivots ∷ []
   pub front : IsFront (table.table_rows tableau) rows
   pub going : table.table_last tableau ≢ Stopped
-  pub ever : List Row
-  pub handed : table.Handed tableau ever
 
 abbrev pub MayBeFilled : ℕ → ℕ → Tagged → Option table.Table → Type 0
 MayBeFilled terms pivots rows None = Unit {0}
@@ -85,3 +84,30 @@ KeepsFirst count (Some old) (Some new) =
     × (table.table_last old ≢ Stopped → table.table_last new ≢ Stopped) × ((ever : List Row) → table.Handed old ever → table.Handed new ever)
 KeepsFirst count None (Some new) = ⊥
 KeepsFirst count (Some old) None = ⊥
+
+-- ---- rows that were handed
+
+-- the rows are all that a tableau was ever handed, and none where there is no tableau
+abbrev pub WasHanded : Option table.Table → List Row → Type 0
+WasHanded None ever = ever ≡ []
+WasHanded (Some tableau) ever = table.Handed tableau ever
+
+-- what was handed stays, and more was handed: rows of which P holds
+pub record HandsMore (P : Row → Type 0) (old new : Option table.Table) : Type 0 where
+  pub more : List Row
+  pub each : All P more
+  pub handed : (ever : List Row) → WasHanded old ever → WasHanded new (ever ++ more)
+
+-- one of the rows that stand
+pub record Stands (rows : Tagged) (r : Row) : Type 0 where
+  pub at : ℕ
+  pub tag : ℕ
+  pub is : slice_get rows at ≡ Some (tag, r)
+
+-- A stop of a tableau that was ever handed these rows, and then more. Of each of these, and of each row that stands in it, P holds.
+pub record StopsInTableau (terms pivots : ℕ) (ever : List Row) (P : Row → Type 0) (stop : LinearStop) : Type 0 where
+  pub more : List Row
+  pub each : All P more
+  pub standing : Tagged
+  pub each_stands : All (λ r. P r.1) standing
+  pub stops : table.StopsAt terms pivots standing (ever ++ more) stop

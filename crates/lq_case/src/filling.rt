@@ -1,11 +1,11 @@
 // A tableau is filled with the rows that it lacks, and asked.
-ghost use Rattle.std.specs.Prelude.{◌≡◌, ◌≢◌, List, IfOk, IfErr, IfSome, IfNone, OnOk};
+ghost use Rattle.std.specs.Prelude.{◌≡◌, ◌≢◌, List, Some, IfOk, IfErr, IfSome, IfNone, OnOk};
 ghost use Rattle.lq_combine.specs.TreeView.{multiplier_items, multiplier_views};
 ghost use Rattle.lq_linear.specs.Answers.{Held, Stopped};
 ghost use Rattle.lq_linear.specs.Contradiction.{Solves, IsContradiction};
 ghost use Rattle.lq_linear.specs.Row.{Row};
-ghost use Rattle.lq_simplex.specs.Table.{Handed, StopsAt, table_limits, table_last, table_point, table_rows};
-ghost use Rattle.lq_case.specs.Stored.{AllBelow, AreApart, IsFilled, IsFront, KeepsFirst, MayBeFilled, SolvesBy, tagged_rows};
+ghost use Rattle.lq_simplex.specs.Table.{Handed, table_limits, table_last, table_point, table_rows};
+ghost use Rattle.lq_case.specs.Stored.{AllBelow, AreApart, HandsMore, IsFilled, IsFront, KeepsFirst, MayBeFilled, SolvesBy, Stands, StopsInTableau, WasHanded, tagged_rows};
 
 use crate::deciding::decide;
 use crate::stored::StoredRow;
@@ -20,13 +20,13 @@ fn hand(tableau: &mut Tableau, rows: &[StoredRow]) -> Result<(), LinearStop>
     requires below { AllBelow tableau.old.system.terms (tagged_rows rows.now) }
     requires apart { AreApart (tagged_rows rows.now) }
     requires going { table_last tableau.old ≢ Stopped }
-    requires handed { (ever : List Row) × Handed tableau.old ever }
-    ensures handed { (ever : List Row) × Handed tableau.new ever }
+    ensures handed { HandsMore (Stands (tagged_rows rows.now)) (Some tableau.old) (Some tableau.new) }
     ensures all { OnOk result (table_rows tableau.new ≡ tagged_rows rows.now) }
     ensures front { IsFront (table_rows tableau.new) (tagged_rows rows.now) }
     ensures going { OnOk result (table_last tableau.new ≢ Stopped) }
     ensures limits { table_limits tableau.new ≡ table_limits tableau.old }
-    ensures stop { IfErr result (StopsAt tableau.old.limit) }
+    ensures stop { IfErr result (λ stop. (ever : List Row) → Handed tableau.old ever
+        → StopsInTableau tableau.old.system.terms tableau.old.limit ever (Stands (tagged_rows rows.now)) stop) }
 {
     let Mark(first) = tableau.mark();
     for at in first as usize..rows.len() {
@@ -50,7 +50,9 @@ fn decide_all(
         (multiplier_views (multiplier_items ms)))) }
     ensures none { IfOk result (λ found. IfNone found ((table_last tableau.new ≡ Held)
         × Solves (table_point tableau.new) (tagged_rows rows.now))) }
-    ensures stop { IfErr result (StopsAt tableau.old.limit) }
+    ensures handed { HandsMore (Stands (tagged_rows rows.now)) (Some tableau.old) (Some tableau.new) }
+    ensures stop { IfErr result (λ stop. (ever : List Row) → Handed tableau.old ever
+        → StopsInTableau tableau.old.system.terms tableau.old.limit ever (Stands (tagged_rows rows.now)) stop) }
 {
     match hand(tableau, rows) {
         Ok(()) => decide(alloc, tableau),
@@ -77,7 +79,9 @@ pub(crate) fn decide_by(
     ensures some { IfOk result (λ found. IfSome found (λ ms. IsContradiction (tagged_rows rows.now)
         (multiplier_views (multiplier_items ms)))) }
     ensures none { IfOk result (λ found. IfNone found (SolvesBy (tagged_rows rows.now) tableau.new)) }
-    ensures stop { IfErr result (StopsAt pivots) }
+    ensures handed { HandsMore (Stands (tagged_rows rows.now)) tableau.old tableau.new }
+    ensures stop { IfErr result (λ stop. (ever : List Row) → WasHanded tableau.old ever
+        → StopsInTableau terms pivots ever (Stands (tagged_rows rows.now)) stop) }
 {
     if tableau.is_none() {
         let Ok(empty) = Tableau::new(alloc, terms, pivots) else {

@@ -1,13 +1,15 @@
 // The rows of a path.
-ghost use Rattle.std.specs.Prelude.{◌≡◌, ◌≤◌, ◌∷◌, [], ◌++◌, true, IfOk, IfErr, IfSome, IfNone, IsNone, OnOk, OnErr, length, take};
+ghost use Rattle.std.specs.Prelude.{◌≡◌, ◌≤◌, List, ◌∷◌, [], ◌++◌, true, IfOk, IfErr, IfSome, IfNone, IsNone, OnOk, OnErr, length, take};
 ghost use Rattle.lq_combine.specs.TreeView.{multiplier_items, multiplier_views};
 ghost use Rattle.lq_diff.specs.Stops.{StopsBy};
 ghost use Rattle.lq_diff.specs.Table.{constants};
 ghost use Rattle.lq_linear.specs.Contradiction.{tagged, Solves, IsContradiction};
 ghost use Rattle.lq_linear.specs.Difference.{TermsBelow};
 ghost use Rattle.lq_linear.specs.Near.{IsNear};
+ghost use Rattle.lq_linear.specs.Row.{Row};
 ghost use Rattle.lq_num.specs.Value.{value_of};
 ghost use Rattle.lq_case.specs.RowState.{AreDifferences, MayStop, is_solved, row_point, terms_of};
+ghost use Rattle.lq_case.specs.Stored.{HandsMore, Stands, WasHanded};
 
 use crate::deciding::decide;
 use crate::filling::{decide_by, keep_first};
@@ -62,6 +64,7 @@ impl LinearRows {
     pub fn new(alloc: Global, terms: u64, pivots: u64) -> Result<LinearRows, AllocError>
         ensures rows { IfOk result (λ s. s.rows ≡ []) }
         ensures limits { IfOk result (λ s. (terms_of s ≡ terms) × (s.pivots ≡ pivots)) }
+        ensures handed { IfOk result (λ s. WasHanded s.tableau []) }
     {
         Ok(LinearRows {
             alloc,
@@ -85,6 +88,7 @@ impl LinearRows {
         ensures limits { (terms_of self.new ≡ terms_of self.old) × (self.new.pivots ≡ self.old.pivots) }
         ensures clash { IfOk result (λ clash. IfSome clash (λ ms. IsContradiction self.new.rows
             (multiplier_views (multiplier_items ms)))) }
+        ensures handed { self.new.tableau ≡ self.old.tableau }
         ensures stop { IfErr result (StopsBy (constants (self.old.rows ++ (tag, row.now) ∷ []))) }
     {
         self.found = Found::Nothing;
@@ -110,6 +114,7 @@ impl LinearRows {
         requires { mark.0 ≤ length self.old.rows }
         ensures rows { self.new.rows ≡ take mark.0 self.old.rows }
         ensures limits { (terms_of self.new ≡ terms_of self.old) × (self.new.pivots ≡ self.old.pivots) }
+        ensures handed { (ever : List Row) → WasHanded self.old.tableau ever → WasHanded self.new.tableau ever }
     {
         self.found = Found::Nothing;
         keep(
@@ -130,7 +135,9 @@ impl LinearRows {
             (multiplier_views (multiplier_items ms)))) }
         ensures none { IfOk result (λ clash. IfNone clash ((is_solved self.new ≡ true)
             × Solves (row_point self.new) self.new.rows)) }
-        ensures stop { IfErr result (MayStop self.old.pivots self.old.rows) }
+        ensures handed { HandsMore (Stands self.old.rows) self.old.tableau self.new.tableau }
+        ensures stop { IfErr result (λ stop. (ever : List Row) → WasHanded self.old.tableau ever
+            → MayStop (terms_of self.old) self.old.pivots ever (Stands self.old.rows) self.old.rows stop) }
     {
         self.found = Found::Nothing;
         if let Some(clash) = decide(self.alloc, &mut self.distances)? {

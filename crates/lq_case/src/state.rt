@@ -1,5 +1,5 @@
 // The state of one path.
-ghost use Rattle.std.specs.Prelude.{◌≡◌, ◌↔◌, ◌+◌, ℕ, ◌<◌, ◌≤◌, ◌∷◌, [], ◌++◌, true, IfOk, IfErr, IfSome, IfNone, OnOk, OnErr, length, slice_index, take};
+ghost use Rattle.std.specs.Prelude.{◌≡◌, ◌↔◌, ◌+◌, ℕ, ◌<◌, ◌≤◌, List, ◌∷◌, [], ◌++◌, true, IfOk, IfErr, IfSome, IfNone, OnOk, OnErr, length, slice_index, take};
 ghost use Rattle.lq_combine.specs.Path.{flag_fact, objects_fact, row_fact};
 ghost use Rattle.lq_combine.specs.Proves.{AreJoined, Clashes, rows_among};
 ghost use Rattle.lq_combine.specs.TreeView.{clash_of, tag_items};
@@ -8,13 +8,15 @@ ghost use Rattle.lq_diff.specs.Table.{constants};
 ghost use Rattle.lq_linear.specs.Contradiction.{Solves};
 ghost use Rattle.lq_linear.specs.Difference.{TermsBelow};
 ghost use Rattle.lq_linear.specs.Near.{IsNear};
+ghost use Rattle.lq_linear.specs.Row.{Row};
 ghost use Rattle.lq_num.specs.Value.{value_of};
 ghost use Rattle.lq_case.specs.Flags.{clash_after, find_given};
 ghost use Rattle.lq_combine.specs.Tree.{Clash};
 ghost use Rattle.lq_objects.specs.Joined.{AreOne, IsClash};
 ghost use Rattle.lq_pred.specs.Sum.{Sum};
-ghost use Rattle.lq_case.specs.PathState.{AllFlagsHold, AllObjectsHold, HasStops, IsByFlags, IsByRows, NoObjectsClash, facts_in, objects_in};
+ghost use Rattle.lq_case.specs.PathState.{AllFlagsHold, AllObjectsHold, HandsMore, HasHanded, HasStops, IsByFlags, IsByRows, KeepsHanded, NoObjectsClash, facts_in, objects_in};
 ghost use Rattle.lq_case.specs.RowState.{AreDifferences, is_solved, row_point, terms_of};
+ghost use Rattle.lq_case.specs.Stored.{Stands};
 
 use crate::flags::{FlagClash, Given, give, giver_of};
 use crate::rows::LinearRows;
@@ -80,6 +82,7 @@ impl PathState {
         ensures facts { IfOk result (λ s. (name : ℕ → Sum) → facts_in name s ≡ []) }
         ensures limits { IfOk result (λ s. (terms_of s.rows ≡ terms) × (s.rows.pivots ≡ pivots)
             × (s.objects.count ≡ objects)) }
+        ensures handed { IfOk result (λ s. HasHanded s []) }
     {
         let objects = Objects::new(alloc, objects)?;
         Ok(PathState {
@@ -104,6 +107,7 @@ impl PathState {
             × (self.new.rows.pivots ≡ self.old.rows.pivots) × (self.new.objects.count ≡ self.old.objects.count) }
         ensures clash { IfOk result (λ clash. IfSome clash (λ p. (name : ℕ → Sum)
             → Clashes (facts_in name self.new) (clash_of p))) }
+        ensures handed { KeepsHanded self.old self.new }
         ensures stop { IfErr result (λ stop. (name : ℕ → Sum) → StopsBy (constants
             (rows_among (facts_in name self.old ++ row_fact row.now ∷ []))) stop) }
     {
@@ -132,6 +136,7 @@ impl PathState {
         ensures objects { objects_in self.new ≡ objects_in self.old }
         ensures limits { (terms_of self.new.rows ≡ terms_of self.old.rows)
             × (self.new.rows.pivots ≡ self.old.rows.pivots) × (self.new.objects.count ≡ self.old.objects.count) }
+        ensures handed { KeepsHanded self.old self.new }
         ensures clash { IfOk result (λ clash. IfSome clash (λ p. (name : ℕ → Sum)
             → Clashes (facts_in name self.new) (clash_of p))) }
     {
@@ -167,6 +172,7 @@ impl PathState {
             ++ record { left = left; right = right; one = one; number = length self.old.steps + 1 } ∷ []) }
         ensures limits { (terms_of self.new.rows ≡ terms_of self.old.rows)
             × (self.new.rows.pivots ≡ self.old.rows.pivots) × (self.new.objects.count ≡ self.old.objects.count) }
+        ensures handed { KeepsHanded self.old self.new }
         ensures clash { IfOk result (λ clash. IfSome clash (λ p. (name : ℕ → Sum)
             → Clashes (facts_in name self.new) (clash_of p))) }
         ensures apart { IfOk result (λ clash. IfNone clash (NoObjectsClash self.new)) }
@@ -199,6 +205,7 @@ impl PathState {
         ensures facts { (name : ℕ → Sum) → facts_in name self.new ≡ take mark.0 (facts_in name self.old) }
         ensures limits { (terms_of self.new.rows ≡ terms_of self.old.rows)
             × (self.new.rows.pivots ≡ self.old.rows.pivots) × (self.new.objects.count ≡ self.old.objects.count) }
+        ensures handed { KeepsHanded self.old self.new }
     {
         let count = mark.0 as usize;
         if let Some(step) = self.steps.get(count) {
@@ -225,8 +232,10 @@ impl PathState {
         ensures flags { IfOk result (λ clash. IfNone clash ((name : ℕ → Sum)
             → AllFlagsHold self.new.flags (facts_in name self.new))) }
         ensures apart { IfOk result (λ clash. IfNone clash (NoObjectsClash self.new)) }
-        ensures stop { IfErr result (λ stop. (name : ℕ → Sum) → HasStops self.old.rows.pivots
-            (facts_in name self.old) stop) }
+        ensures handed { (name : ℕ → Sum) → HandsMore (Stands (rows_among (facts_in name self.old))) self.old self.new }
+        ensures stop { IfErr result (λ stop. (name : ℕ → Sum) (ever : List Row) → HasHanded self.old ever
+            → HasStops (terms_of self.old.rows) self.old.rows.pivots ever
+            (Stands (rows_among (facts_in name self.old))) (facts_in name self.old) stop) }
     {
         if let Some(clash) = self.clash {
             return Ok(Some(CaseProof::Flags(clash.first, clash.second)));

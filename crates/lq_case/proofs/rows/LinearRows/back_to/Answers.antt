@@ -1,6 +1,8 @@
-use Rattle.std.proofs.Common.{◌≡◌, ◌∙◌, ap, sym, subst, arith, length, take}
+use Rattle.std.proofs.Common.{◌≡◌, ◌∙◌, List, ap, sym, subst, arith, length, take}
+use Rattle.lq_linear.specs.Row.{Row}
 use Rattle.lq_case.specs.RowState.{RowState}
-use Rattle.lq_case.specs.Stored.{MayBeFilled, tagged_rows}
+use Rattle.lq_case.specs.Stored.{MayBeFilled, WasHanded, tagged_rows}
+use Rattle.lq_case.proofs.Handing.{first_handed}
 use Rattle.lq_case.proofs.Keeping.{filled_first}
 use Rattle.lq_case.proofs.Kept.{tagged-length, tagged-take}
 use Rattle.lq_case.proofs.rows.LinearRows.back_to.Goals as goal
@@ -24,3 +26,8 @@ invariant_of-self c =
 pub returns-clause-rows : goal.returns-clause-rows
 returns-clause-rows c =
     ap tagged_rows c.keep.ensures.rows ∙ tagged-take c.args.mark.0 c.self.inside.rows.items ∙ ap (λ (s : RowState). take c.args.mark.0 s.rows) c.self.view_is
+
+pub returns-clause-handed : goal.returns-clause-handed
+returns-clause-handed c =
+    subst (λ (s : RowState). (ever : List Row) → WasHanded s.tableau ever → WasHanded c.keep_first.new.tableau ever) c.self.view_is
+    (first_handed c.args.mark.0 c.self.inside.tableau c.keep_first.new.tableau c.keep_first.ensures)

@@ -1,9 +1,11 @@
-use Rattle.std.proofs.Common.{◌≡◌, ◌∙◌, refl, sym, subst}
+use Rattle.std.proofs.Common.{◌≡◌, ◌∙◌, List, refl, rules, sym, subst}
 use Rattle.std.proofs.lemmas.Result.{err_from_is_err_and}
+use Rattle.lq_linear.specs.Row.{Row}
 use Rattle.lq_combine.specs.TreeView.{multiplier_items, multiplier_views}
 use Rattle.lq_diff.specs.Table.{table_point, table_rows}
-use Rattle.lq_case.specs.RowState.{RowState, MayStop}
-use Rattle.lq_case.specs.Stored.{MayBeFilled, SolvesBy, tagged_rows}
+use Rattle.lq_case.specs.RowState.{RowState, MayStop, terms_of}
+use Rattle.lq_case.specs.Stored.{HandsMore, MayBeFilled, SolvesBy, Stands, StopsInTableau, WasHanded, tagged_rows}
+use Rattle.lq_case.proofs.Handing.{hands_kept}
 use Rattle.lq_case.proofs.Keeping.{kept_again, kept_clash, held, kept_solves, stops_distances, stops_tableau}
 use Rattle.lq_case.proofs.Nearing.{none_of, not_all}
 use Rattle.lq_case.proofs.rows.LinearRows.check.Goals as goal
@@ -11,8 +13,9 @@ use Rattle.lq_case.proofs.rows.LinearRows.check.Goals as goal
 pub returns-in_err-clash-clause-stop : goal.returns-in_err-clash-clause-stop
 returns-in_err-clash-clause-stop c =
     let p = err_from_is_err_and c.from_residual.result c.from_residual.ensures.1 in
-    let s = stops_distances c.self.inside.pivots c.self.inside.rows.items c.self.inside.odd.items c.self.inside.distances c.in_err-clash.field-0.0 c.self.invariant.1.kept c.in_err-clash.ensures.stop in
-    rw (p.1, p.2) (subst (λ (s : RowState). MayStop s.pivots s.rows c.in_err-clash.field-0.0) c.self.view_is s)
+    rw (p.1, p.2) (subst (λ (s : RowState). (ever : List Row) → WasHanded s.tableau ever → MayStop (terms_of s) s.pivots ever (Stands s.rows) s.rows c.in_err-clash.field-0.0) c.self.view_is
+    (λ ever h. stops_distances c.self.inside.distances.terms c.self.inside.pivots ever c.self.inside.rows.items c.self.inside.odd.items c.self.inside.distances c.in_err-clash.field-0.0 c.self.invariant.1.kept
+    c.in_err-clash.ensures.stop))
 
 pub returns-in-Some-clause-some : goal.returns-in-Some-clause-some
 returns-in-Some-clause-some c =
@@ -48,9 +51,12 @@ returns-then-all_hold-clause-none c =
 pub returns-in_err-clash-2-clause-stop : goal.returns-in_err-clash-2-clause-stop
 returns-in_err-clash-2-clause-stop c =
     let p = err_from_is_err_and c.from_residual-in_err-clash-2.result c.from_residual-in_err-clash-2.ensures.1 in
-    let s = stops_tableau c.self.inside.pivots c.self.inside.rows.items c.self.inside.odd.items c.self.inside.distances c.in_err-clash-2.field-0.0 c.self.invariant.1.kept
-    (λ e. let t = c.all_hold.ensures.none (c.deref-2.ensures.value ∙ e) in let f = c.if-all_hold.false in absurd (cc)) c.in_err-clash-2.ensures.stop in
-    rw (p.1, p.2) (subst (λ (s : RowState). MayStop s.pivots s.rows c.in_err-clash-2.field-0.0) c.self.view_is s)
+    let stop = c.in_err-clash-2.field-0.0 in
+    rw (p.1, p.2) (subst (λ (s : RowState). (ever : List Row) → WasHanded s.tableau ever → MayStop (terms_of s) s.pivots ever (Stands s.rows) s.rows stop) c.self.view_is
+    (λ ever h. stops_tableau c.self.inside.distances.terms c.self.inside.pivots ever c.self.inside.rows.items c.self.inside.odd.items c.self.inside.distances stop c.self.invariant.1.kept
+    (λ e. let t = c.all_hold.ensures.none (c.deref-2.ensures.value ∙ e) in let f = c.if-all_hold.false in absurd (cc))
+    (subst (λ n. StopsInTableau n c.self.inside.pivots ever (Stands (tagged_rows c.self.inside.rows.items)) stop) (sym c.self.invariant.0)
+    (subst (λ l. StopsInTableau c.self.inside.terms c.self.inside.pivots ever (Stands (tagged_rows l)) stop) c.deref-3.ensures.value (c.in_err-clash-2.ensures.stop ever h)))))
 
 pub invariant_of-self-then-is_none : goal.invariant_of-self-then-is_none
 invariant_of-self-then-is_none c =
@@ -69,3 +75,32 @@ invariant_of-self-then-is_none c =
         );
       },
     )
+
+-- ---- what the tableau is handed
+
+pub returns-in_err-clash-clause-handed : goal.returns-in_err-clash-clause-handed
+returns-in_err-clash-clause-handed c =
+    subst (λ (s : RowState). HandsMore (Stands s.rows) s.tableau c.self.inside.tableau) c.self.view_is
+    (hands_kept (Stands (tagged_rows c.self.inside.rows.items)) c.self.inside.tableau c.self.inside.tableau (λ ever h. h))
+
+pub returns-in-Some-clause-handed : goal.returns-in-Some-clause-handed
+returns-in-Some-clause-handed c =
+    subst (λ (s : RowState). HandsMore (Stands s.rows) s.tableau c.self.inside.tableau) c.self.view_is
+    (hands_kept (Stands (tagged_rows c.self.inside.rows.items)) c.self.inside.tableau c.self.inside.tableau (λ ever h. h))
+
+pub returns-then-all_hold-clause-handed : goal.returns-then-all_hold-clause-handed
+returns-then-all_hold-clause-handed c =
+    subst (λ (s : RowState). HandsMore (Stands s.rows) s.tableau c.self.inside.tableau) c.self.view_is
+    (hands_kept (Stands (tagged_rows c.self.inside.rows.items)) c.self.inside.tableau c.self.inside.tableau (λ ever h. h))
+
+pub returns-in_err-clash-2-clause-handed : goal.returns-in_err-clash-2-clause-handed
+returns-in_err-clash-2-clause-handed c =
+    subst (λ (s : RowState). HandsMore (Stands s.rows) s.tableau c.decide_by.new.tableau) c.self.view_is
+    (subst (λ l. HandsMore (Stands (tagged_rows l)) c.self.inside.tableau c.decide_by.new.tableau) c.deref-3.ensures.value c.decide_by.ensures.handed)
+
+pub returns-clause-handed : goal.returns-clause-handed
+returns-clause-handed c =
+    let same : c.decide_by.new.tableau ≡ c.if-is_none.self.tableau = search rules in
+    subst (λ t. HandsMore (Stands c.args.self.now.rows) c.args.self.now.tableau t) same
+    (subst (λ (s : RowState). HandsMore (Stands s.rows) s.tableau c.decide_by.new.tableau) c.self.view_is
+    (subst (λ l. HandsMore (Stands (tagged_rows l)) c.self.inside.tableau c.decide_by.new.tableau) c.deref-3.ensures.value c.decide_by.ensures.handed))
