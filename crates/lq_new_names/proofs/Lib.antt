@@ -1,1 +1,3 @@
+pub mod Wider
+pub mod Fields
 pub mod Parting

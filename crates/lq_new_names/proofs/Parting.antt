@@ -1,81 +1,72 @@
 -- Subtypings of types in scope are apart.
-use Rattle.std.proofs.Common.{◌≡◌, ℕ, ◌||◌, ◌==◌, Bool, true, false, cond, List, [], ◌∷◌, ◌⊎◌, inl, inr, Some, None, refl, sym, subst}
+use Rattle.std.proofs.Common.{◌≡◌, ℕ, suc, ◌≤◌, ◌==◌, Bool, true, false, cond, [], ◌∷◌, ◌⊎◌, inl, inr, Some, None, refl, sym, subst, arith}
 use Rattle.std.proofs.lemmas.Bool.{eq-eqb}
-use Rattle.lq_pred.specs.declared.symbol.Symbol.{Symbol}
 use Rattle.lq_pred.specs.declared.symbol.Symbol.TheVariants as symbol
-use Rattle.lq_pred.specs.Formula.{Formula, truth, falsity, flag, compare, objects, negation, conjunction, disjunction, equivalence}
-use Rattle.lq_pred.specs.Sum.{same_symbol}
 use Rattle.lq_model.specs.Core.{Value}
-use Rattle.lq_parts.specs.Assignment.{Assignment, parts_under}
-use Rattle.lq_parts.specs.Part.{Scopes, Parts}
+use Rattle.lq_parts.specs.Assignment.{Assignment}
+use Rattle.lq_parts.specs.Part.{Scopes}
 use Rattle.lq_parts.specs.Substitution.{swap}
-use Rattle.lq_refined.specs.Context.{Context, name, guard, IsNew}
+use Rattle.lq_refined.specs.Context.{Context, name}
 use Rattle.lq_refined.specs.Operations.{symbol_of, atom_of, type_by, renamed}
-use Rattle.lq_refined.specs.Refined.{Refined, int_with, bool_with, unit_type, function, tuple_of, array_with, data_with, map_with, type_variable, Kind, number, truth_value, object, other, kind, top}
-use Rattle.lq_subtype.specs.Subtype.{Setting, IsSubtype, sub, IsInside, in_int, in_bool, in_unit, in_variable, in_function, in_tuple, in_array, in_data, in_map}
+use Rattle.lq_refined.specs.Refined.{Refined, Refineds, int_with, bool_with, unit_type, function, tuple_of, array_with, data_with, map_with, type_variable, none, more, Kind, kind}
+use Rattle.lq_subtype.specs.Subtype.{Setting, IsSubtype, sub, IsInside, in_int, in_bool, in_unit, in_variable, in_function, in_tuple, in_array, in_data, in_map, AreSubtypes, sub_none, sub_more, AreComponents, component_none, component_more}
 use Rattle.lq_inhabits.specs.Truth.{Givens, given, Objects, Scene}
 use Rattle.lq_inhabits.specs.Shut.{shut, Shuts}
 use Rattle.lq_inhabits.specs.Below.{Below}
-use Rattle.lq_included.specs.Apart.{Turns, Apart, ApartInside}
+use Rattle.lq_included.specs.Apart.{Turns, Apart, ApartInside, AllApart, ApartComponents}
 use Rattle.lq_included.specs.Laws.{IsScene}
 use Rattle.lq_included.specs.Symbols.{Symbols, with_symbol, TypeOn}
-use Rattle.lq_runs.specs.Closed.{names_in, with_value, SortedOn, EachSorted, PartsSorted, IsTypeOver, IsClosed}
-use Rattle.lq_runs.proofs.Closing.{Within, within_with, with_within, sum_more, type_more, agree_new, may_bind}
+use Rattle.lq_runs.specs.Closed.{names_in, IsTypeOver, IsClosed}
+use Rattle.lq_runs.proofs.Closing.{Within, within_with, with_within, agree_new, may_bind}
 use Rattle.lq_runs.proofs.Lower.{Lower}
-use Rattle.lq_new_names.specs.NewNames.{IsInScope, HasNoNames}
+use Rattle.lq_new_names.specs.NewNames.{HasNoPositions, IsInScope, ComponentsInScope, ArgumentsInScope, HasNoNames, HaveNoNames}
+use Rattle.lq_new_names.proofs.Fields.{AllOver, both_false, less_apart, cells_apart}
+use Rattle.lq_new_names.proofs.Wider.{over_more, new_of}
 
 -- ---- more symbols
 
-sorted_more : (P Q R T : Symbols) → Within P Q → Within R T → (p : Formula) → SortedOn P R p → SortedOn Q T p
-sorted_more P Q R T f g truth h = tt
-sorted_more P Q R T f g falsity h = tt
-sorted_more P Q R T f g (flag x) h = g x h
-sorted_more P Q R T f g (compare o a b) h = (sum_more P Q f a h.0, sum_more P Q f b h.1)
-sorted_more P Q R T f g (objects a b) h = (sum_more P Q f a h.0, sum_more P Q f b h.1)
-sorted_more P Q R T f g (negation p) h = sorted_more P Q R T f g p h
-sorted_more P Q R T f g (conjunction p q) h = (sorted_more P Q R T f g p h.0, sorted_more P Q R T f g q h.1)
-sorted_more P Q R T f g (disjunction p q) h = (sorted_more P Q R T f g p h.0, sorted_more P Q R T f g q h.1)
-sorted_more P Q R T f g (equivalence p q) h = (sorted_more P Q R T f g p h.0, sorted_more P Q R T f g q h.1)
+-- where no position comes in
+mutual
+  scope_more : (S : Scene) (P Q : Symbols) → Within P Q → (HasNoPositions P → HasNoPositions Q) → (t : Refined) → HasNoNames t → IsInScope S P t
+      → IsInScope S Q t
+  scope_more S P Q f k (int_with p) n h = tt
+  scope_more S P Q f k (bool_with p) n h = tt
+  scope_more S P Q f k unit_type n h = tt
+  scope_more S P Q f k (function None a b) n h =
+      (over_more S P Q f a h.0, scope_more S P Q f k a n.0 h.1, over_more S P Q f b h.2, scope_more S P Q f k b n.1 h.3)
+  scope_more S P Q f k (function (Some x) a b) n h = absurd n
+  scope_more S P Q f k (tuple_of ts) n h = (k h.0, components_more S P Q f k P Q f 0 ts n h.1)
+  scope_more S P Q f k (array_with e p) n h = (over_more S P Q f e h.0, scope_more S P Q f k e n h.1)
+  scope_more S P Q f k (data_with d ts m p) n h = (k h.0, arguments_more S P Q f k ts n h.1, h.2)
+  scope_more S P Q f k (map_with e p) n h = tt
+  scope_more S P Q f k (type_variable i) n h = tt
 
-each_more : (P Q R T : Symbols) → Within P Q → Within R T → (ps : List Formula) → EachSorted P R ps → EachSorted Q T ps
-each_more P Q R T f g [] h = tt
-each_more P Q R T f g (p ∷ ps) h = (sorted_more P Q R T f g p h.0, each_more P Q R T f g ps h.1)
+  components_more : (S : Scene) (P Q : Symbols) → Within P Q → (HasNoPositions P → HasNoPositions Q) → (R T : Symbols) → Within R T → (j : ℕ)
+      (ts : Refineds) → HaveNoNames ts → ComponentsInScope S P R j ts → ComponentsInScope S Q T j ts
+  components_more S P Q f k R T g j none n h = tt
+  components_more S P Q f k R T g j (more t ts) n h =
+      let x = symbol.Position (suc j) in (
+        over_more S R T g t h.0,
+        scope_more S P Q f k t n.0 h.1,
+        components_more S P Q f k (with_symbol R x) (with_symbol T x) (with_within R T x g) (suc j) ts n.1 h.2,
+      )
 
-parts_more : (A : Assignment) (k : Kind) (P Q : Symbols) → Within P Q → (ps : Parts) → PartsSorted A k P ps → PartsSorted A k Q ps
-parts_more A number P Q f ps h = each_more (with_value P) (with_value Q) P Q (with_within P Q symbol.Value f) f (parts_under A ps) h
-parts_more A truth_value P Q f ps h = each_more P Q (with_value P) (with_value Q) f (with_within P Q symbol.Value f) (parts_under A ps) h
-parts_more A object P Q f ps h = each_more (with_value P) (with_value Q) P Q (with_within P Q symbol.Value f) f (parts_under A ps) h
-parts_more A other P Q f ps h = each_more (with_value P) (with_value Q) P Q (with_within P Q symbol.Value f) f (parts_under A ps) h
+  arguments_more : (S : Scene) (P Q : Symbols) → Within P Q → (HasNoPositions P → HasNoPositions Q) → (ts : Refineds) → HaveNoNames ts
+      → ArgumentsInScope S P ts → ArgumentsInScope S Q ts
+  arguments_more S P Q f k none n h = tt
+  arguments_more S P Q f k (more t ts) n h =
+      (over_more S P Q f t h.0, scope_more S P Q f k t n.0 h.1, arguments_more S P Q f k ts n.1 h.2)
 
-module _ (S : Scene) (P Q : Symbols) (f : Within P Q) where
-  over_more : (t : Refined) → IsTypeOver S P t → IsTypeOver S Q t
-  over_more t h = (type_more S.assignment t P Q f h.0, parts_more S.assignment (kind t) P Q f (top t) h.1)
+-- a name is no position
+named_more : (S : Scene) (P : Symbols) (x : ℕ) (t : Refined) → HasNoNames t → IsInScope S P t → IsInScope S (with_symbol P (symbol_of x)) t
+named_more S P x t n h =
+    scope_more S P (with_symbol P (symbol_of x)) (within_with P (symbol_of x)) (λ clean k. both_false (P (symbol.Position k)) false (clean k) refl) t n h
 
-  scope_more : (t : Refined) → HasNoNames t → IsInScope S P t → IsInScope S Q t
-  scope_more (int_with p) n h = tt
-  scope_more (bool_with p) n h = tt
-  scope_more unit_type n h = tt
-  scope_more (function None a b) n h = (over_more a h.0, scope_more a n.0 h.1, over_more b h.2, scope_more b n.1 h.3)
-  scope_more (function (Some x) a b) n h = absurd n
-  scope_more (tuple_of ts) n h = absurd n
-  scope_more (array_with e p) n h = (over_more e h.0, scope_more e n h.1)
-  scope_more (data_with d ts m p) n h = absurd n
-  scope_more (map_with e p) n h = tt
-  scope_more (type_variable i) n h = tt
+all_over : (S : Scene) (P : Symbols) (ts : Refineds) → ArgumentsInScope S P ts → AllOver S P ts
+all_over S P none h = tt
+all_over S P (more t ts) h = (h.0, all_over S P ts h.2)
 
--- what is none of the names is new
-new_of : (Γ : Context) (x : Symbol) → names_in Γ x ≡ false → IsNew x Γ
-new_of [] x h = tt
-new_of (name y t ∷ Γ) x h = (second (names_in Γ x) (same_symbol y x) h, new_of Γ x (first (names_in Γ x) (same_symbol y x) h))
-  where
-    first : (a b : Bool) → a || b ≡ false → a ≡ false
-    first true b h = h
-    first false b h = refl
-
-    second : (a b : Bool) → a || b ≡ false → b ≡ false
-    second true b h = absurd (cc)
-    second false b h = h
-new_of (guard p ∷ Γ) x h = new_of Γ x h
+-- ---- names of arguments
 
 same_name : (scopes : Scopes) (x : ℕ) (k : Kind) (t : Refined) → renamed scopes (Some x) (Some x) k t ≡ t
 same_name scopes x k t = chosen (x == x) (eq-eqb x x refl)
@@ -109,6 +100,16 @@ results_named : (a b c d : Refined) → HasNoNames (function None a b) ⊎ HasNo
 results_named a b c d (inl h) = inl h.1
 results_named a b c d (inr h) = inr h.1
 
+first_named : (l r : Refined) (ls rs : Refineds) → HaveNoNames (more l ls) ⊎ HaveNoNames (more r rs) → HasNoNames l ⊎ HasNoNames r
+first_named l r ls rs (inl h) = inl h.0
+first_named l r ls rs (inr h) = inr h.0
+
+rest_named : (l r : Refined) (ls rs : Refineds) → HaveNoNames (more l ls) ⊎ HaveNoNames (more r rs) → HaveNoNames ls ⊎ HaveNoNames rs
+rest_named l r ls rs (inl h) = inl h.1
+rest_named l r ls rs (inr h) = inr h.1
+
+-- ---- subtypings
+
 abbrev scene : Setting → Assignment → Objects → Scene
 scene P A O = record { setting = P; assignment = A; objects = O }
 
@@ -136,8 +137,10 @@ module _ (law : Lower) (P : Setting) (A : Assignment) (O : Objects) (is : IsScen
     inside_apart in_unit c f g n = tt
     inside_apart in_variable c f g n = tt
     inside_apart (in_map s) c f g n = tt
-    inside_apart (in_tuple s) c f g n = absurd f
-    inside_apart (in_data s k) c f g n = absurd f
+    inside_apart (in_tuple {Γ = Γ} s) c f g n = components_apart (names_in Γ) s c c (λ i le. f.0 (suc i)) f.1 g.1 n
+    inside_apart (in_data {Γ = Γ} {d = d} {ls = ls} {m = m} {n = e} s k) c f g n =
+        let S = scene P A O in
+        (arguments_apart s c f.1 g.1 n, cells_apart law S is Γ c f.0 d ls m e (all_over S (names_in Γ) ls f.1) f.2 g.2)
     inside_apart (in_array {e = a} {f = b} l r) c f g n =
         (subtype_apart l c f.1 g.1 n, subtype_apart r c g.1 f.1 (turned (HasNoNames a) (HasNoNames b) n))
     inside_apart (in_function {Γ = Γ} {x = None} {y = None} {a = a} {b = b} {c = d} {d = e} l r) c f g n =
@@ -146,9 +149,9 @@ module _ (law : Lower) (P : Setting) (A : Assignment) (O : Objects) (is : IsScen
         let S = scene P A O in
         let closed = closed_with Γ x d c f.0 g.0 in
         let N = with_symbol (names_in Γ) (symbol_of x) in
-        let none = left_named a b x d e n in (
-          subtype_apart l c g.1 f.2 (inl none.0),
-          subtype_apart r closed (subst (IsInScope S N) (sym (same_name P.scopes x (kind a) b)) f.4) (scope_more S (names_in Γ) N (within_with (names_in Γ) (symbol_of x)) e none.1 g.3) (inr none.1),
+        let free = left_named a b x d e n in (
+          subtype_apart l c g.1 f.2 (inl free.0),
+          subtype_apart r closed (subst (IsInScope S N) (sym (same_name P.scopes x (kind a) b)) f.4) (named_more S (names_in Γ) x e free.1 g.3) (inr free.1),
           may_bind law S is Γ (symbol_of x) d closed,
           same_turns x d (kind a) b,
           (λ σ by v i z. (thin_name Γ x e f.0 g.2.0 σ by v).0),
@@ -156,13 +159,37 @@ module _ (law : Lower) (P : Setting) (A : Assignment) (O : Objects) (is : IsScen
     inside_apart (in_function {Γ = Γ} {x = None} {y = Some y} {a = a} {b = b} {c = d} {d = e} l r) c f g n =
         let S = scene P A O in
         let closed = closed_with Γ y d c g.0 g.1 in
-        let N = with_symbol (names_in Γ) (symbol_of y) in
-        let none = right_named a b y d e n in (
-          subtype_apart l c g.2 f.1 (inr none.0),
-          subtype_apart r closed (scope_more S (names_in Γ) N (within_with (names_in Γ) (symbol_of y)) b none.1 f.3) g.4 (inl none.1),
+        let free = right_named a b y d e n in (
+          subtype_apart l c g.2 f.1 (inr free.0),
+          subtype_apart r closed (named_more S (names_in Γ) y b free.1 f.3) g.4 (inl free.1),
           may_bind law S is Γ (symbol_of y) d closed,
           (λ σ by v i z. (thin_name Γ y b g.0 f.2.0 σ by v).1),
           (λ σ by v i z k W u h. h),
         )
     inside_apart (in_function {Γ = Γ} {x = Some x} {y = Some y} {a = a} {b = b} {c = d} {d = e} l r) c f g n =
         absurd (neither x y a b d e n)
+
+    -- components, with names for the earlier ones
+    components_apart : {Γ Δ : Context} {k : ℕ} {ls rs : Refineds} (R : Symbols) (s : AreComponents P A Γ Δ k ls rs) → IsClosed (scene P A O) Γ
+        → IsClosed (scene P A O) Δ → ((i : ℕ) → k ≤ i → names_in Δ (symbol.Position (suc i)) ≡ false)
+        → ComponentsInScope (scene P A O) (names_in Γ) (names_in Δ) k ls → ComponentsInScope (scene P A O) (names_in Γ) R k rs
+        → HaveNoNames ls ⊎ HaveNoNames rs → ApartComponents (scene P A O) s
+    components_apart R component_none c d new f g n = tt
+    components_apart R (component_more {Δ = Δ} {k = k} {l = l} {r = r} {ls = ls} {rs = rs} t i rest) c d new f g n =
+        let x = symbol.Position (suc k) in
+        let closed : IsClosed (scene P A O) (name x l ∷ Δ) = (refl, new_of Δ x (new k (omega arith)), f.0, d) in (
+          inside_apart i c f.1 g.1 (first_named l r ls rs n),
+          may_bind law (scene P A O) is Δ x l closed,
+          components_apart (with_symbol R x) rest c closed
+              (λ j le.
+              both_false (names_in Δ (symbol.Position (suc j))) (suc k == suc j) (new j (omega (arith, le)))
+              (less_apart (suc k) (suc j) (omega (arith, le))))
+              f.2 g.2 (rest_named l r ls rs n),
+        )
+
+    arguments_apart : {Γ : Context} {ls rs : Refineds} (s : AreSubtypes P A Γ ls rs) → IsClosed (scene P A O) Γ
+        → ArgumentsInScope (scene P A O) (names_in Γ) ls → ArgumentsInScope (scene P A O) (names_in Γ) rs → HaveNoNames ls ⊎ HaveNoNames rs
+        → AllApart (scene P A O) s
+    arguments_apart sub_none c f g n = tt
+    arguments_apart (sub_more {l = l} {r = r} {ls = ls} {rs = rs} s rest) c f g n =
+        (subtype_apart s c f.1 g.1 (first_named l r ls rs n), arguments_apart rest c f.2 g.2 (rest_named l r ls rs n))
