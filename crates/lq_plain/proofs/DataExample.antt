@@ -14,7 +14,7 @@ list_plain = (
   (
     (
       (tt, tt, ((refl, refl), tt, tt)),
-      (tt, (((tt, ((tt, (tt, tt)), (tt, tt)), tt), (tt, tt), (λ c j i. tt), (λ c j i. tt)), tt)),
+      (inl tt, (inl ((tt, ((tt, (tt, tt)), (tt, tt)), tt), (tt, tt), (λ c j i. tt), (λ c j i. tt)), tt)),
       knows,
       (λ k e. at_name 8 filled_list refl refl k e),
     ),
@@ -22,13 +22,13 @@ list_plain = (
     (
       (
         (refl, refl),
-        tt,
+        inl tt,
         (tt, (tt, tt)),
         (
           (knows, listed, (λ c k h. all_good _ c k h)),
           (λ c.
-              where_any (7 == c) _ _ ((((refl, tt), tt), list_closed), ((tt, tt), tt))
-              (where_any (8 == c) _ _ ((((refl, (tt, refl)), tt), (refl, (refl, (refl, (refl, tt))), (((tt, tt, tt), tt), tt), (refl, (refl, (refl, tt)), ((tt, tt), tt), list_closed))), ((refl, refl), tt)) tt)),
+              where_any (7 == c) _ _ ((λ k. (((refl, tt), tt), list_closed)), ((tt, tt), inl tt))
+              (where_any (8 == c) _ _ ((λ k. (((refl, (tt, refl)), tt), (refl, (refl, (refl, (refl, tt))), (((tt, tt, tt), tt), tt), (refl, (refl, (refl, tt)), ((tt, tt), tt), list_closed)))), ((refl, refl), inl tt)) tt)),
           tt,
         ),
       ),
@@ -44,11 +44,11 @@ tuple_plain = (
   (
     (
       (refl, refl),
-      (tt, (tt, tt)),
+      inl (tt, (tt, tt)),
       (tt, tt),
       (
         (((refl, tt), tt), (((refl, tt), tt), tt)),
-        ((refl, (refl, (refl, tt)), ((tt, ((refl, tt), tt)), ((refl, tt), tt)), (refl, (refl, tt), ((tt, ((refl, tt), tt)), ((refl, tt), tt)), pair_closed)), ((refl, refl), tt)),
+        ((λ k. (refl, (refl, (refl, tt)), ((tt, ((refl, tt), tt)), ((refl, tt), tt)), (refl, (refl, tt), ((tt, ((refl, tt), tt)), ((refl, tt), tt)), pair_closed))), ((refl, refl), inl tt)),
       ),
     ),
     tt,

@@ -32,7 +32,7 @@ use Rattle.lq_calls.specs.Operands.{KindsAgree, AllKindsAgree, IsUsable}
 use Rattle.lq_tuples.specs.Tuples.{HasComponentsOver}
 use Rattle.lq_safe.proofs.Parts.{obeys_parts, where_true, where_false, here_true, here_false, where_both, case_parts, default_parts, first_parts, case_of}
 use Rattle.lq_pures.proofs.Values.{sum_over, condition_guards}
-use Rattle.lq_plain.specs.Plain.{IsRecursionOver, IsFlat, AreFlat, IsMatched, elements_type, IsGivenOver, ArePlain, IsPlain, IsPlainBlock, IsPlainCase, IsPlainDefault, IsPlainFirst, IsPlainGiven, IsPlainProgram}
+use Rattle.lq_plain.specs.Plain.{IsRecursionOver, IsFlat, AreFlat, IsMatched, elements_type, IsGivenOver, ArePlain, IsArmClosed, IsPlain, IsPlainBlock, IsPlainCase, IsPlainDefault, IsPlainFirst, IsPlainGiven, IsPlainProgram}
 use Rattle.lq_plain.proofs.Datatypes.{flow_apart, IsClean, clean_bind, clean_arm, within_arm, arguments_apart}
 use Rattle.lq_refined.specs.Operations.{symbol_of}
 use Rattle.lq_safe.specs.Programs.{IsCoveredProgram, IsScopedGiven, IsScopedProgram}
@@ -114,6 +114,10 @@ matched_usable S Γ (array_with e p) m o = tt
 matched_usable S Γ (data_with d ts m2 p) m o = tt
 matched_usable S Γ (map_with e p) m o = absurd m
 matched_usable S Γ (type_variable i) m o = absurd m
+
+matched_by : (S : Scene) (Γ : Context) (t : Refined) → IsMatched t ⊎ IsUsable S Γ t → TypeOn S.assignment t (names_in Γ) → IsUsable S Γ t
+matched_by S Γ t (inl m) o = matched_usable S Γ t m o
+matched_by S Γ t (inr m) o = m
 
 -- ---- quotients and remainders
 
@@ -282,7 +286,7 @@ module _ (law : Lower) (new : SubtypesAreApart) (P : Basis) (A : Assignment) (O 
     operation_scoped Γ c n (match_on k u arms) t h p x =
         let S = scene_of P A O in
         let own = type_in Γ (symbol_of u.name) in
-        (p.0, matched_usable S Γ own p.1 (type_known S Γ c (symbol_of u.name) p.0.0), x, match_by Γ u arms t (obeys_parts P A h) p.3 (λ i r q. case_scoped Γ c n u i (has_default arms) arms t x r q) (λ r q. default_scoped Γ c n u arms t x r q) (λ r q. first_scoped Γ c n u arms t x r q))
+        (p.0, matched_by S Γ own p.1 (type_known S Γ c (symbol_of u.name) p.0.0), x, match_by Γ u arms t (obeys_parts P A h) p.3 (λ i r q. case_scoped Γ c n u i (has_default arms) arms t x r q) (λ r q. default_scoped Γ c n u arms t x r q) (λ r q. first_scoped Γ c n u arms t x r q))
     operation_scoped Γ c n (call g a) t h p x =
         (p.0, p.1, (λ d. flow_apart law (scene_of P A O) is new Γ c n (pure_type P Γ a) (argument_of (pure_type P Γ g)) p.2 d))
     operation_scoped Γ c n (tuple es) t h p x = p
@@ -321,19 +325,17 @@ module _ (law : Lower) (new : SubtypesAreApart) (P : Basis) (A : Assignment) (O 
     case_scoped : (Γ : Context) → Closed Γ → IsClean Γ → (u : Use) (i : ℕ) (d : Bool) (arms : Arms) (t : Refined) → TypeOn A t (names_in Γ) → IsCase P A Γ u d i t arms → IsPlainCase P A O Γ u i t arms → IsScopedCase P A O Γ u i t arms
     case_scoped Γ c n u i d no_arms t on r p = tt
     case_scoped Γ c n u i d (arm q b arms) t on r p =
-        let S = scene_of P A O in
-        where_both (is_arm_of i q) (Against P A (in_arm P Γ u q) b t) (IsCase P A Γ u d i t arms) (IsClosed S (in_arm P Γ u q) × IsPlainBlock P A O (in_arm P Γ u q) b t) (IsPlainCase P A O Γ u i t arms) (IsClosed S (in_arm P Γ u q) × IsScopedBlock P A O (in_arm P Γ u q) b t) (IsScopedCase P A O Γ u i t arms) (λ x y. (y.0, block_scoped (in_arm P Γ u q) y.0 (clean_arm P Γ u q n) b t (type_more A t (names_in Γ) (names_in (in_arm P Γ u q)) (within_arm P Γ u q) on) x y.1)) (λ x y. case_scoped Γ c n u i d arms t on x y) (case_parts P A r) p
+        where_both (is_arm_of i q) (Against P A (in_arm P Γ u q) b t) (IsCase P A Γ u d i t arms) (IsArmClosed P A O Γ u q × IsPlainBlock P A O (in_arm P Γ u q) b t) (IsPlainCase P A O Γ u i t arms) (IsClosed (scene_of P A O) (in_arm P Γ u q) × IsScopedBlock P A O (in_arm P Γ u q) b t) (IsScopedCase P A O Γ u i t arms) (λ x y. (y.0 c, block_scoped (in_arm P Γ u q) (y.0 c) (clean_arm P Γ u q n) b t (type_more A t (names_in Γ) (names_in (in_arm P Γ u q)) (within_arm P Γ u q) on) x y.1)) (λ x y. case_scoped Γ c n u i d arms t on x y) (case_parts P A r) p
 
     default_scoped : (Γ : Context) → Closed Γ → IsClean Γ → (u : Use) (arms : Arms) (t : Refined) → TypeOn A t (names_in Γ) → IsDefault P A Γ u arms t → IsPlainDefault P A O Γ u t arms → IsScopedDefault P A O Γ u t arms
     default_scoped Γ c n u no_arms t on r p = tt
     default_scoped Γ c n u (arm q b arms) t on r p =
-        let S = scene_of P A O in
-        where_both (takes_all q) (Against P A (in_arm P Γ u q) b t) (IsDefault P A Γ u arms t) (IsClosed S (in_arm P Γ u q) × IsPlainBlock P A O (in_arm P Γ u q) b t) (IsPlainDefault P A O Γ u t arms) (IsClosed S (in_arm P Γ u q) × IsScopedBlock P A O (in_arm P Γ u q) b t) (IsScopedDefault P A O Γ u t arms) (λ x y. (y.0, block_scoped (in_arm P Γ u q) y.0 (clean_arm P Γ u q n) b t (type_more A t (names_in Γ) (names_in (in_arm P Γ u q)) (within_arm P Γ u q) on) x y.1)) (λ x y. default_scoped Γ c n u arms t on x y) (default_parts P A r) p
+        where_both (takes_all q) (Against P A (in_arm P Γ u q) b t) (IsDefault P A Γ u arms t) (IsArmClosed P A O Γ u q × IsPlainBlock P A O (in_arm P Γ u q) b t) (IsPlainDefault P A O Γ u t arms) (IsClosed (scene_of P A O) (in_arm P Γ u q) × IsScopedBlock P A O (in_arm P Γ u q) b t) (IsScopedDefault P A O Γ u t arms) (λ x y. (y.0 c, block_scoped (in_arm P Γ u q) (y.0 c) (clean_arm P Γ u q n) b t (type_more A t (names_in Γ) (names_in (in_arm P Γ u q)) (within_arm P Γ u q) on) x y.1)) (λ x y. default_scoped Γ c n u arms t on x y) (default_parts P A r) p
 
     first_scoped : (Γ : Context) → Closed Γ → IsClean Γ → (u : Use) (arms : Arms) (t : Refined) → TypeOn A t (names_in Γ) → IsFirst P A Γ u arms t → IsPlainFirst P A O Γ u t arms → IsScopedFirst P A O Γ u t arms
     first_scoped Γ c n u no_arms t on r p = absurd p
     first_scoped Γ c n u (arm q b arms) t on r p =
-        (p.0, block_scoped (in_arm P Γ u q) p.0 (clean_arm P Γ u q n) b t (type_more A t (names_in Γ) (names_in (in_arm P Γ u q)) (within_arm P Γ u q) on) (first_parts P A r) p.1)
+        (p.0 c, block_scoped (in_arm P Γ u q) (p.0 c) (clean_arm P Γ u q n) b t (type_more A t (names_in Γ) (names_in (in_arm P Γ u q)) (within_arm P Γ u q) on) (first_parts P A r) p.1)
 
   -- a recursive function
   recursion_scoped : (Γ : Context) → Closed Γ → IsClean Γ → (g k y : ℕ) (b : Block) → IsRecursionOver P A O Γ g k y → RecursionParts P A Γ g k y b → IsPlainBlock P A O (recursive_context P Γ g k y) b (recursive_type P k y) → IsScopedRecursive P A O Γ g k y b

@@ -15,7 +15,7 @@ use Rattle.lq_checks.specs.Match.{is_data_match, in_arm}
 use Rattle.lq_checks.specs.Operation.{type_of, called_type, built_type, field_types, body_context, body_type, recursive_context, recursive_type, bind, last_context, last_type}
 use Rattle.lq_checks.specs.Pure.{formula_of, type_of_use, pure_type, pure_types}
 use Rattle.lq_checks.specs.Ready.{Where}
-use Rattle.lq_checks.specs.Tree.{passes_on, is_arm_of, takes_all, Use, Pure, Arms, no_arms, arm, Operation, pure, fun, if_else, match_on, call, tuple, build, make, fetch, store, divide, remainder, assert, assert_false, read, print, map_empty, map_add, map_find, Block, last, binding, recursive, Program, no_items, define, define_recursive, run_unit, run_any}
+use Rattle.lq_checks.specs.Tree.{passes_on, is_arm_of, takes_all, Use, Pure, Pattern, Arms, no_arms, arm, Operation, pure, fun, if_else, match_on, call, tuple, build, make, fetch, store, divide, remainder, assert, assert_false, read, print, map_empty, map_add, map_find, Block, last, binding, recursive, Program, no_items, define, define_recursive, run_unit, run_any}
 use Rattle.lq_checks.specs.Typing.{Points, AreTemplates, HasProgram}
 use Rattle.lq_model.specs.Program.{IsSafe}
 use Rattle.lq_inhabits.specs.Truth.{Objects, Scene}
@@ -23,6 +23,7 @@ use Rattle.lq_included.specs.Apart.{CellsOn}
 use Rattle.lq_included.specs.Laws.{IsScene}
 use Rattle.lq_included.specs.Symbols.{Symbols, with_symbol, TypeOn}
 use Rattle.lq_runs.specs.Closed.{names_in, IsTypeOver, IsClosed}
+use Rattle.lq_calls.specs.Operands.{IsUsable}
 use Rattle.lq_new_names.specs.NewNames.{IsInScope, HasNoNames}
 use Rattle.lq_fields.specs.Fields.{KnowsMeasures, IsDatatypeFor}
 use Rattle.lq_pures.specs.Cores.{items_core}
@@ -69,7 +70,7 @@ abbrev pub AreBaseOver : Scene → Symbols → Refineds → Type 0
 AreBaseOver S N none = Unit {0}
 AreBaseOver S N (more t ts) = IsBase t × IsTypeOver S N t × AreBaseOver S N ts
 
--- what may be matched on: a value of a datatype whatever it holds
+-- what may be matched on whatever its names: a value of a datatype whatever it holds, and a tuple without functions
 abbrev pub IsMatched : Refined → Type 0
 IsMatched (data_with d ts m p) = Unit {0}
 IsMatched (int_with p) = Unit {0}
@@ -89,19 +90,24 @@ AreSides S N k (more l ls) none = ⊥
 AreSides S N k (more l ls) (more r rs) =
     IsBase l × IsBase r × IsTypeOver S N l × AreSides S (with_symbol N (symbol.Position (suc k))) (suc k) ls rs
 
--- The two types of a subtyping: the right one is of a base type, or both are arrays of base types, tuples of such, datatypes of such with
--- entries that speak of v and of fields, or functions in scope, one of which has no names of arguments.
+-- The two types of a subtyping of base types: the right one is of a base type, or both are arrays of base types, tuples of such, or datatypes of
+-- such with entries that speak of v and of fields.
+abbrev pub IsBaseFlow : Scene → Symbols → Refined → Refined → Type 0
+IsBaseFlow S N (data_with d ls m p) (data_with e rs n q) = AreBaseOver S N ls × AreBase rs × CellsOn S m × CellsOn S n
+IsBaseFlow S N (tuple_of ls) (tuple_of rs) = AreSides S N 0 ls rs
+IsBaseFlow S N (array_with e p) (array_with f q) = IsBase e × IsBase f
+IsBaseFlow S N l (int_with q) = Unit {0}
+IsBaseFlow S N l (bool_with q) = Unit {0}
+IsBaseFlow S N l unit_type = Unit {0}
+IsBaseFlow S N _ _ = ⊥
+
+-- types in scope, one of which has no names of arguments
+abbrev pub AreInScope : Scene → Symbols → Refined → Refined → Type 0
+AreInScope S N l r = IsTypeOver S N l × IsInScope S N l × IsTypeOver S N r × IsInScope S N r × (HasNoNames l ⊎ HasNoNames r)
+
+-- the two types of a subtyping: either of these
 abbrev pub IsFlow : Scene → Symbols → Refined → Refined → Type 0
-IsFlow S N (data_with d ls m p) (data_with e rs n q) = AreBaseOver S N ls × AreBase rs × CellsOn S m × CellsOn S n
-IsFlow S N (tuple_of ls) (tuple_of rs) = AreSides S N 0 ls rs
-IsFlow S N (array_with e p) (array_with f q) = IsBase e × IsBase f
-IsFlow S N (function x a b) (function y c d) =
-    IsTypeOver S N (function x a b) × IsInScope S N (function x a b) × IsTypeOver S N (function y c d) × IsInScope S N (function y c d)
-    × (HasNoNames (function x a b) ⊎ HasNoNames (function y c d))
-IsFlow S N l (int_with q) = Unit {0}
-IsFlow S N l (bool_with q) = Unit {0}
-IsFlow S N l unit_type = Unit {0}
-IsFlow S N _ _ = ⊥
+IsFlow S N l r = IsBaseFlow S N l r ⊎ AreInScope S N l r
 
 module _ (P : Basis) (A : Assignment) (O : Objects) where
   -- a template whose parts speak of names in scope
@@ -144,6 +150,10 @@ module _ (P : Basis) (A : Assignment) (O : Objects) where
       × IsTypeOver (scene_of P A O) (names_in (bind g (P.template p) Γ)) (argument_of (P.template p))
       × TypeOn A (recursive_type P p y) (names_in (recursive_context P Γ g p y))
 
+  -- the environment of an arm is closed where that of the match is
+  abbrev pub IsArmClosed : Context → Use → Pattern → Type 0
+  IsArmClosed Γ u q = IsClosed (scene_of P A O) Γ → IsClosed (scene_of P A O) (in_arm P Γ u q)
+
   -- the forms, with their variables in scope, where branches are against a type
   abbrev mutual
     pub IsPlain : Context → Operation → Refined → Type 0
@@ -152,7 +162,7 @@ module _ (P : Basis) (A : Assignment) (O : Objects) where
         PureOver (names_in Γ) c × IsPlainBlock (guard (known (formula_of c)) ∷ Γ) a t
         × IsPlainBlock (guard (known (negation (formula_of c))) ∷ Γ) b t
     IsPlain Γ (match_on p u arms) t =
-        UseOver (names_in Γ) u × IsMatched (type_in Γ (symbol_of u.name)) × AreCoveredArms arms
+        UseOver (names_in Γ) u × (IsMatched (type_in Γ (symbol_of u.name)) ⊎ IsUsable (scene_of P A O) Γ (type_in Γ (symbol_of u.name))) × AreCoveredArms arms
         × Where (is_data_match P Γ u) (AreDatatypesFor P A O Γ u × ((c : ℕ) → IsPlainCase Γ u c t arms) × IsPlainDefault Γ u t arms)
         (HasComponentsOver A (names_in Γ) (type_in Γ (symbol_of u.name)) × IsPlainFirst Γ u t arms)
     IsPlain Γ (tuple es) t = AreUsable (scene_of P A O) Γ es
@@ -190,20 +200,20 @@ module _ (P : Basis) (A : Assignment) (O : Objects) where
         IsRecursionOver Γ g p y × IsPlainBlock (recursive_context P Γ g p y) b (recursive_type P p y)
         × IsPlainBlock (bind g (P.template p) Γ) c t
 
-    -- the arms that are checked, in closed environments
+    -- the arms that are checked
     pub IsPlainCase : Context → Use → ℕ → Refined → Arms → Type 0
     IsPlainCase Γ u c t no_arms = Unit {0}
     IsPlainCase Γ u c t (arm q b arms) =
-        Where (is_arm_of c q) (IsClosed (scene_of P A O) (in_arm P Γ u q) × IsPlainBlock (in_arm P Γ u q) b t) (IsPlainCase Γ u c t arms)
+        Where (is_arm_of c q) (IsArmClosed Γ u q × IsPlainBlock (in_arm P Γ u q) b t) (IsPlainCase Γ u c t arms)
 
     pub IsPlainDefault : Context → Use → Refined → Arms → Type 0
     IsPlainDefault Γ u t no_arms = Unit {0}
     IsPlainDefault Γ u t (arm q b arms) =
-        Where (takes_all q) (IsClosed (scene_of P A O) (in_arm P Γ u q) × IsPlainBlock (in_arm P Γ u q) b t) (IsPlainDefault Γ u t arms)
+        Where (takes_all q) (IsArmClosed Γ u q × IsPlainBlock (in_arm P Γ u q) b t) (IsPlainDefault Γ u t arms)
 
     pub IsPlainFirst : Context → Use → Refined → Arms → Type 0
     IsPlainFirst Γ u t no_arms = ⊥
-    IsPlainFirst Γ u t (arm q b arms) = IsClosed (scene_of P A O) (in_arm P Γ u q) × IsPlainBlock (in_arm P Γ u q) b t
+    IsPlainFirst Γ u t (arm q b arms) = IsArmClosed Γ u q × IsPlainBlock (in_arm P Γ u q) b t
 
   -- a block of which no type is expected
   abbrev pub IsPlainGiven : Context → Block → Type 0
