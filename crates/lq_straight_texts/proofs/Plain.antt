@@ -11,7 +11,7 @@ use Rattle.lq_calls.specs.Operands.{IsUsable, IsUsablePure}
 use Rattle.lq_name.specs.declared.place.Place.{Place}
 use Rattle.lq_parts.specs.Assignment.{Assignment}
 use Rattle.lq_parts.specs.Part.{Scopes}
-use Rattle.lq_plain.specs.Plain.{IsBase, IsFlow, IsPlainBlock, IsPlainGiven, IsPlainProgram}
+use Rattle.lq_plain.specs.Plain.{IsBase, IsBaseFlow, IsFlow, IsPlainBlock, IsPlainGiven, IsPlainProgram}
 use Rattle.lq_points.specs.Annotation.{Annotation, arguments_at, of_source}
 use Rattle.lq_points.specs.Pure.{after, arithmetic_of, pure_of, use_with}
 use Rattle.lq_points.specs.Reading.{Rest, block_of, item, program_from}
@@ -76,16 +76,19 @@ variable_base scopes x (map_with e p) h = absurd h
 variable_base scopes x (type_variable i) h = absurd h
 
 -- each type flows into unit
+unit_base_flow : (S : Scene) (N : Symbols) (r : Refined) → IsBaseFlow S N r unit_type
+unit_base_flow S N (int_with p) = tt
+unit_base_flow S N (bool_with p) = tt
+unit_base_flow S N unit_type = tt
+unit_base_flow S N (function x a b) = tt
+unit_base_flow S N (tuple_of ts) = tt
+unit_base_flow S N (array_with e p) = tt
+unit_base_flow S N (data_with d ts m p) = tt
+unit_base_flow S N (map_with e p) = tt
+unit_base_flow S N (type_variable i) = tt
+
 unit_flow : (S : Scene) (N : Symbols) (r : Refined) → IsFlow S N r unit_type
-unit_flow S N (int_with p) = tt
-unit_flow S N (bool_with p) = tt
-unit_flow S N unit_type = tt
-unit_flow S N (function x a b) = tt
-unit_flow S N (tuple_of ts) = tt
-unit_flow S N (array_with e p) = tt
-unit_flow S N (data_with d ts m p) = tt
-unit_flow S N (map_with e p) = tt
-unit_flow S N (type_variable i) = tt
+unit_flow S N r = inl (unit_base_flow S N r)
 
 -- ---- numbers of nodes
 
@@ -244,18 +247,18 @@ module _ (n : Annotation) (N : ℕ) (none : (i : ℕ) → i < N → n.arguments 
           let both = front_below N (nodes_of a ++ nodes_of b) (i ∷ []) l in
           let x = over_names s (first_of_two (is_scoped_tree xs a) (is_scoped_tree xs b) h) (front_below N (nodes_of a) (nodes_of b) both) Δ k in
           let y = over_names t (second_of_two (is_scoped_tree xs a) (is_scoped_tree xs b) h) (back_below N (nodes_of a) (nodes_of b) both) Δ (next_behind Δ k a) in
-          ((x.0, y.0), ((x.1, y.1), tt), ((x.1, y.1), tt), tt, refl)
+          ((x.0, y.0), ((x.1, y.1), tt), ((x.1, y.1), inl tt), tt, refl)
       operation_plain (straight_remainder {i = i} {a = a} {b = b} s t) h l g k Δ =
           let both = front_below N (nodes_of a ++ nodes_of b) (i ∷ []) l in
           let x = over_names s (first_of_two (is_scoped_tree xs a) (is_scoped_tree xs b) h) (front_below N (nodes_of a) (nodes_of b) both) Δ k in
           let y = over_names t (second_of_two (is_scoped_tree xs a) (is_scoped_tree xs b) h) (back_below N (nodes_of a) (nodes_of b) both) Δ (next_behind Δ k a) in
-          ((x.0, y.0), ((x.1, y.1), tt), ((x.1, y.1), tt), tt, refl)
+          ((x.0, y.0), ((x.1, y.1), tt), ((x.1, y.1), inl tt), tt, refl)
       operation_plain (straight_assert {i = i} {e = a} s) h l g k Δ =
-          let x = over_names s h (front_below N (nodes_of a) (i ∷ []) l) Δ k in (x.0, (x.1, tt), (x.1, tt), tt, refl)
+          let x = over_names s h (front_below N (nodes_of a) (i ∷ []) l) Δ k in (x.0, (x.1, tt), (x.1, inl tt), tt, refl)
       operation_plain (straight_print {i = i} {e = a} s) h l g k Δ =
-          let x = over_names s h (front_below N (nodes_of a) (i ∷ []) l) Δ k in (x.0, (x.1, tt), (x.1, tt), tt, refl)
+          let x = over_names s h (front_below N (nodes_of a) (i ∷ []) l) Δ k in (x.0, (x.1, tt), (x.1, inl tt), tt, refl)
       operation_plain (straight_read {i = i} {e = a} s) h l g k Δ =
-          let x = over_names s h (front_below N (nodes_of a) (i ∷ []) l) Δ k in (x.0, (x.1, tt), (x.1, tt), tt, refl)
+          let x = over_names s h (front_below N (nodes_of a) (i ∷ []) l) Δ k in (x.0, (x.1, tt), (x.1, inl tt), tt, refl)
 
       -- ---- definitions
 
