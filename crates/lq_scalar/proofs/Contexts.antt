@@ -11,12 +11,15 @@ use Rattle.lq_checks.specs.Tree as tree
 use Rattle.lq_checks.specs.Tree.{Pure, Use, Operation, pure, fun, if_else, match_on, call, tuple, build, make, fetch, store, divide, remainder, assert, assert_false, read, print, map_empty, map_add, map_find, Block, last, binding, recursive}
 use Rattle.lq_included.specs.Symbols.{Symbols, with_symbol, FormulaOn}
 use Rattle.lq_in_scope.specs.Laws.{TypesAreOver}
-use Rattle.lq_in_scope.specs.Over.{AreSorted, IsWithin, TypeOver, of_any_sort}
+use Rattle.lq_in_scope.specs.Over as over
+use Rattle.lq_in_scope.specs.Over.{AreSorted, AreWithin, IsWithin, Names, TypeOver, of_any_sort}
 use Rattle.lq_inhabits.specs.Truth.{Objects, Scene}
 use Rattle.lq_names_kept.specs.Laws.{KeepNames}
+use Rattle.lq_new_names.specs.NewNames.{HasNoPositions}
 use Rattle.lq_parts.specs.Assignment.{Assignment}
 use Rattle.lq_parts.specs.Part.{Part}
 use Rattle.lq_parts.specs.Substitution.{of_sum, of_formula}
+use Rattle.lq_plain.proofs.Datatypes.{clean_bind}
 use Rattle.lq_pred.specs.Formula as f
 use Rattle.lq_pred.specs.Formula.{Formula}
 use Rattle.lq_pures.specs.Pures.{PureOver, UseOver, scene_of}
@@ -32,7 +35,7 @@ use Rattle.lq_scalar.specs.Scalar.{HaveTwins}
 use Rattle.lq_scalar.specs.Written.{IsScalar, IsNameless, IsNamedBy, IsFunctionFor, IsBlockFor, IsOperationFor}
 use Rattle.lq_scalar.proofs.NameKinds.{Agree, block_kinds, operation_kinds}
 use Rattle.lq_scalar.proofs.Twins.{AreSmall, big_small, clash, false_unless, twin_big, twin_one}
-use Rattle.lq_scalar.proofs.Types.{HasKinds, IsNamed, apart_nameless, apart_twin, base_apart, kinds_agree, named_nameless, named_twin, no_variable, outside, scalar_twin}
+use Rattle.lq_scalar.proofs.Types.{HasKinds, IsNamed, apart_nameless, apart_twin, kinds_agree, named_nameless, named_twin, no_variable, outside, scalar_twin}
 
 pub sorted_any : (N : Symbols) (p : Formula) → FormulaOn N p → SortedOn N N p
 sorted_any N f.truth h = tt
@@ -192,6 +195,19 @@ module _ (P : Basis) (unknowns : ℕ → Unknown) (keep : KeepNames P.setting.co
   pub wide : (N M : Symbols) → IsWithin N M → (t : Refined) → Over N t → Over M t
   wide N M w t h = keep.widening (of_any_sort N) (of_any_sort M) (record { terms = w; flags = w }) t h
 
+  -- what is inside a type over names is over more
+  pub inside_wide : (N M : Names) → AreWithin N M → (t : Refined) → over.InsideOver P.setting.constructors unknowns N t
+      → over.InsideOver P.setting.constructors unknowns M t
+  inside_wide N M w (int_with p) h = tt
+  inside_wide N M w (bool_with p) h = tt
+  inside_wide N M w unit_type h = tt
+  inside_wide N M w (function x a b) h = (keep.widening N M w (function x a b) (h, tt)).0
+  inside_wide N M w (tuple_of ts) h = (keep.widening N M w (tuple_of ts) (h, tt)).0
+  inside_wide N M w (array_with e p) h = (keep.widening N M w (array_with e []) (h, tt)).0
+  inside_wide N M w (data_with d ts n p) h = (keep.widening N M w (data_with d ts n []) (h, tt)).0
+  inside_wide N M w (map_with e p) h = (keep.widening N M w (map_with e []) (h, tt)).0
+  inside_wide N M w (type_variable i) h = tt
+
   -- scalar, over these names, and its names of arguments apart from them
   pub record IsFine (N : Symbols) (t : Refined) : Type 0 where
     pub scalar : IsScalar t
@@ -218,6 +234,7 @@ module _ (P : Basis) (unknowns : ℕ → Unknown) (keep : KeepNames P.setting.co
   -- each name is small and has its kind, and its type is known
   pub record IsGood (Γ : Context) : Type 0 where
     pub kinds : HasKinds m Γ
+    pub clean : HasNoPositions (names_in Γ)
     pub types : (z : ℕ) → names_in Γ (symbol_of z) ≡ true → IsKnown (names_in Γ) (type_in Γ (symbol_of z))
 
   pub small_names : (Γ : Context) → IsGood Γ → AreSmall (names_in Γ)
@@ -227,11 +244,13 @@ module _ (P : Basis) (unknowns : ℕ → Unknown) (keep : KeepNames P.setting.co
   good_guard Γ p good =
       record {
         kinds = λ z h. good.kinds z h;
+        clean = λ k. good.clean k;
         types = λ z h. known_more (names_in Γ) (names_in (guard p ∷ Γ)) (λ y k. k) (type_in Γ (symbol_of z)) (good.types z h);
       }
 
   pub good_bind : (Γ : Context) → IsGood Γ → (x : ℕ) (t : Refined) → x < 2 ^ 31 → m x ≡ kind t → IsKnown (names_in Γ) t → IsGood (bind x t Γ)
-  good_bind Γ good x t low is known = record { kinds = λ z h. kinds_at z (x == z) refl h; types = λ z h. types_at z (x == z) h }
+  good_bind Γ good x t low is known =
+      record { kinds = λ z h. kinds_at z (x == z) refl h; clean = clean_bind Γ x t good.clean; types = λ z h. types_at z (x == z) h }
     where
       kinds_at : (z : ℕ) (b : Bool) → (x == z) ≡ b → (names_in Γ (symbol_of z) || b) ≡ true
           → let s = cond b t (type_in Γ (symbol_of z)) in (z < 2 ^ 31) × (kind s ≡ m z) × IsNoVariable s
@@ -275,13 +294,20 @@ module _ (P : Basis) (unknowns : ℕ → Unknown) (keep : KeepNames P.setting.co
         apart = apart_twin P.setting.scopes k.own (names_in Γ) (λ y l e. absurd (big_small y y (small_names Γ good y e) l refl)) t k.scalar k.apart;
         named = named_twin P.setting.scopes m t;
       }
-  variable_fine Γ good x h (tuple_of ts) k = absurd k.scalar
+  variable_fine Γ good x h (tuple_of ts) k =
+      let t = tuple_of ts in
+      record {
+        scalar = scalar_twin P.setting.scopes t k.scalar;
+        over = keep.twinning (of_any_sort (names_in Γ)) t (wide k.own (names_in Γ) k.within t k.over);
+        apart = apart_twin P.setting.scopes k.own (names_in Γ) (λ y l e. absurd (big_small y y (small_names Γ good y e) l refl)) t k.scalar k.apart;
+        named = named_twin P.setting.scopes m t;
+      }
   variable_fine Γ good x h (array_with e p) k =
       record {
         scalar = k.scalar;
         over = keep.naming (of_any_sort (names_in Γ)) (atom_of object (symbol_of x)) h (array_with e p)
             (wide k.own (names_in Γ) k.within (array_with e p) k.over);
-        apart = base_apart (names_in Γ) e k.scalar;
+        apart = apart_nameless (names_in Γ) e k.scalar.0 k.scalar.1;
         named = tt;
       }
   variable_fine Γ good x h (data_with d ts n p) k = absurd k.scalar
@@ -334,7 +360,7 @@ module _ (P : Basis) (unknowns : ℕ → Unknown) (keep : KeepNames P.setting.co
     pub type_over : (N : Symbols) (t : Refined) → Over N t → IsTypeOver S N t
     type_over N t h = laws P.setting.constructors unknowns S sorted N t h
 
-    known_usable : (Γ : Context) → IsGood Γ → (t : Refined) → IsKnown (names_in Γ) t → IsUsable S Γ t
+    pub known_usable : (Γ : Context) → IsGood Γ → (t : Refined) → IsKnown (names_in Γ) t → IsUsable S Γ t
     known_usable Γ good (int_with p) k = tt
     known_usable Γ good (bool_with p) k = tt
     known_usable Γ good unit_type k = tt
@@ -347,7 +373,15 @@ module _ (P : Basis) (unknowns : ℕ → Unknown) (keep : KeepNames P.setting.co
           kinds = kinds_agree m Γ good.kinds t k.scalar k.named;
           outside = outside (names_in Γ) (small_names Γ good) t k.scalar;
         }
-    known_usable Γ good (tuple_of ts) k = absurd k.scalar
+    known_usable Γ good (tuple_of ts) k =
+        let t = tuple_of ts in
+        record {
+          over = k.own;
+          on = (type_over k.own t k.over).0;
+          apart = k.apart;
+          kinds = kinds_agree m Γ good.kinds t k.scalar k.named;
+          outside = outside (names_in Γ) (small_names Γ good) t k.scalar;
+        }
     known_usable Γ good (array_with e p) k = tt
     known_usable Γ good (data_with d ts n p) k = tt
     known_usable Γ good (map_with e p) k = absurd k.scalar

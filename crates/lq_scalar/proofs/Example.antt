@@ -2,7 +2,7 @@
 use Rattle.std.proofs.Common.{ℕ, ◌<◌, ◌^◌, arith, refl}
 use Rattle.lq_scalar.specs.Example.{ExampleIsScalar}
 
-below : (x : ℕ) → x < 8 → x < 2 ^ 31
+below : (x : ℕ) → x < 11 → x < 2 ^ 31
 below x h = omega (arith, h)
 
 pub example_scalar : ExampleIsScalar
@@ -43,7 +43,19 @@ example_scalar = (
             tt,
             (
               ((tt, tt), (((tt, (tt, tt)), refl), (tt, refl))),
-              (tt, ((tt, (((tt, tt), refl), (tt, tt))), (tt, (tt, refl)))),
+              (
+                tt,
+                (
+                  (tt, (((tt, tt), refl), (tt, tt))),
+                  (
+                    tt,
+                    (
+                      ((tt, (tt, tt)), ((tt, refl), ((tt, tt), tt))),
+                      (tt, (((tt, (tt, tt)), refl), tt, (tt, (tt, (tt, ((tt, refl), (tt, refl)))), tt))),
+                    ),
+                  ),
+                ),
+              ),
             ),
           ),
         ),
@@ -61,7 +73,16 @@ example_scalar = (
           below 3 (omega arith),
           (
             below 4 (omega arith),
-            (below 5 (omega arith), (below 6 (omega arith), (below 7 (omega arith), tt))),
+            (
+              below 5 (omega arith),
+              (
+                below 6 (omega arith),
+                (
+                  below 7 (omega arith),
+                  (below 8 (omega arith), (below 9 (omega arith), (below 10 (omega arith), tt))),
+                ),
+              ),
+            ),
           ),
         ),
       ),

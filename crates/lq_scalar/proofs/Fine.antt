@@ -1,43 +1,46 @@
 -- The types that operations give in environments of known types.
-use Rattle.std.proofs.Common.{inr, ℕ, suc, pos, Option, Some, None, subst}
+use Rattle.std.proofs.Common.{inr, ℕ, suc, pos, false, List, [], ◌∷◌, Option, Some, None, refl, subst}
 use Rattle.lq_checks.specs.Basis.{Basis}
 use Rattle.lq_checks.specs.Binders.{operation_binders}
 use Rattle.lq_checks.specs.Operation.{quotient_facts, type_of}
-use Rattle.lq_checks.specs.Pure.{atom_by, formula_of, pure_atom, pure_type, sum_of, type_of_use}
+use Rattle.lq_checks.specs.Pure.{atom_by, formula_of, pure_atom, pure_type, pure_types, sum_of, type_of_use}
 use Rattle.lq_checks.specs.Ready.{IsReadyOperation, SameType}
 use Rattle.lq_checks.specs.Tree.{Pure, Operation, pure, fun, if_else, match_on, call, tuple, build, make, fetch, store, divide, remainder, assert, assert_false, read, print, map_empty, map_add, map_find}
 use Rattle.lq_included.specs.Symbols.{Symbols, with_symbol, SumOn}
 use Rattle.lq_in_scope.specs.InScope.{OperationInScope}
 use Rattle.lq_in_scope.specs.Laws.{TypesAreOver}
-use Rattle.lq_in_scope.specs.Over.{AreSorted, AreWithin, IsWithin, PartsOver, TypeOver, of_any_sort, with_sort}
-use Rattle.lq_in_scope.proofs.Symbols.{own_one, within_one}
+use Rattle.lq_in_scope.specs.Over as over
+use Rattle.lq_in_scope.specs.Over.{AreSorted, AreWithin, IsWithin, Names, PartsOver, TypeOver, of_any_sort, with_sort}
+use Rattle.lq_in_scope.proofs.Assigned.{wider}
+use Rattle.lq_in_scope.proofs.Symbols.{own_one, within_one, within_sort}
 use Rattle.lq_inhabits.specs.Truth.{Objects, Scene}
 use Rattle.lq_names_kept.specs.Laws.{KeepNames}
 use Rattle.lq_names_kept.specs.Puts.{AtomOver, HasKind}
-use Rattle.lq_new_names.specs.NewNames.{HasNoNames, IsInScope}
+use Rattle.lq_new_names.specs.NewNames.{ComponentsInScope, HasNoPositions, IsInScope}
+use Rattle.lq_new_names.proofs.Fields.{both_false}
 use Rattle.lq_parts.specs.Assignment.{Assignment}
-use Rattle.lq_plain.specs.Plain.{IsBase, IsFlow}
+use Rattle.lq_plain.specs.Plain.{IsFlow}
 use Rattle.lq_pred.specs.Sum as sums
 use Rattle.lq_pred.specs.Sum.{Sum}
 use Rattle.lq_pred.specs.declared.symbol.Symbol.{Symbol}
-use Rattle.lq_pred.specs.declared.symbol.Symbol.TheVariants.{Value}
+use Rattle.lq_pred.specs.declared.symbol.Symbol.TheVariants.{Position, Value}
 use Rattle.lq_pures.specs.Pures.{PureOver, scene_of}
 use Rattle.lq_pures.proofs.Values.{formula_over, sum_over}
 use Rattle.lq_refined.specs.Context.{Context}
 use Rattle.lq_refined.specs.Operations.{applied, symbol_of}
-use Rattle.lq_refined.specs.Refined.{Refined, int_with, bool_with, unit_type, function, tuple_of, array_with, data_with, map_with, type_variable, Kind, number, truth_value, object, other, kind, argument_of, result_of, binder_of, element_of}
-use Rattle.lq_renamed.specs.Names.{NamesApart, with_twins}
+use Rattle.lq_refined.specs.Refined.{Refined, Refineds, none, more, int_with, bool_with, unit_type, function, tuple_of, array_with, data_with, map_with, type_variable, Kind, number, truth_value, object, other, kind, argument_of, result_of, binder_of, element_of}
+use Rattle.lq_renamed.specs.Names.{AllNamesApart, NamesApart, with_twins}
 use Rattle.lq_runs.specs.Closed.{names_in, IsTypeOver}
 use Rattle.lq_runs.proofs.Closing.{sum_more}
+use Rattle.lq_safe.specs.Programs.{PuresOver}
 use Rattle.lq_templates.specs.Scopes.{Unknown}
 use Rattle.lq_scalar.specs.Scalar.{HaveTwins}
-use Rattle.lq_scalar.specs.Written.{IsGivenWritten, IsNameless, IsOperationWritten, IsScalar}
+use Rattle.lq_scalar.specs.Written.{AreScalar, IsGivenWritten, IsNameless, IsOperationWritten, IsScalar}
 use Rattle.lq_scalar.proofs.Contexts as contexts
-use Rattle.lq_scalar.proofs.Contexts.{function_far, own_near, pure_fine, small_names, sorted_any, type_over, use_known, wide}
-use Rattle.lq_scalar.proofs.Forms.{function_scalar, pure_more, pure_uses, scalar_flow}
+use Rattle.lq_scalar.proofs.Contexts.{function_far, inside_wide, own_near, pure_fine, small_names, sorted_any, type_over, use_known, wide}
+use Rattle.lq_scalar.proofs.Forms.{function_scalar, pure_more, pure_uses, pures_more, pures_uses}
 use Rattle.lq_scalar.proofs.NameKinds.{Agree, operation_kinds}
-use Rattle.lq_scalar.proofs.Templates.{base_nameless}
-use Rattle.lq_scalar.proofs.Types.{IsApart, IsNamed, applied_keeps, apart_less, apart_nameless, base_apart, base_scalar, both_put, name_within, named_nameless, named_put, same_kind, twins_within}
+use Rattle.lq_scalar.proofs.Types.{AreNamed, IsApart, IsNamed, applied_keeps, apart_less, apart_nameless, both_put, name_within, named_nameless, named_put, same_kind, twins_within}
 
 -- one more name at its sort is one more of any sort
 pub sort_within : (N : Symbols) (k : Kind) (x : Symbol) → AreWithin (with_sort (of_any_sort N) k x) (of_any_sort (with_symbol N x))
@@ -74,17 +77,14 @@ module _ (P : Basis) (unknowns : ℕ → Unknown) (keep : KeepNames P.setting.co
   pub nameless_fine : (N : Symbols) (t : Refined) → IsNameless t → Over N t → Fine N t
   nameless_fine N t h o = record { scalar = h.0; over = o; apart = apart_nameless N t h.0 h.1; named = named_nameless m t h.1 }
 
-  base_fine : (N : Symbols) (t : Refined) → IsBase t → Over N t → Fine N t
-  base_fine N t h o = nameless_fine N t (base_scalar t h, base_nameless t h) o
-
   -- an array's elements
-  element_fine : (N : Symbols) (t : Refined) → IsScalar t → Over N t → Fine N (element_of t)
-  element_fine N (int_with p) s h = unit_fine N
-  element_fine N (bool_with p) s h = unit_fine N
-  element_fine N unit_type s h = unit_fine N
-  element_fine N (function x a b) s h = unit_fine N
-  element_fine N (tuple_of ts) s h = absurd s
-  element_fine N (array_with e p) s h = base_fine N e s h.0
+  pub element_fine : (N : Symbols) (t : Refined) → IsScalar t → Over N t → IsNameless (element_of t) × Over N (element_of t)
+  element_fine N (int_with p) s h = ((tt, tt), (tt, tt))
+  element_fine N (bool_with p) s h = ((tt, tt), (tt, tt))
+  element_fine N unit_type s h = ((tt, tt), (tt, tt))
+  element_fine N (function x a b) s h = ((tt, tt), (tt, tt))
+  element_fine N (tuple_of ts) s h = ((tt, tt), (tt, tt))
+  element_fine N (array_with e p) s h = (s, h.0)
   element_fine N (data_with d ts n p) s h = absurd s
   element_fine N (map_with e p) s h = absurd s
   element_fine N (type_variable i) s h = absurd s
@@ -95,7 +95,7 @@ module _ (P : Basis) (unknowns : ℕ → Unknown) (keep : KeepNames P.setting.co
   argument_fine N (bool_with p) s h = ((tt, tt), (tt, tt))
   argument_fine N unit_type s h = ((tt, tt), (tt, tt))
   argument_fine N (function x a b) s h = ((s.0, s.1), (h.0.0, h.0.1))
-  argument_fine N (tuple_of ts) s h = absurd s
+  argument_fine N (tuple_of ts) s h = ((tt, tt), (tt, tt))
   argument_fine N (array_with e p) s h = ((tt, tt), (tt, tt))
   argument_fine N (data_with d ts n p) s h = absurd s
   argument_fine N (map_with e p) s h = absurd s
@@ -145,6 +145,29 @@ module _ (P : Basis) (unknowns : ℕ → Unknown) (keep : KeepNames P.setting.co
       (((((tt, o), ((tt, v), o)), (o, ((tt, v), tt))), (((o, tt), (o, (tt, v))), ((tt, v), (o, tt)))), tt)
   facts_over N x _ o = tt
 
+  -- ---- tuples
+
+  -- the components behind the first j, their tops over more names
+  tuple_fine : (Γ : Context) → Good Γ → (es : List Pure) → PuresOver (names_in Γ) es → (M : Names) → AreWithin (of_any_sort (names_in Γ)) M
+      → (j : ℕ)
+      → AreScalar (pure_types P Γ es)
+      × over.ComponentsOver P.setting.constructors unknowns (of_any_sort (names_in Γ)) M j (pure_types P Γ es)
+      × AllNamesApart (names_in Γ) (pure_types P Γ es)
+      × AreNamed m (pure_types P Γ es)
+  tuple_fine Γ good [] o M w j = (tt, tt, tt, tt)
+  tuple_fine Γ good (e ∷ es) o M w j =
+      let t = pure_type P Γ e in
+      let f = pure_fine P unknowns keep m Γ good e o.0 in
+      let x = Position (suc j) in
+      let more = within_sort M (kind t) x in
+      let rest = tuple_fine Γ good es o.1 (with_sort M (kind t) x)
+      (record { terms = λ y h. more.terms y (w.terms y h); flags = λ y h. more.flags y (w.flags y h) }) (suc j) in (
+        (f.scalar, rest.0),
+        (f.over.0, (keep.widening (of_any_sort (names_in Γ)) M w t f.over).1, rest.1),
+        (f.apart, rest.2),
+        (f.named, rest.3),
+      )
+
   -- ---- operations
 
   pub operation_fine : (N : Symbols) (Γ : Context) → IsWithin N (names_in Γ) → Good Γ → (o : Operation) → OperationInScope P unknowns N o
@@ -158,23 +181,29 @@ module _ (P : Basis) (unknowns : ℕ → Unknown) (keep : KeepNames P.setting.co
       record { scalar = function_scalar y p b t given; over = wide P unknowns keep m N (names_in Γ) w t scoped.0; apart = far.0; named = far.1 }
   operation_fine N Γ w good (if_else p c a b) scoped written given ready twins kinds =
       nameless_fine (names_in Γ) (P.template p) given (wide P unknowns keep m N (names_in Γ) w (P.template p) scoped.0)
-  operation_fine N Γ w good (match_on p u arms) scoped written given ready twins kinds = absurd written
+  operation_fine N Γ w good (match_on p u arms) scoped written given ready twins kinds =
+      nameless_fine (names_in Γ) (P.template p) given (wide P unknowns keep m N (names_in Γ) w (P.template p) scoped.0)
   operation_fine N Γ w good (call g a) scoped written given ready twins kinds =
       called_fine Γ a (pure_more N (names_in Γ) w a (pure_uses P unknowns N a scoped.1 written.1)) (pure_type P Γ g)
       (pure_fine P unknowns keep m Γ good g (pure_more N (names_in Γ) w g (pure_uses P unknowns N g scoped.0 written.0))) ready
-  operation_fine N Γ w good (tuple es) scoped written given ready twins kinds = absurd written
+  operation_fine N Γ w good (tuple es) scoped written given ready twins kinds =
+      let all = of_any_sort (names_in Γ) in
+      let k = tuple_fine Γ good es (pures_more N (names_in Γ) w es (pures_uses P unknowns N es scoped written)) all
+      (record { terms = λ y h. h; flags = λ y h. h }) 0 in
+      record { scalar = k.0; over = (k.1, tt); apart = k.2; named = k.3 }
   operation_fine N Γ w good (build p c es) scoped written given ready twins kinds = absurd written
   operation_fine N Γ w good (make p n e) scoped written given ready twins kinds =
       let o = pure_more N (names_in Γ) w n (pure_uses P unknowns N n scoped.1 written.0) in
       record {
         scalar = written.2;
         over = (wide P unknowns keep m N (names_in Γ) w (P.template p) scoped.0, ((own_one (names_in Γ) Value, more_sum (names_in Γ) n o), tt));
-        apart = base_apart (names_in Γ) (P.template p) written.2;
+        apart = apart_nameless (names_in Γ) (P.template p) written.2.0 written.2.1;
         named = tt;
       }
   operation_fine N Γ w good (fetch u i) scoped written given ready twins kinds =
       let k = use_known P unknowns keep m Γ good u (w (symbol_of u.name) scoped.0.0, written.0) in
-      element_fine (names_in Γ) (type_of_use P Γ u) k.scalar (wide P unknowns keep m k.own (names_in Γ) k.within (type_of_use P Γ u) k.over)
+      let e = element_fine (names_in Γ) (type_of_use P Γ u) k.scalar (wide P unknowns keep m k.own (names_in Γ) k.within (type_of_use P Γ u) k.over) in
+      nameless_fine (names_in Γ) (element_of (type_of_use P Γ u)) e.0 e.1
   operation_fine N Γ w good (store u i e) scoped written given ready twins kinds = unit_fine (names_in Γ)
   operation_fine N Γ w good (divide x y) scoped written given ready twins kinds =
       let v = own_one (names_in Γ) Value in
@@ -204,51 +233,62 @@ module _ (P : Basis) (unknowns : ℕ → Unknown) (keep : KeepNames P.setting.co
     pub typed : (N : Symbols) (t : Refined) → Over N t → IsTypeOver S N t
     typed N t h = type_over P unknowns keep m laws A O sorted N t h
 
-    base_scoped : (N : Symbols) (t : Refined) → IsBase t → IsInScope S N t
-    base_scoped N (int_with p) h = tt
-    base_scoped N (bool_with p) h = tt
-    base_scoped N unit_type h = tt
-    base_scoped N (function x a b) h = absurd h
-    base_scoped N (tuple_of ts) h = h
-    base_scoped N (array_with e p) h = absurd h
-    base_scoped N (data_with d ts n p) h = h
-    base_scoped N (map_with e p) h = tt
-    base_scoped N (type_variable i) h = tt
+    -- with one more symbol at its sort
+    position_within : (M : Names) (Q : Symbols) → AreWithin M (of_any_sort Q) → (k : Kind) (x : Symbol)
+        → AreWithin (with_sort M k x) (of_any_sort (with_symbol Q x))
+    position_within M Q v number x = record { terms = wider M.terms Q x v.terms; flags = λ y h. within_one Q x y (v.flags y h) }
+    position_within M Q v truth_value x = record { terms = λ y h. within_one Q x y (v.terms y h); flags = wider M.flags Q x v.flags }
+    position_within M Q v object x = record { terms = wider M.terms Q x v.terms; flags = λ y h. within_one Q x y (v.flags y h) }
+    position_within M Q v other x = record { terms = wider M.terms Q x v.terms; flags = λ y h. within_one Q x y (v.flags y h) }
 
-    scoped_in : (N : Symbols) (t : Refined) → IsScalar t → NamesApart N t → Over N t → IsInScope S N t
-    scoped_in N (int_with p) s n h = tt
-    scoped_in N (bool_with p) s n h = tt
-    scoped_in N unit_type s n h = tt
-    scoped_in N (function None a b) s n h = (
-      typed N a (h.0.0, h.0.1),
-      scoped_in N a s.0 n.0 (h.0.0, h.0.1),
-      typed N b (h.0.2, h.0.3),
-      scoped_in N b s.2 n.1 (h.0.2, h.0.3),
-    )
-    scoped_in N (function (Some x) a b) s n h =
-        let M = with_symbol N (symbol_of x) in
-        let o : Over M b =
-        keep.widening (with_sort (of_any_sort N) (kind a) (symbol_of x)) (of_any_sort M) (sort_within N (kind a) (symbol_of x)) b (h.0.2, h.0.3) in (
-          n.0,
-          typed N a (h.0.0, h.0.1),
-          scoped_in N a s.0 n.3 (h.0.0, h.0.1),
-          typed M b o,
-          scoped_in M b s.2 (apart_less M (with_twins N x) (name_within N x) b s.2 n.4) o,
-        )
-    scoped_in N (tuple_of ts) s n h = absurd s
-    scoped_in N (array_with e p) s n h = (typed N e h.0, base_scoped N e s)
-    scoped_in N (data_with d ts k p) s n h = absurd s
-    scoped_in N (map_with e p) s n h = tt
-    scoped_in N (type_variable i) s n h = tt
+    mutual
+      scoped_in : (N : Symbols) → HasNoPositions N → (t : Refined) → IsScalar t → NamesApart N t
+          → over.InsideOver P.setting.constructors unknowns (of_any_sort N) t → IsInScope S N t
+      scoped_in N c (int_with p) s n h = tt
+      scoped_in N c (bool_with p) s n h = tt
+      scoped_in N c unit_type s n h = tt
+      scoped_in N c (function None a b) s n h =
+          (typed N a (h.0, h.1), scoped_in N c a s.0 n.0 h.0, typed N b (h.2, h.3), scoped_in N c b s.2 n.1 h.2)
+      scoped_in N c (function (Some x) a b) s n h =
+          let M = with_symbol N (symbol_of x) in
+          let o : Over M b =
+          keep.widening (with_sort (of_any_sort N) (kind a) (symbol_of x)) (of_any_sort M) (sort_within N (kind a) (symbol_of x)) b (h.2, h.3) in (
+            n.0,
+            typed N a (h.0, h.1),
+            scoped_in N c a s.0 n.3 h.0,
+            typed M b o,
+            scoped_in M (λ k. both_false (N (Position k)) false (c k) refl) b s.2 (apart_less M (with_twins N x) (name_within N x) b s.2 n.4) o.0,
+          )
+      scoped_in N c (tuple_of ts) s n h =
+          (c, components_in N c (of_any_sort N) N (record { terms = λ y e. e; flags = λ y e. e }) (record { terms = λ y e. e; flags = λ y e. e }) 0 ts s n h)
+      scoped_in N c (array_with e p) s n h = (typed N e h, scoped_in N c e s.0 n h.0)
+      scoped_in N c (data_with d ts k p) s n h = absurd s
+      scoped_in N c (map_with e p) s n h = tt
+      scoped_in N c (type_variable i) s n h = tt
+
+      components_in : (N : Symbols) → HasNoPositions N → (M : Names) (Q : Symbols) → AreWithin (of_any_sort N) M → AreWithin M (of_any_sort Q)
+          → (j : ℕ) (ts : Refineds) → AreScalar ts → AllNamesApart N ts
+          → over.ComponentsOver P.setting.constructors unknowns (of_any_sort N) M j ts → ComponentsInScope S N Q j ts
+      components_in N c M Q w v j none s n h = tt
+      components_in N c M Q w v j (more t ts) s n h =
+          let x = Position (suc j) in
+          let more = within_sort M (kind t) x in
+          let o : Over Q t =
+          keep.widening M (of_any_sort Q) v t (inside_wide P unknowns keep m (of_any_sort N) M w t h.0, h.1) in (
+            typed Q t o,
+            scoped_in N c t s.0 n.0 h.0,
+            components_in N c (with_sort M (kind t) x) (with_symbol Q x)
+                (record { terms = λ y e. more.terms y (w.terms y e); flags = λ y e. more.flags y (w.flags y e) })
+                (position_within M Q v (kind t) x) (suc j) ts s.1 n.1 h.2,
+          )
 
     -- what is fine flows into a type without names
-    pub flow : (N : Symbols) (l r : Refined) → Fine N l → IsNameless r → Over N r → SameType l r → IsFlow S N l r
-    flow N l r k h o e =
-        scalar_flow S N l r k.scalar h.0 e
-        (λ x y a b c d f g. (
-          subst (λ t. IsTypeOver S N t) f (typed N l k.over),
-          subst (λ t. IsInScope S N t) f (scoped_in N l k.scalar k.apart k.over),
-          subst (λ t. IsTypeOver S N t) g (typed N r o),
-          subst (λ t. IsInScope S N t) g (scoped_in N r h.0 (apart_nameless N r h.0 h.1) o),
-          inr (subst HasNoNames g h.1),
-        ))
+    pub flow : (N : Symbols) → HasNoPositions N → (l r : Refined) → Fine N l → IsNameless r → Over N r → IsFlow S N l r
+    flow N c l r k h o =
+        inr (
+          typed N l k.over,
+          scoped_in N c l k.scalar k.apart k.over.0,
+          typed N r o,
+          scoped_in N c r h.0 (apart_nameless N r h.0 h.1) o.0,
+          inr h.1,
+        )

@@ -1,22 +1,20 @@
 -- Forms of programs that are scalar: types for what is written, flows, and uses.
-use Rattle.std.proofs.Common.{◌≡◌, ℕ, Bool, true, List, [], ◌∷◌, ◌++◌, Option, Some, None, refl}
+use Rattle.std.proofs.Common.{◌≡◌, ℕ, Bool, true, List, [], ◌∷◌, ◌++◌, Some, None, refl, subst}
 use Rattle.lq_checks.specs.Basis.{Basis}
-use Rattle.lq_checks.specs.Ready.{SameType}
 use Rattle.lq_checks.specs.Tree as tree
-use Rattle.lq_checks.specs.Tree.{Pure, Operation, pure, fun, if_else, match_on, call, tuple, build, make, fetch, store, divide, remainder, assert, assert_false, read, print, map_empty, map_add, map_find, Block, last, binding, recursive}
+use Rattle.lq_checks.specs.Tree.{names_of, Pure, Operation, pure, fun, if_else, match_on, call, tuple, build, make, fetch, store, divide, remainder, assert, assert_false, read, print, map_empty, map_add, map_find, Arms, no_arms, arm, Block, last, binding, recursive}
 use Rattle.lq_included.specs.Symbols.{Symbols, with_symbol}
-use Rattle.lq_in_scope.specs.InScope.{BlockInScope, OperationInScope, PureInScope}
+use Rattle.lq_in_scope.specs.InScope as scopes
+use Rattle.lq_in_scope.specs.InScope.{ArmsInScope, BlockInScope, OperationInScope, PureInScope, PuresInScope}
 use Rattle.lq_in_scope.specs.Over.{IsWithin}
-use Rattle.lq_inhabits.specs.Truth.{Scene}
-use Rattle.lq_parts.specs.Part.{Parts}
-use Rattle.lq_plain.specs.Plain.{IsBase, IsFlow}
 use Rattle.lq_pures.specs.Pures.{PureOver}
 use Rattle.lq_refined.specs.Operations.{symbol_of}
-use Rattle.lq_refined.specs.Refined.{Refined, int_with, bool_with, unit_type, function, tuple_of, array_with, data_with, map_with, type_variable, element_of}
-use Rattle.lq_safe.specs.Programs.{BlockUsesOnly, UsesOnly}
+use Rattle.lq_refined.specs.Refined.{Refined, int_with, bool_with, unit_type, function, tuple_of, array_with, data_with, map_with, type_variable}
+use Rattle.lq_safe.specs.Programs.{ArmsUseOnly, BlockUsesOnly, PuresOver, UsesOnly, with_names}
+use Rattle.lq_safe.specs.Scoped.{AreCoveredArms, IsCovered, IsCoveredBlock}
 use Rattle.lq_templates.specs.Scopes.{Unknown}
 use Rattle.lq_scalar.specs.Scalar.{HaveTwins}
-use Rattle.lq_scalar.specs.Written.{HasPlainUses, IsBlockFor, IsBlockWritten, IsFunctionFor, IsNameless, IsOperationFor, IsOperationWritten, IsScalar}
+use Rattle.lq_scalar.specs.Written.{ArmsHaveForms, BlockHasForms, HasForms, HasPlainUses, HavePlainUses, IsBlockFor, IsBlockWritten, IsFunctionFor, IsNameless, IsOperationFor, IsOperationWritten, IsScalar}
 
 -- ---- twins of binders
 
@@ -104,94 +102,74 @@ mutual
 pub function_scalar : (y p : ℕ) (b : Block) (t : Refined) → IsFunctionFor y b t → IsScalar t
 function_scalar y p b t h = operation_scalar (fun p y b) t h
 
--- ---- flows
+-- ---- forms
 
-module _ (S : Scene) (N : Symbols) where
-  to_int : (l : Refined) (q : Parts) → IsFlow S N l (int_with q)
-  to_int (int_with p) q = tt
-  to_int (bool_with p) q = tt
-  to_int unit_type q = tt
-  to_int (function x a b) q = tt
-  to_int (tuple_of ts) q = tt
-  to_int (array_with e p) q = tt
-  to_int (data_with d ts m p) q = tt
-  to_int (map_with e p) q = tt
-  to_int (type_variable i) q = tt
+module _ (P : Basis) where
+  mutual
+    operation_forms : (o : Operation) → IsOperationWritten P o → HasForms o
+    operation_forms (pure e) w = w
+    operation_forms (fun p y b) w = block_forms true b w
+    operation_forms (if_else p c a b) w = (w.0, block_forms true a w.1, block_forms true b w.2)
+    operation_forms (match_on p u no_arms) w = absurd w
+    operation_forms (match_on p u (arm q b arms)) w = (w.0, (block_forms true b w.2, w.3))
+    operation_forms (call g a) w = w
+    operation_forms (tuple es) w = w
+    operation_forms (build p c es) w = absurd w
+    operation_forms (make p n e) w = (w.0, w.1)
+    operation_forms (fetch u i) w = w
+    operation_forms (store u i e) w = w
+    operation_forms (divide x y) w = w
+    operation_forms (remainder x y) w = w
+    operation_forms (assert e) w = w
+    operation_forms (assert_false p) w = tt
+    operation_forms (read e) w = w
+    operation_forms (print e) w = w
+    operation_forms (map_empty p) w = absurd w
+    operation_forms (map_add p k e m) w = absurd w
+    operation_forms (map_find k m) w = absurd w
 
-  to_bool : (l : Refined) (q : Parts) → IsFlow S N l (bool_with q)
-  to_bool (int_with p) q = tt
-  to_bool (bool_with p) q = tt
-  to_bool unit_type q = tt
-  to_bool (function x a b) q = tt
-  to_bool (tuple_of ts) q = tt
-  to_bool (array_with e p) q = tt
-  to_bool (data_with d ts m p) q = tt
-  to_bool (map_with e p) q = tt
-  to_bool (type_variable i) q = tt
+    pub block_forms : (g : Bool) (b : Block) → IsBlockWritten P g b → BlockHasForms b
+    block_forms g (last l o) w = operation_forms o w.0
+    block_forms g (binding x l o b) w = (operation_forms o w.0, block_forms g b w.2)
+    block_forms g (recursive f p y b c) w = (block_forms true b w.1, block_forms g c w.2)
 
-  to_unit : (l : Refined) → IsFlow S N l unit_type
-  to_unit (int_with p) = tt
-  to_unit (bool_with p) = tt
-  to_unit unit_type = tt
-  to_unit (function x a b) = tt
-  to_unit (tuple_of ts) = tt
-  to_unit (array_with e p) = tt
-  to_unit (data_with d ts m p) = tt
-  to_unit (map_with e p) = tt
-  to_unit (type_variable i) = tt
+mutual
+  operation_covered : (o : Operation) → HasForms o → IsCovered o
+  operation_covered (pure e) w = tt
+  operation_covered (fun p y b) w = block_covered b w
+  operation_covered (if_else p c a b) w = (block_covered a w.1, block_covered b w.2)
+  operation_covered (match_on p u arms) w = arms_covered arms w.1
+  operation_covered (call g a) w = tt
+  operation_covered (tuple es) w = tt
+  operation_covered (build p c es) w = tt
+  operation_covered (make p n e) w = tt
+  operation_covered (fetch u i) w = tt
+  operation_covered (store u i e) w = tt
+  operation_covered (divide x y) w = tt
+  operation_covered (remainder x y) w = tt
+  operation_covered (assert e) w = tt
+  operation_covered (assert_false p) w = tt
+  operation_covered (read e) w = tt
+  operation_covered (print e) w = tt
+  operation_covered (map_empty p) w = absurd w
+  operation_covered (map_add p k e m) w = absurd w
+  operation_covered (map_find k m) w = absurd w
 
-  pub base_flow : (l r : Refined) → IsBase r → IsFlow S N l r
-  base_flow l (int_with q) h = to_int l q
-  base_flow l (bool_with q) h = to_bool l q
-  base_flow l unit_type h = to_unit l
-  base_flow l (function x a b) h = absurd h
-  base_flow l (tuple_of ts) h = absurd h
-  base_flow l (array_with e q) h = absurd h
-  base_flow l (data_with d ts m q) h = absurd h
-  base_flow l (map_with e q) h = absurd h
-  base_flow l (type_variable i) h = absurd h
+  pub block_covered : (b : Block) → BlockHasForms b → IsCoveredBlock b
+  block_covered (last l o) w = operation_covered o w
+  block_covered (binding x l o b) w = (operation_covered o w.0, block_covered b w.1)
+  block_covered (recursive f p y b c) w = (block_covered b w.0, block_covered c w.1)
 
-  -- of scalar types with one simple type, where functions flow
-  pub scalar_flow : (l r : Refined) → IsScalar l → IsScalar r → SameType l r
-      → ((x y : Option ℕ) (a b c d : Refined) → l ≡ function x a b → r ≡ function y c d → IsFlow S N (function x a b) (function y c d)) → IsFlow S N l r
-  scalar_flow l (int_with q) s z e f = to_int l q
-  scalar_flow l (bool_with q) s z e f = to_bool l q
-  scalar_flow l unit_type s z e f = to_unit l
-  scalar_flow (function x a b) (function y c d) s z e f = f x y a b c d refl refl
-  scalar_flow (int_with p) (function y c d) s z e f = cc
-  scalar_flow (bool_with p) (function y c d) s z e f = cc
-  scalar_flow unit_type (function y c d) s z e f = cc
-  scalar_flow (tuple_of ts) (function y c d) s z e f = absurd s
-  scalar_flow (array_with u p) (function y c d) s z e f = cc
-  scalar_flow (data_with k ts m p) (function y c d) s z e f = absurd s
-  scalar_flow (map_with u p) (function y c d) s z e f = absurd s
-  scalar_flow (type_variable i) (function y c d) s z e f = absurd s
-  scalar_flow l (tuple_of ts) s z e f = absurd z
-  scalar_flow (array_with u p) (array_with v q) s z e f = (s, z)
-  scalar_flow (int_with p) (array_with v q) s z e f = cc
-  scalar_flow (bool_with p) (array_with v q) s z e f = cc
-  scalar_flow unit_type (array_with v q) s z e f = cc
-  scalar_flow (function x a b) (array_with v q) s z e f = cc
-  scalar_flow (tuple_of ts) (array_with v q) s z e f = absurd s
-  scalar_flow (data_with k ts m p) (array_with v q) s z e f = absurd s
-  scalar_flow (map_with u p) (array_with v q) s z e f = absurd s
-  scalar_flow (type_variable i) (array_with v q) s z e f = absurd s
-  scalar_flow l (data_with k ts m q) s z e f = absurd z
-  scalar_flow l (map_with v q) s z e f = absurd z
-  scalar_flow l (type_variable i) s z e f = absurd z
-
-pub element_base : (t : Refined) → IsScalar t → IsBase (element_of t)
-element_base (int_with p) s = tt
-element_base (bool_with p) s = tt
-element_base unit_type s = tt
-element_base (function x a b) s = tt
-element_base (tuple_of ts) s = absurd s
-element_base (array_with e p) s = s
-element_base (data_with d ts m p) s = absurd s
-element_base (map_with e p) s = absurd s
-element_base (type_variable i) s = absurd s
+  pub arms_covered : (arms : Arms) → ArmsHaveForms arms → AreCoveredArms arms
+  arms_covered no_arms w = tt
+  arms_covered (arm q b arms) w = (block_covered b w.0, arms_covered arms w.1)
 
 -- ---- scopes
+
+-- the names of a pattern
+pub same_names : (N : Symbols) (xs : List ℕ) → scopes.with_names N xs ≡ with_names N xs
+same_names N [] = refl
+same_names N (x ∷ xs) = same_names (with_symbol N (symbol_of x)) xs
 
 module _ (P : Basis) (unknowns : ℕ → Unknown) where
   pub pure_uses : (N : Symbols) (e : Pure) → PureInScope P unknowns N e → HasPlainUses e → PureOver N e
@@ -209,14 +187,18 @@ module _ (P : Basis) (unknowns : ℕ → Unknown) where
   pure_uses N (tree.and_of a b) h w = (pure_uses N a h.0 w.0, pure_uses N b h.1 w.1)
   pure_uses N (tree.or_of a b) h w = (pure_uses N a h.0 w.0, pure_uses N b h.1 w.1)
 
+  pub pures_uses : (N : Symbols) (es : List Pure) → PuresInScope P unknowns N es → HavePlainUses es → PuresOver N es
+  pures_uses N [] h w = tt
+  pures_uses N (e ∷ es) h w = (pure_uses N e h.0 w.0, pures_uses N es h.1 w.1)
+
   mutual
-    operation_uses : (N : Symbols) (o : Operation) → OperationInScope P unknowns N o → IsOperationWritten P o → UsesOnly N o
+    operation_uses : (N : Symbols) (o : Operation) → OperationInScope P unknowns N o → HasForms o → UsesOnly N o
     operation_uses N (pure e) h w = pure_uses N e h w
-    operation_uses N (fun p y b) h w = block_uses true (with_symbol N (symbol_of y)) b h.2 w
-    operation_uses N (if_else p c a b) h w = (pure_uses N c h.1 w.0, block_uses true N a h.2 w.1, block_uses true N b h.3 w.2)
-    operation_uses N (match_on p u arms) h w = absurd w
+    operation_uses N (fun p y b) h w = form_uses (with_symbol N (symbol_of y)) b h.2 w
+    operation_uses N (if_else p c a b) h w = (pure_uses N c h.1 w.0, form_uses N a h.2 w.1, form_uses N b h.3 w.2)
+    operation_uses N (match_on p u arms) h w = ((h.1.0, w.0), arms_uses N arms h.2 w.1)
     operation_uses N (call g a) h w = (pure_uses N g h.0 w.0, pure_uses N a h.1 w.1)
-    operation_uses N (tuple es) h w = absurd w
+    operation_uses N (tuple es) h w = pures_uses N es h w
     operation_uses N (build p c es) h w = absurd w
     operation_uses N (make p n e) h w = (pure_uses N n h.1 w.0, pure_uses N e h.2 w.1)
     operation_uses N (fetch u i) h w = ((h.0.0, w.0), pure_uses N i h.1 w.1)
@@ -231,11 +213,19 @@ module _ (P : Basis) (unknowns : ℕ → Unknown) where
     operation_uses N (map_add p k e m) h w = tt
     operation_uses N (map_find k m) h w = tt
 
-    pub block_uses : (g : Bool) (N : Symbols) (b : Block) → BlockInScope P unknowns N b → IsBlockWritten P g b → BlockUsesOnly N b
-    block_uses g N (last l o) h w = operation_uses N o h w.0
-    block_uses g N (binding x l o b) h w = (operation_uses N o h.0 w.0, block_uses g (with_symbol N (symbol_of x)) b h.1 w.2)
-    block_uses g N (recursive f p y b c) h w =
-        (block_uses true (with_symbol (with_symbol N (symbol_of f)) (symbol_of y)) b h.2 w.1, block_uses g (with_symbol N (symbol_of f)) c h.3 w.2)
+    form_uses : (N : Symbols) (b : Block) → BlockInScope P unknowns N b → BlockHasForms b → BlockUsesOnly N b
+    form_uses N (last l o) h w = operation_uses N o h w
+    form_uses N (binding x l o b) h w = (operation_uses N o h.0 w.0, form_uses (with_symbol N (symbol_of x)) b h.1 w.1)
+    form_uses N (recursive f p y b c) h w =
+        (form_uses (with_symbol (with_symbol N (symbol_of f)) (symbol_of y)) b h.2 w.0, form_uses (with_symbol N (symbol_of f)) c h.3 w.1)
+
+    arms_uses : (N : Symbols) (arms : Arms) → ArmsInScope P unknowns N arms → ArmsHaveForms arms → ArmsUseOnly N arms
+    arms_uses N no_arms h w = tt
+    arms_uses N (arm q b arms) h w =
+        (form_uses (with_names N (names_of q)) b (subst (λ M. BlockInScope P unknowns M b) (same_names N (names_of q)) h.0) w.0, arms_uses N arms h.1 w.1)
+
+  pub block_uses : (g : Bool) (N : Symbols) (b : Block) → BlockInScope P unknowns N b → IsBlockWritten P g b → BlockUsesOnly N b
+  block_uses g N b h w = form_uses N b h (block_forms P g b w)
 
 pub pure_more : (N M : Symbols) → IsWithin N M → (e : Pure) → PureOver N e → PureOver M e
 pure_more N M w (tree.whole n) o = tt
@@ -251,3 +241,7 @@ pure_more N M w (tree.compare c a b) o = (pure_more N M w a o.0, pure_more N M w
 pure_more N M w (tree.not_of a) o = pure_more N M w a o
 pure_more N M w (tree.and_of a b) o = (pure_more N M w a o.0, pure_more N M w b o.1)
 pure_more N M w (tree.or_of a b) o = (pure_more N M w a o.0, pure_more N M w b o.1)
+
+pub pures_more : (N M : Symbols) → IsWithin N M → (es : List Pure) → PuresOver N es → PuresOver M es
+pures_more N M w [] o = tt
+pures_more N M w (e ∷ es) o = (pure_more N M w e o.0, pures_more N M w es o.1)

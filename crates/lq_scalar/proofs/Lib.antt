@@ -7,6 +7,7 @@ mod NameKinds
 mod Contexts
 mod Forms
 mod Fine
+mod Components
 mod Plain
 mod Normal
 mod Example

@@ -1,25 +1,26 @@
 -- The kinds of the names that a program binds.
-use Rattle.std.proofs.Common.{◌≡◌, ℕ, ◌==◌, Bool, true, false, cond, List, [], ◌∷◌, ◌++◌, refl, sym, ap, ap₂, subst, ◌∙◌}
+use Rattle.std.proofs.Common.{◌≡◌, ℕ, ◌==◌, false, cond, List, [], ◌∷◌, ◌++◌, refl, sym, ap, ap₂, subst, ◌∙◌}
 use Rattle.std.proofs.lemmas.Bool.{eqb-true, eq-eqb}
 use Rattle.lq_checks.specs.Basis.{Basis}
-use Rattle.lq_checks.specs.Binders.{AllDiffer, IsNotIn, operation_binders, block_binders, binders}
+use Rattle.lq_checks.specs.Binders.{AllDiffer, IsNotIn, arms_binders, operation_binders, block_binders, binders}
 use Rattle.lq_checks.specs.Operation.{type_of, body_context, body_type, recursive_context, recursive_type, bind, last_context, last_type}
-use Rattle.lq_checks.specs.Pure.{formula_of}
-use Rattle.lq_checks.specs.Tree.{Operation, pure, fun, if_else, match_on, call, tuple, build, make, fetch, store, divide, remainder, assert, assert_false, read, print, map_empty, map_add, map_find, Block, last, binding, recursive, Program, no_items, define, define_recursive, run_unit, run_any}
+use Rattle.lq_checks.specs.Match.{in_arm}
+use Rattle.lq_checks.specs.Pure.{formula_of, type_of_use, variable_type}
+use Rattle.lq_checks.specs.Tree.{names_of, Use, Pattern, pattern_any, pattern_name, pattern_unit, pattern_tuple, pattern_build, Arms, no_arms, arm, Operation, pure, fun, if_else, match_on, call, tuple, build, make, fetch, store, divide, remainder, assert, assert_false, read, print, map_empty, map_add, map_find, Block, last, binding, recursive, Program, no_items, define, define_recursive, run_unit, run_any}
 use Rattle.lq_parts.specs.Part.{known}
 use Rattle.lq_pred.specs.Formula.{negation}
 use Rattle.lq_refined.specs.Context.{Context, guard}
-use Rattle.lq_refined.specs.Refined.{Refined, Kind, other, kind, argument_of, unit_type}
-use Rattle.lq_scalar.specs.Written.{IsOperationWritten, IsBlockWritten, IsWritten}
+use Rattle.lq_refined.specs.Refined.{Refined, Refineds, none, Kind, other, kind, argument_of, components_of, unit_type}
+use Rattle.lq_subtype.specs.Splitting.{first_of, rest_of}
 use Rattle.lq_scalar.proofs.Twins.{clash, false_unless}
 
 -- names with their kinds
 abbrev pub Kinds : Type 0
 Kinds = List (ℕ × Kind)
 
-abbrev names_of : Kinds → List ℕ
-names_of [] = []
-names_of (e ∷ es) = e.0 ∷ names_of es
+abbrev names_of_kinds : Kinds → List ℕ
+names_of_kinds [] = []
+names_of_kinds (e ∷ es) = e.0 ∷ names_of_kinds es
 
 -- each of these names has its kind
 abbrev pub Agree : (ℕ → Kind) → Kinds → Type 0
@@ -34,7 +35,7 @@ pub agree_back : (m : ℕ → Kind) (es fs : Kinds) → Agree m (es ++ fs) → A
 agree_back m [] fs h = h
 agree_back m (e ∷ es) fs h = agree_back m es fs h.1
 
-names_joined : (es fs : Kinds) → names_of (es ++ fs) ≡ names_of es ++ names_of fs
+names_joined : (es fs : Kinds) → names_of_kinds (es ++ fs) ≡ names_of_kinds es ++ names_of_kinds fs
 names_joined [] fs = refl
 names_joined (e ∷ es) fs = ap (λ xs. e.0 ∷ xs) (names_joined es fs)
 
@@ -45,26 +46,40 @@ kind_in [] x = other
 kind_in (e ∷ es) x = cond (e.0 == x) e.1 (kind_in es x)
 
 -- the first one hides no other
-others_agree : (e : ℕ × Kind) (m : ℕ → Kind) (es : Kinds) → IsNotIn (names_of es) e.0 → Agree m es → Agree (λ x. cond (e.0 == x) e.1 (m x)) es
+others_agree : (e : ℕ × Kind) (m : ℕ → Kind) (es : Kinds) → IsNotIn (names_of_kinds es) e.0 → Agree m es → Agree (λ x. cond (e.0 == x) e.1 (m x)) es
 others_agree e m [] n h = tt
 others_agree e m (f ∷ es) n h =
     let apart : (e.0 == f.0) ≡ false =
     false_unless (e.0 == f.0) (λ k. clash (f.0 == e.0) (eq-eqb f.0 e.0 (sym (eqb-true e.0 f.0 k))) n.0) in
     (ap (λ b. cond b e.1 (m f.0)) apart ∙ h.0, others_agree e m es n.1 h.1)
 
-differing_agree : (es : Kinds) → AllDiffer (names_of es) → Agree (kind_in es) es
+differing_agree : (es : Kinds) → AllDiffer (names_of_kinds es) → Agree (kind_in es) es
 differing_agree [] h = tt
 differing_agree (e ∷ es) h =
     (ap (λ b. cond b e.1 (kind_in es e.0)) (eq-eqb e.0 e.0 refl), others_agree e (kind_in es) es h.0 (differing_agree es h.1))
 
 -- ---- of programs
 
+-- of components
+abbrev pub component_kinds : List ℕ → Refineds → Kinds
+component_kinds [] ts = []
+component_kinds (x ∷ xs) ts = (x, kind (first_of ts)) ∷ component_kinds xs (rest_of ts)
+
 module _ (P : Basis) where
+  -- where a pattern takes values of the use's type
+  abbrev pub pattern_kinds : Context → Use → Pattern → Kinds
+  pattern_kinds Γ u pattern_any = []
+  pattern_kinds Γ u (pattern_name x) = (x, kind (variable_type P.setting.scopes u.name (type_of_use P Γ u))) ∷ []
+  pattern_kinds Γ u pattern_unit = []
+  pattern_kinds Γ u (pattern_tuple xs) = component_kinds xs (components_of (type_of_use P Γ u))
+  pattern_kinds Γ u (pattern_build c xs) = component_kinds xs none
+
   abbrev mutual
     pub operation_kinds : Context → Operation → Refined → Kinds
     operation_kinds Γ (fun p y b) t = (y, kind (argument_of t)) ∷ block_kinds (body_context Γ y t) b (body_type P.setting.scopes y t)
     operation_kinds Γ (if_else p c a b) t =
         block_kinds (guard (known (formula_of c)) ∷ Γ) a t ++ block_kinds (guard (known (negation (formula_of c))) ∷ Γ) b t
+    operation_kinds Γ (match_on p u arms) t = arms_kinds Γ u arms t
     operation_kinds Γ _ t = []
 
     pub block_kinds : Context → Block → Refined → Kinds
@@ -74,6 +89,10 @@ module _ (P : Basis) where
     block_kinds Γ (recursive g p y b c) t =
         (g, kind (P.template p)) ∷ (y, kind (argument_of (P.template p)))
         ∷ (block_kinds (recursive_context P Γ g p y) b (recursive_type P p y) ++ block_kinds (bind g (P.template p) Γ) c t)
+
+    pub arms_kinds : Context → Use → Arms → Refined → Kinds
+    arms_kinds Γ u no_arms t = []
+    arms_kinds Γ u (arm q b arms) t = (pattern_kinds Γ u q ++ block_kinds (in_arm P Γ u q) b t) ++ arms_kinds Γ u arms t
 
   abbrev pub given_kinds : Context → Block → Kinds
   given_kinds Γ (last l o) = operation_kinds Γ o (type_of P Γ o)
@@ -95,74 +114,93 @@ module _ (P : Basis) where
 
   -- ---- these are the program's binders
 
-  joined : (es fs : Kinds) (xs ys : List ℕ) → names_of es ≡ xs → names_of fs ≡ ys → names_of (es ++ fs) ≡ xs ++ ys
+  joined : (es fs : Kinds) (xs ys : List ℕ) → names_of_kinds es ≡ xs → names_of_kinds fs ≡ ys → names_of_kinds (es ++ fs) ≡ xs ++ ys
   joined es fs xs ys h k = names_joined es fs ∙ ap₂ (λ us vs. us ++ vs) h k
 
-  mutual
-    operation_names : (Γ : Context) (o : Operation) (t : Refined) → IsOperationWritten P o → names_of (operation_kinds Γ o t) ≡ operation_binders o
-    operation_names Γ (fun p y b) t w = ap (λ xs. y ∷ xs) (block_names true (body_context Γ y t) b (body_type P.setting.scopes y t) w)
-    operation_names Γ (if_else p c a b) t w =
-        joined (block_kinds (guard (known (formula_of c)) ∷ Γ) a t) (block_kinds (guard (known (negation (formula_of c))) ∷ Γ) b t) (block_binders a)
-        (block_binders b) (block_names true (guard (known (formula_of c)) ∷ Γ) a t w.1)
-        (block_names true (guard (known (negation (formula_of c))) ∷ Γ) b t w.2)
-    operation_names Γ (pure e) t w = refl
-    operation_names Γ (match_on p u arms) t w = absurd w
-    operation_names Γ (call g a) t w = refl
-    operation_names Γ (tuple es) t w = refl
-    operation_names Γ (build p c es) t w = refl
-    operation_names Γ (make p n e) t w = refl
-    operation_names Γ (fetch u i) t w = refl
-    operation_names Γ (store u i e) t w = refl
-    operation_names Γ (divide x y) t w = refl
-    operation_names Γ (remainder x y) t w = refl
-    operation_names Γ (assert e) t w = refl
-    operation_names Γ (assert_false p) t w = refl
-    operation_names Γ (read e) t w = refl
-    operation_names Γ (print e) t w = refl
-    operation_names Γ (map_empty p) t w = refl
-    operation_names Γ (map_add p k e m) t w = refl
-    operation_names Γ (map_find k m) t w = refl
+  components_names : (xs : List ℕ) (ts : Refineds) → names_of_kinds (component_kinds xs ts) ≡ xs
+  components_names [] ts = refl
+  components_names (x ∷ xs) ts = ap (λ ys. x ∷ ys) (components_names xs (rest_of ts))
 
-    block_names : (g : Bool) (Γ : Context) (b : Block) (t : Refined) → IsBlockWritten P g b → names_of (block_kinds Γ b t) ≡ block_binders b
-    block_names g Γ (last l o) t w = operation_names Γ o t w.0
-    block_names g Γ (binding x l o b) t w =
+  pattern_names : (Γ : Context) (u : Use) (q : Pattern) → names_of_kinds (pattern_kinds Γ u q) ≡ names_of q
+  pattern_names Γ u pattern_any = refl
+  pattern_names Γ u (pattern_name x) = refl
+  pattern_names Γ u pattern_unit = refl
+  pattern_names Γ u (pattern_tuple xs) = components_names xs (components_of (type_of_use P Γ u))
+  pattern_names Γ u (pattern_build c xs) = components_names xs none
+
+  mutual
+    operation_names : (Γ : Context) (o : Operation) (t : Refined) → names_of_kinds (operation_kinds Γ o t) ≡ operation_binders o
+    operation_names Γ (fun p y b) t = ap (λ xs. y ∷ xs) (block_names (body_context Γ y t) b (body_type P.setting.scopes y t))
+    operation_names Γ (if_else p c a b) t =
+        joined (block_kinds (guard (known (formula_of c)) ∷ Γ) a t) (block_kinds (guard (known (negation (formula_of c))) ∷ Γ) b t) (block_binders a)
+        (block_binders b) (block_names (guard (known (formula_of c)) ∷ Γ) a t)
+        (block_names (guard (known (negation (formula_of c))) ∷ Γ) b t)
+    operation_names Γ (pure e) t = refl
+    operation_names Γ (match_on p u arms) t = arms_names Γ u arms t
+    operation_names Γ (call g a) t = refl
+    operation_names Γ (tuple es) t = refl
+    operation_names Γ (build p c es) t = refl
+    operation_names Γ (make p n e) t = refl
+    operation_names Γ (fetch u i) t = refl
+    operation_names Γ (store u i e) t = refl
+    operation_names Γ (divide x y) t = refl
+    operation_names Γ (remainder x y) t = refl
+    operation_names Γ (assert e) t = refl
+    operation_names Γ (assert_false p) t = refl
+    operation_names Γ (read e) t = refl
+    operation_names Γ (print e) t = refl
+    operation_names Γ (map_empty p) t = refl
+    operation_names Γ (map_add p k e m) t = refl
+    operation_names Γ (map_find k m) t = refl
+
+    block_names : (Γ : Context) (b : Block) (t : Refined) → names_of_kinds (block_kinds Γ b t) ≡ block_binders b
+    block_names Γ (last l o) t = operation_names Γ o t
+    block_names Γ (binding x l o b) t =
         joined (operation_kinds Γ o (type_of P Γ o)) ((x, kind (type_of P Γ o)) ∷ block_kinds (bind x (type_of P Γ o) Γ) b t) (operation_binders o)
-        (x ∷ block_binders b) (operation_names Γ o (type_of P Γ o) w.0)
-        (ap (λ xs. x ∷ xs) (block_names g (bind x (type_of P Γ o) Γ) b t w.2))
-    block_names g Γ (recursive f p y b c) t w =
+        (x ∷ block_binders b) (operation_names Γ o (type_of P Γ o))
+        (ap (λ xs. x ∷ xs) (block_names (bind x (type_of P Γ o) Γ) b t))
+    block_names Γ (recursive f p y b c) t =
         ap (λ xs. f ∷ y ∷ xs)
         (joined (block_kinds (recursive_context P Γ f p y) b (recursive_type P p y)) (block_kinds (bind f (P.template p) Γ) c t) (block_binders b)
-        (block_binders c) (block_names true (recursive_context P Γ f p y) b (recursive_type P p y) w.1)
-        (block_names g (bind f (P.template p) Γ) c t w.2))
+        (block_binders c) (block_names (recursive_context P Γ f p y) b (recursive_type P p y))
+        (block_names (bind f (P.template p) Γ) c t))
 
-  given_names : (Γ : Context) (b : Block) → IsBlockWritten P false b → names_of (given_kinds Γ b) ≡ block_binders b
-  given_names Γ (last l o) w = operation_names Γ o (type_of P Γ o) w.0
-  given_names Γ (binding x l o b) w =
+    arms_names : (Γ : Context) (u : Use) (arms : Arms) (t : Refined) → names_of_kinds (arms_kinds Γ u arms t) ≡ arms_binders arms
+    arms_names Γ u no_arms t = refl
+    arms_names Γ u (arm q b arms) t =
+        joined (pattern_kinds Γ u q ++ block_kinds (in_arm P Γ u q) b t) (arms_kinds Γ u arms t) (names_of q ++ block_binders b) (arms_binders arms)
+        (joined (pattern_kinds Γ u q) (block_kinds (in_arm P Γ u q) b t) (names_of q) (block_binders b) (pattern_names Γ u q)
+        (block_names (in_arm P Γ u q) b t))
+        (arms_names Γ u arms t)
+
+  given_names : (Γ : Context) (b : Block) → names_of_kinds (given_kinds Γ b) ≡ block_binders b
+  given_names Γ (last l o) = operation_names Γ o (type_of P Γ o)
+  given_names Γ (binding x l o b) =
       joined (operation_kinds Γ o (type_of P Γ o)) ((x, kind (type_of P Γ o)) ∷ given_kinds (bind x (type_of P Γ o) Γ) b) (operation_binders o)
-      (x ∷ block_binders b) (operation_names Γ o (type_of P Γ o) w.0)
-      (ap (λ xs. x ∷ xs) (given_names (bind x (type_of P Γ o) Γ) b w.2))
-  given_names Γ (recursive f p y b c) w =
+      (x ∷ block_binders b) (operation_names Γ o (type_of P Γ o))
+      (ap (λ xs. x ∷ xs) (given_names (bind x (type_of P Γ o) Γ) b))
+  given_names Γ (recursive f p y b c) =
       ap (λ xs. f ∷ y ∷ xs)
       (joined (block_kinds (recursive_context P Γ f p y) b (recursive_type P p y)) (given_kinds (bind f (P.template p) Γ) c) (block_binders b)
-      (block_binders c) (block_names true (recursive_context P Γ f p y) b (recursive_type P p y) w.1)
-      (given_names (bind f (P.template p) Γ) c w.2))
+      (block_binders c) (block_names (recursive_context P Γ f p y) b (recursive_type P p y))
+      (given_names (bind f (P.template p) Γ) c))
 
-  program_names : (Γ : Context) (p : Program) → IsWritten P p → names_of (program_kinds Γ p) ≡ binders p
-  program_names Γ no_items w = refl
-  program_names Γ (define x l k b rest) w =
+  program_names : (Γ : Context) (p : Program) → names_of_kinds (program_kinds Γ p) ≡ binders p
+  program_names Γ no_items = refl
+  program_names Γ (define x l k b rest) =
       joined (given_kinds Γ b) ((x, kind (last_type P Γ b)) ∷ program_kinds (bind x (last_type P Γ b) (last_context P Γ b)) rest) (block_binders b)
-      (x ∷ binders rest) (given_names Γ b w.0)
-      (ap (λ xs. x ∷ xs) (program_names (bind x (last_type P Γ b) (last_context P Γ b)) rest w.1))
-  program_names Γ (define_recursive g p y b rest) w =
+      (x ∷ binders rest) (given_names Γ b)
+      (ap (λ xs. x ∷ xs) (program_names (bind x (last_type P Γ b) (last_context P Γ b)) rest))
+  program_names Γ (define_recursive g p y b rest) =
       ap (λ xs. g ∷ y ∷ xs)
       (joined (block_kinds (recursive_context P Γ g p y) b (recursive_type P p y)) (program_kinds (bind g (P.template p) Γ) rest) (block_binders b)
-      (binders rest) (block_names true (recursive_context P Γ g p y) b (recursive_type P p y) w.1)
-      (program_names (bind g (P.template p) Γ) rest w.2))
-  program_names Γ (run_unit b rest) w =
-      joined (block_kinds Γ b unit_type) (program_kinds Γ rest) (block_binders b) (binders rest) (block_names true Γ b unit_type w.0) (program_names Γ rest w.1)
-  program_names Γ (run_any b rest) w =
-      joined (given_kinds Γ b) (program_kinds Γ rest) (block_binders b) (binders rest) (given_names Γ b w.0) (program_names Γ rest w.1)
+      (binders rest) (block_names (recursive_context P Γ g p y) b (recursive_type P p y))
+      (program_names (bind g (P.template p) Γ) rest))
+  program_names Γ (run_unit b rest) =
+      joined (block_kinds Γ b unit_type) (program_kinds Γ rest) (block_binders b) (binders rest) (block_names Γ b unit_type) (program_names Γ rest)
+  program_names Γ (run_any b rest) =
+      joined (given_kinds Γ b) (program_kinds Γ rest) (block_binders b) (binders rest) (given_names Γ b) (program_names Γ rest)
 
   -- so where they differ there are kinds for them
-  pub binders_agree : (p : Program) → IsWritten P p → AllDiffer (binders p) → Agree (kind_in (program_kinds [] p)) (program_kinds [] p)
-  binders_agree p w d = differing_agree (program_kinds [] p) (subst AllDiffer (sym (program_names [] p w)) d)
+  pub binders_agree : (p : Program) → AllDiffer (binders p) → Agree (kind_in (program_kinds [] p)) (program_kinds [] p)
+  binders_agree p d = differing_agree (program_kinds [] p) (subst AllDiffer (sym (program_names [] p)) d)

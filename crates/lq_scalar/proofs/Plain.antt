@@ -1,14 +1,17 @@
 -- Programs whose forms are scalar, and whose templates are written so, are plain.
-use Rattle.std.proofs.Common.{◌≡◌, inr, ℕ, Bool, true, false, [], ◌∷◌, Option, Some, None, refl, sym, ap, subst, ◌∙◌}
+use Rattle.std.proofs.Common.{◌≡◌, inr, ℕ, Bool, true, false, List, [], ◌∷◌, ◌++◌, Option, Some, None, refl, sym, ap, subst, ◌∙◌}
 use Rattle.lq_name.specs.declared.place.Place.{Place}
 use Rattle.lq_checks.specs.Basis.{Basis}
-use Rattle.lq_checks.specs.Binders.{IsNewName, operation_binders, block_binders, binders}
+use Rattle.lq_checks.specs.Binders.{AreNewNames, IsNewName, arms_binders, operation_binders, block_binders, binders}
+use Rattle.lq_checks.specs.Match.{bind_components, in_arm, is_data_match, is_datatype}
 use Rattle.lq_checks.specs.Operation.{body_context, body_type, recursive_context, recursive_type, type_of, bind, last_context, last_type}
 use Rattle.lq_checks.specs.Pure.{formula_of, pure_type, type_of_use}
-use Rattle.lq_checks.specs.Ready.{IsReadyBlock, IsReadyGiven, IsReadyOperation, IsReady, SameType, Where}
-use Rattle.lq_checks.specs.Tree.{passes_on, Pure, Operation, pure, fun, if_else, match_on, call, tuple, build, make, fetch, store, divide, remainder, assert, assert_false, read, print, map_empty, map_add, map_find, Block, last, binding, recursive, Program, no_items, define, define_recursive, run_unit, run_any}
-use Rattle.lq_checks.specs.Typing.{Points, AreTemplates, IsPointed, Types, HasOperation, has_fun, has_if, HasBlock, has_last, has_binding, has_recursive, HasRecursive, has_body, HasEnd, end_last, end_binding, end_recursive, HasProgram, has_define, has_define_recursive, has_run_unit, has_run_any}
+use Rattle.lq_checks.specs.Ready.{IsReadyBlock, IsReadyFirst, IsReadyGiven, IsReadyOperation, IsReady, SameType, Where}
+use Rattle.lq_checks.specs.Tree as tree
+use Rattle.lq_checks.specs.Tree.{names_of, passes_on, Use, Pattern, pattern_any, pattern_name, pattern_unit, pattern_tuple, pattern_build, Arms, no_arms, arm, Pure, Operation, pure, fun, if_else, match_on, call, tuple, build, make, fetch, store, divide, remainder, assert, assert_false, read, print, map_empty, map_add, map_find, Block, last, binding, recursive, Program, no_items, define, define_recursive, run_unit, run_any}
+use Rattle.lq_checks.specs.Typing.{Points, AreTemplates, IsPointed, Types, HasOperation, has_fun, has_if, has_match, HaveArms, have_arm, HasBlock, has_last, has_binding, has_recursive, HasRecursive, has_body, HasEnd, end_last, end_binding, end_recursive, HasProgram, has_define, has_define_recursive, has_run_unit, has_run_any}
 use Rattle.lq_included.specs.Symbols.{Symbols, with_symbol, TypeOn}
+use Rattle.lq_in_scope.specs.InScope as scopes
 use Rattle.lq_in_scope.specs.InScope.{BlockInScope, InScope, NamesParameter, OperationInScope, PureInScope, no_names}
 use Rattle.lq_in_scope.specs.Laws.{TypesAreOver}
 use Rattle.lq_in_scope.specs.Over.{AreSorted, IsWithin, TypeOver, of_any_sort, with_argument}
@@ -16,27 +19,46 @@ use Rattle.lq_inhabits.specs.Truth.{Objects, Scene}
 use Rattle.lq_names_kept.specs.Laws.{KeepNames, NamesAreKept}
 use Rattle.lq_parts.specs.Assignment.{Assignment}
 use Rattle.lq_parts.specs.Part.{known}
-use Rattle.lq_plain.specs.Plain.{IsFlow, IsGivenOver, IsPlain, IsPlainBlock, IsPlainGiven, IsPlainProgram, IsRecursionOver}
+use Rattle.lq_plain.specs.Plain.{IsFlow, IsGivenOver, IsPlain, IsPlainBlock, IsPlainFirst, IsPlainGiven, IsPlainProgram, IsRecursionOver}
+use Rattle.lq_plain.proofs.Datatypes.{within_arm}
 use Rattle.lq_plain_scope.specs.Laws.{RecursionsAreOver}
 use Rattle.lq_pred.specs.Formula.{negation}
 use Rattle.lq_pures.specs.Pures.{PureOver, UseOver, scene_of}
-use Rattle.lq_refined.specs.Context.{Context, guard}
+use Rattle.lq_refined.specs.Context.{Context, guard, type_in}
 use Rattle.lq_refined.specs.Operations.{symbol_of}
-use Rattle.lq_refined.specs.Refined.{Refined, int_with, bool_with, unit_type, function, tuple_of, array_with, data_with, map_with, type_variable, Kind, kind, argument_of, erased}
+use Rattle.lq_refined.specs.Refined.{Refined, int_with, bool_with, unit_type, function, tuple_of, array_with, data_with, map_with, type_variable, Kind, kind, argument_of, components_of, element_of, erased}
 use Rattle.lq_runs.specs.Closed.{names_in, IsTypeOver}
 use Rattle.lq_runs.proofs.Closing.{within_with, with_within}
+use Rattle.lq_safe.specs.Programs.{PuresOver}
 use Rattle.lq_safe.specs.Scoped.{IsOperand, NamesArgument}
+use Rattle.lq_safe.proofs.Parts.{here_false, where_false}
 use Rattle.lq_templates.specs.Scopes.{Unknown, symbols_in}
+use Rattle.lq_tuples.specs.Tuples.{AreUsable, HasComponentsOver}
 use Rattle.lq_tree.specs.MlType as ml
 use Rattle.lq_tree.specs.MlType.{MlType}
 use Rattle.lq_scalar.specs.Laws.{ScalarProgramsArePlain}
 use Rattle.lq_scalar.specs.Scalar.{HaveTwins}
-use Rattle.lq_scalar.specs.Written.{HasPlainUses, IsBlockFor, IsBlockWritten, IsFunctionFor, IsGivenWritten, IsNameless, IsNamedBy, IsOperationFor, IsOperationWritten, IsWritten}
+use Rattle.lq_scalar.specs.Written.{HasPlainUses, IsBlockFor, IsBlockWritten, IsFunctionFor, IsGivenWritten, IsNameless, IsNamedBy, IsOperationFor, IsOperationWritten, IsScalar, IsWritten, TakesNoFields}
 use Rattle.lq_scalar.proofs.Contexts as contexts
-use Rattle.lq_scalar.proofs.Contexts.{fine_known, function_far, good_bind, good_guard, near_bind, own_body, own_near, pure_fine, pure_usable, small_bind, small_names, use_known, wide}
-use Rattle.lq_scalar.proofs.Fine.{argument_fine, flow, nameless_fine, operation_fine, sort_within, typed}
-use Rattle.lq_scalar.proofs.Forms.{base_flow, block_uses, element_base, function_scalar, nameless_block, pure_more, pure_uses, twins_back, twins_front}
-use Rattle.lq_scalar.proofs.NameKinds.{Agree, agree_back, agree_front, binders_agree, block_kinds, given_kinds, kind_in, operation_kinds, program_kinds}
+use Rattle.lq_scalar.proofs.Components as opening
+use Rattle.lq_scalar.proofs.Components.{known_opened, named_components, none_opened, tuple_opened, tuple_sorted}
+use Rattle.lq_scalar.proofs.Contexts.{IsKnown, fine_known, function_far, good_bind, good_guard, known_usable, near_bind, own_body, own_near, pure_fine, pure_usable, small_bind, small_names, use_known, wide}
+use Rattle.lq_scalar.proofs.Fine.{argument_fine, element_fine, flow, nameless_fine, operation_fine, sort_within, typed}
+use Rattle.lq_scalar.proofs.Forms.{arms_covered, block_forms, block_uses, function_scalar, nameless_block, pure_more, pure_uses, pures_more, pures_uses, twins_back, twins_front}
+use Rattle.lq_scalar.proofs.NameKinds.{Agree, agree_back, agree_front, arms_kinds, binders_agree, block_kinds, component_kinds, pattern_kinds, given_kinds, kind_in, operation_kinds, program_kinds}
+
+-- ---- types
+
+not_data : (t : Refined) → IsScalar t → is_datatype t ≡ false
+not_data (int_with p) s = refl
+not_data (bool_with p) s = refl
+not_data unit_type s = refl
+not_data (function x a b) s = refl
+not_data (tuple_of ts) s = refl
+not_data (array_with e p) s = refl
+not_data (data_with d ts n p) s = absurd s
+not_data (map_with e p) s = refl
+not_data (type_variable i) s = refl
 
 -- ---- simple types
 
@@ -54,6 +76,7 @@ module _ (P : Basis) (Q : Points) where
   IsSuited Δ (fun p y b) t =
       IsFunctionFor y b t × ((u : MlType) × ((v : MlType) × (HasBlock P Q ((y, u) ∷ Δ) b v × (erased t ≡ ml.arrow u v))))
   IsSuited Δ (if_else p c a b) t = IsNameless t × HasBlock P Q Δ a (erased t) × HasBlock P Q Δ b (erased t)
+  IsSuited Δ (match_on p u arms) t = IsNameless t × ((a : MlType) × HaveArms P Q Δ a arms (erased t))
   IsSuited Δ _ t = Unit {0}
 
   fun_typing : {Δ : Types} {p y : ℕ} {b : Block} {a : MlType} → HasOperation P Q Δ (fun p y b) a
@@ -63,6 +86,14 @@ module _ (P : Basis) (Q : Points) where
   if_typing : {Δ : Types} {p : ℕ} {c : Pure} {a b : Block} {t : MlType} → HasOperation P Q Δ (if_else p c a b) t
       → HasBlock P Q Δ a t × HasBlock P Q Δ b t
   if_typing (has_if e h k) = (h, k)
+
+  match_typing : {Δ : Types} {p : ℕ} {u : Use} {arms : Arms} {t : MlType} → HasOperation P Q Δ (match_on p u arms) t
+      → (a : MlType) × HaveArms P Q Δ a arms t
+  match_typing (has_match {u = u} h) = (_, h)
+
+  arm_typing : {Δ : Types} {a c : MlType} {q : Pattern} {b : Block} {arms : Arms} → HaveArms P Q Δ a (arm q b arms) c
+      → (Θ : Types) × HasBlock P Q Θ b c
+  arm_typing (have_arm {Θ = Θ} q h r) = (Θ, h)
 
   last_typing : {Δ : Types} {l : Place} {o : Operation} {a : MlType} → HasBlock P Q Δ (last l o) a → HasOperation P Q Δ o a
   last_typing (has_last h) = h
@@ -114,7 +145,7 @@ module _ (P : Basis) (Q : Points) where
   suited_last Δ (fun p y b) t h w = (w, fun_typing h)
   suited_last Δ (if_else p c a b) t h w = (w, (if_typing h).0, (if_typing h).1)
   suited_last Δ (pure e) t h w = tt
-  suited_last Δ (match_on p u arms) t h w = tt
+  suited_last Δ (match_on p u arms) t h w = (w, match_typing h)
   suited_last Δ (call g a) t h w = tt
   suited_last Δ (tuple es) t h w = tt
   suited_last Δ (build p c es) t h w = tt
@@ -140,7 +171,9 @@ module _ (P : Basis) (Q : Points) where
       let e : erased (P.template p) ≡ a = T.templates p ∙ q in
       let f = if_typing h in (w, subst (λ t. HasBlock P Q Δ x t) (sym e) f.0, subst (λ t. HasBlock P Q Δ y t) (sym e) f.1)
   suited_given T Δ Γ (pure e) a h q w = tt
-  suited_given T Δ Γ (match_on p u arms) a h q w = tt
+  suited_given T Δ Γ (match_on p u arms) a h q w =
+      let e : erased (P.template p) ≡ a = T.templates p ∙ q in
+      let f = match_typing h in (w, (f.0, subst (λ t. HaveArms P Q Δ f.0 arms t) (sym e) f.1))
   suited_given T Δ Γ (call g e) a h q w = tt
   suited_given T Δ Γ (tuple es) a h q w = tt
   suited_given T Δ Γ (build p c es) a h q w = tt
@@ -298,6 +331,59 @@ module _ (over : TypesAreOver) (kept : NamesAreKept) (recursions : RecursionsAre
   operand : (Γ : Context) → Good Γ → (e : Pure) → PureOver (names_in Γ) e → IsOperand P A O Γ e
   operand Γ good e o = (o, pure_usable P unknowns keep m over A O sorted Γ good e o)
 
+  operands : (Γ : Context) → Good Γ → (es : List Pure) → PuresOver (names_in Γ) es → AreUsable S Γ es
+  operands Γ good [] o = tt
+  operands Γ good (e ∷ es) o = (o.0, pure_usable P unknowns keep m over A O sorted Γ good e o.0, operands Γ good es o.1)
+
+  -- ---- arms
+
+  abbrev Opened : Context → Context → Type 0
+  Opened = opening.IsOpened P unknowns keep m over A O sorted
+
+  tuple_arm : (Γ : Context) → Good Γ → (xs : List ℕ) (t : Refined) → IsKnown P unknowns keep m (names_in Γ) t → AreNewNames xs Γ → HaveTwins xs
+      → Agree m (component_kinds xs (components_of t)) → Opened Γ (bind_components P.setting.scopes [] 0 xs (components_of t) Γ)
+  tuple_arm Γ good xs (tuple_of ts) k new twins kinds = tuple_opened P unknowns keep m over A O sorted xs ts Γ good k new twins kinds
+  tuple_arm Γ good xs (int_with p) k new twins kinds = none_opened P unknowns keep m over A O sorted xs Γ good new twins kinds
+  tuple_arm Γ good xs (bool_with p) k new twins kinds = none_opened P unknowns keep m over A O sorted xs Γ good new twins kinds
+  tuple_arm Γ good xs unit_type k new twins kinds = none_opened P unknowns keep m over A O sorted xs Γ good new twins kinds
+  tuple_arm Γ good xs (function x a b) k new twins kinds = none_opened P unknowns keep m over A O sorted xs Γ good new twins kinds
+  tuple_arm Γ good xs (array_with e p) k new twins kinds = none_opened P unknowns keep m over A O sorted xs Γ good new twins kinds
+  tuple_arm Γ good xs (data_with d ts n p) k new twins kinds = none_opened P unknowns keep m over A O sorted xs Γ good new twins kinds
+  tuple_arm Γ good xs (map_with e p) k new twins kinds = none_opened P unknowns keep m over A O sorted xs Γ good new twins kinds
+  tuple_arm Γ good xs (type_variable i) k new twins kinds = none_opened P unknowns keep m over A O sorted xs Γ good new twins kinds
+
+  arm_opened : (Γ : Context) → Good Γ → (u : Use) → UseOver (names_in Γ) u → (q : Pattern) → TakesNoFields q → AreNewNames (names_of q) Γ
+      → HaveTwins (names_of q) → Agree m (pattern_kinds P Γ u q) → Opened Γ (in_arm P Γ u q)
+  arm_opened Γ good u o pattern_any f new twins kinds = (good, (λ c. c))
+  arm_opened Γ good u o (pattern_name x) f new twins kinds =
+      let t = pure_type P Γ (tree.use_of u) in
+      let fine = pure_fine P unknowns keep m Γ good (tree.use_of u) o in
+      known_opened P unknowns keep m over A O sorted Γ good x t new.0 twins.0 kinds.0 (fine_known P unknowns keep m (names_in Γ) t fine)
+  arm_opened Γ good u o pattern_unit f new twins kinds = (good, (λ c. c))
+  arm_opened Γ good u o (pattern_tuple xs) f new twins kinds =
+      tuple_arm Γ good xs (type_of_use P Γ u) (use_known P unknowns keep m Γ good u o) new twins kinds
+  arm_opened Γ good u o (pattern_build c xs) f new twins kinds = absurd f
+
+  arm_names : (N : Symbols) (Γ : Context) → IsWithin N (names_in Γ) → (u : Use) (q : Pattern) → TakesNoFields q
+      → IsWithin (scopes.with_names N (names_of q)) (names_in (in_arm P Γ u q))
+  arm_names N Γ w u pattern_any f = w
+  arm_names N Γ w u (pattern_name x) f = with_within N (names_in Γ) (symbol_of x) w
+  arm_names N Γ w u pattern_unit f = w
+  arm_names N Γ w u (pattern_tuple xs) f = named_components P xs [] 0 (components_of (type_of_use P Γ u)) N Γ w
+  arm_names N Γ w u (pattern_build c xs) f = absurd f
+
+  -- the components of a tuple's type, by sorts
+  components_over : (N : Symbols) (t : Refined) → IsKnown P unknowns keep m N t → HasComponentsOver A N t
+  components_over N (tuple_of ts) k = tuple_sorted P unknowns keep m over A O sorted N ts k
+  components_over N (int_with p) k = tt
+  components_over N (bool_with p) k = tt
+  components_over N unit_type k = tt
+  components_over N (function x a b) k = tt
+  components_over N (array_with e p) k = tt
+  components_over N (data_with d ts n p) k = tt
+  components_over N (map_with e p) k = tt
+  components_over N (type_variable i) k = tt
+
   -- ---- a recursive function's name in the environment
 
   recursive_good : (N : Symbols) (Γ : Context) → IsWithin N (names_in Γ) → Good Γ → (g p y : ℕ) (b : Block) → Over N (P.template p)
@@ -362,7 +448,32 @@ module _ (over : TypesAreOver) (kept : NamesAreKept) (recursions : RecursionsAre
               (twins_back (block_binders a) (block_binders b) twins) (agree_back m (block_kinds P x a t) (block_kinds P y b t) kinds)
               (nameless_block b t suited.0) h Δ suited.2,
         )
-    operation_plain (match_on p u arms) N Γ w good t scoped written ready twins kinds h Δ suited = absurd written
+    operation_plain (match_on p u no_arms) N Γ w good t scoped written ready twins kinds h Δ suited = absurd written
+    operation_plain (match_on p u (arm q b arms)) N Γ w good t scoped written ready twins kinds h Δ suited =
+        let used : UseOver (names_in Γ) u = (w (symbol_of u.name) scoped.1.0, written.0) in
+        let own = type_in Γ (symbol_of u.name) in
+        let known = good.types u.name used.0 in
+        let flat = not_data (type_of_use P Γ u) (use_known P unknowns keep m Γ good u used).scalar in
+        let Λ = in_arm P Γ u q in
+        let r = where_false (is_data_match P Γ u) _ (IsReadyFirst P Γ u (arm q b arms) t) flat ready in
+        let tf = twins_front (names_of q ++ block_binders b) (arms_binders arms) twins in
+        let kf = agree_front m (pattern_kinds P Γ u q ++ block_kinds P Λ b t) (arms_kinds P Γ u arms t) kinds in
+        let opened = arm_opened Γ good u used q written.1 r.0 (twins_front (names_of q) (block_binders b) tf)
+        (agree_front m (pattern_kinds P Γ u q) (block_kinds P Λ b t) kf) in
+        let d = arm_typing P Q suited.1.1 in (
+          used,
+          inr (known_usable P unknowns keep m over A O sorted Γ good own known),
+          arms_covered (arm q b arms) (block_forms P true b written.2, written.3),
+          here_false (is_data_match P Γ u) _ (HasComponentsOver A (names_in Γ) own × IsPlainFirst P A O Γ u t (arm q b arms)) flat (
+            components_over (names_in Γ) own known,
+            (
+              opened.1,
+              block_plain b (scopes.with_names N (names_of q)) Λ (arm_names N Γ w u q written.1) opened.0 t scoped.2.0 written.2 r.1
+                  (twins_back (names_of q) (block_binders b) tf) (agree_back m (pattern_kinds P Γ u q) (block_kinds P Λ b t) kf)
+                  (nameless_block b t suited.0) (wide P unknowns keep m (names_in Γ) (names_in Λ) (within_arm P Γ u q) t h) d.0 d.1,
+            ),
+          ),
+        )
     operation_plain (call g a) N Γ w good t scoped written ready twins kinds h Δ suited =
         let over_g = operand_over N Γ w g scoped.0 written.0 in
         let over_a = operand_over N Γ w a scoped.1 written.1 in
@@ -370,26 +481,32 @@ module _ (over : TypesAreOver) (kept : NamesAreKept) (recursions : RecursionsAre
         let to = argument_fine P unknowns keep m (names_in Γ) (pure_type P Γ g) fine_g.scalar fine_g.over in (
           operand Γ good g over_g,
           operand Γ good a over_a,
-          flow P unknowns keep m over A O sorted (names_in Γ) (pure_type P Γ a) (argument_of (pure_type P Γ g)) (pure_fine P unknowns keep m Γ good a over_a)
-              to.0 to.1 ready,
+          flow P unknowns keep m over A O sorted (names_in Γ) good.clean (pure_type P Γ a) (argument_of (pure_type P Γ g))
+              (pure_fine P unknowns keep m Γ good a over_a) to.0 to.1,
         )
-    operation_plain (tuple es) N Γ w good t scoped written ready twins kinds h Δ suited = absurd written
+    operation_plain (tuple es) N Γ w good t scoped written ready twins kinds h Δ suited =
+        operands Γ good es (pures_more N (names_in Γ) w es (pures_uses P unknowns N es scoped written))
     operation_plain (build p c es) N Γ w good t scoped written ready twins kinds h Δ suited = absurd written
-    operation_plain (make p n e) N Γ w good t scoped written ready twins kinds h Δ suited = (
-      operand_over N Γ w n scoped.1 written.0,
-      operand Γ good e (operand_over N Γ w e scoped.2 written.1),
-      told (names_in Γ) (P.template p) (wide P unknowns keep m N (names_in Γ) w (P.template p) scoped.0),
-      base_flow S (names_in Γ) (pure_type P Γ e) (P.template p) written.2,
-    )
+    operation_plain (make p n e) N Γ w good t scoped written ready twins kinds h Δ suited =
+        let over_e = operand_over N Γ w e scoped.2 written.1 in
+        let o = wide P unknowns keep m N (names_in Γ) w (P.template p) scoped.0 in (
+          operand_over N Γ w n scoped.1 written.0,
+          operand Γ good e over_e,
+          told (names_in Γ) (P.template p) o,
+          flow P unknowns keep m over A O sorted (names_in Γ) good.clean (pure_type P Γ e) (P.template p) (pure_fine P unknowns keep m Γ good e over_e) written.2 o,
+        )
     operation_plain (fetch u i) N Γ w good t scoped written ready twins kinds h Δ suited =
         ((w (symbol_of u.name) scoped.0.0, written.0), operand_over N Γ w i scoped.1 written.1)
     operation_plain (store u i e) N Γ w good t scoped written ready twins kinds h Δ suited =
         let used : UseOver (names_in Γ) u = (w (symbol_of u.name) scoped.0.0, written.0) in
-        let k = use_known P unknowns keep m Γ good u used in (
+        let k = use_known P unknowns keep m Γ good u used in
+        let T = type_of_use P Γ u in
+        let to = element_fine P unknowns keep m (names_in Γ) T k.scalar (wide P unknowns keep m k.own (names_in Γ) k.within T k.over) in
+        let over_e = operand_over N Γ w e scoped.2 written.2 in (
           used,
           operand_over N Γ w i scoped.1 written.1,
-          operand Γ good e (operand_over N Γ w e scoped.2 written.2),
-          base_flow S (names_in Γ) (pure_type P Γ e) _ (element_base (type_of_use P Γ u) k.scalar),
+          operand Γ good e over_e,
+          flow P unknowns keep m over A O sorted (names_in Γ) good.clean (pure_type P Γ e) (element_of T) (pure_fine P unknowns keep m Γ good e over_e) to.0 to.1,
         )
     operation_plain (divide x y) N Γ w good t scoped written ready twins kinds h Δ suited =
         (operand_over N Γ w x scoped.0 written.0, operand_over N Γ w y scoped.1 written.1)
@@ -408,8 +525,8 @@ module _ (over : TypesAreOver) (kept : NamesAreKept) (recursions : RecursionsAre
       operation_plain o N Γ w good t scoped written.0 ready.0 twins kinds h Δ (suited_last P Q Δ o t (last_typing P Q typing) is),
       where_or (SameType (type_of P Γ o) t) (IsFlow S (names_in Γ) (type_of P Γ o) t) (passes_on o) ready.1
           (λ e same. let other = others P Q m Γ o t (type_of P Γ o) e is ready.0 in
-          flow P unknowns keep m over A O sorted (names_in Γ) (type_of P Γ o) t
-          (operation_fine P unknowns keep m N Γ w good o scoped written.0 other.1 other.2 twins other.3) other.0 h same),
+          flow P unknowns keep m over A O sorted (names_in Γ) good.clean (type_of P Γ o) t
+          (operation_fine P unknowns keep m N Γ w good o scoped written.0 other.1 other.2 twins other.3) other.0 h),
     )
     block_plain (binding x l o b) N Γ w good t scoped written ready twins kinds is h Δ typing =
         let T = type_of P Γ o in
@@ -562,4 +679,4 @@ pub scalar_plain : TypesAreOver → NamesAreKept → RecursionsAreOver → Scala
 scalar_plain over kept recursions P unknowns A O sorted agree Q templates p typing ready scoped differ twins written =
     let m = kind_in (program_kinds P [] p) in
     program_plain over kept recursions P unknowns A O sorted agree Q templates m p no_names [] (λ y h. absurd (not_true h))
-    (record { kinds = λ z h. absurd (not_true h); types = λ z h. absurd (not_true h) }) scoped written ready twins (binders_agree P p written differ) [] typing
+    (record { kinds = λ z h. absurd (not_true h); clean = λ k. refl; types = λ z h. absurd (not_true h) }) scoped written ready twins (binders_agree P p differ) [] typing

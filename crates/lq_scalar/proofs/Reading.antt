@@ -1,21 +1,20 @@
 -- What is read of scalar programs is written as their templates name it.
-use Rattle.std.proofs.Common.{◌≡◌, ℕ, suc, ◌+◌, arith, Bool, true, false, List, [], ◌∷◌, ◌++◌, length, Option, None, Some, refl, sym, subst}
+use Rattle.std.proofs.Common.{◌≡◌, ℕ, suc, ◌+◌, arith, Bool, true, false, cond, List, [], ◌∷◌, ◌++◌, length, Option, None, Some, refl, sym, subst}
 use Rattle.lq_checks.specs.Basis.{Basis}
 use Rattle.lq_checks.specs.Ready.{Where}
 use Rattle.lq_checks.specs.Tree as t
-use Rattle.lq_checks.specs.Tree.{has_template, last_operation}
+use Rattle.lq_checks.specs.Tree.{has_template, last_operation, names_of}
 use Rattle.lq_instances.specs.Scopes.{Scope}
 use Rattle.lq_name.specs.declared.operation.ArithOp.{ArithOp}
 use Rattle.lq_name.specs.declared.place.Place.{Place}
-use Rattle.lq_plain.specs.Plain.{IsBase}
-use Rattle.lq_points.specs.Annotation.{Annotation, argument_name, arguments_at, element_type}
+use Rattle.lq_points.specs.Annotation.{Annotation, argument_name, arguments_at, element_type, type_of_form}
 use Rattle.lq_points.specs.Point.{Point, whole}
-use Rattle.lq_points.specs.Pure.{Read, after, arithmetic_of, pure_of, use_with, variable_of}
+use Rattle.lq_points.specs.Pure.{Read, after, arithmetic_of, pure_of, pures_of, use_with, variable_of}
 use Rattle.lq_points.specs.Reading as reading
-use Rattle.lq_points.specs.Reading.{block_of, defined, expecting, item, own_point, program_from, program_of, written_names}
-use Rattle.lq_points.specs.Seen.{Seen, seen, seen_until, scope_at}
+use Rattle.lq_points.specs.Reading.{all_idled, arms_of, block_of, defined, expecting, is_checked, item, own_point, program_from, program_of, written_names}
+use Rattle.lq_points.specs.Seen.{Seen, all_seen, seen, seen_until, scope_at}
 use Rattle.lq_points.specs.Templates.{Datatypes, basis_of, made_at, templates_at, templates_from}
-use Rattle.lq_read.specs.Normal.{is_name, IsPure, pure_whole, pure_flag, pure_unit, pure_use, pure_arithmetic, pure_negated, pure_compare, pure_not, pure_and, pure_or, pure_length, IsRing, ring_add, ring_subtract, ring_multiply, IsUse, is_use, IsBlock, block_let, block_let_rec, block_operation, IsOperation, is_pure, is_fun, is_if, is_match, is_tuple, is_build, is_call, is_quotient, is_remainder, is_assert, is_assert_false, is_make, is_fetch, is_store, is_print, is_read, IsItem, item_type, item_name, item_any, item_unit, item_function, AreNormal}
+use Rattle.lq_read.specs.Normal.{is_name, IsArm, arm_any, arm_name, arm_unit, arm_tuple, arm_build, ArePure, no_pure, more_pure, AreArms, no_arms, more_arms, IsPure, pure_whole, pure_flag, pure_unit, pure_use, pure_arithmetic, pure_negated, pure_compare, pure_not, pure_and, pure_or, pure_length, IsRing, ring_add, ring_subtract, ring_multiply, IsUse, is_use, IsBlock, block_let, block_let_rec, block_operation, IsOperation, is_pure, is_fun, is_if, is_match, is_tuple, is_build, is_call, is_quotient, is_remainder, is_assert, is_assert_false, is_make, is_fetch, is_store, is_print, is_read, IsItem, item_type, item_name, item_any, item_unit, item_function, AreNormal}
 use Rattle.lq_refined.specs.Refined.{Refined, Refineds}
 use Rattle.lq_scoped.specs.Numbers.{number_of}
 use Rattle.lq_subtype.specs.Splitting.{first_of}
@@ -23,11 +22,13 @@ use Rattle.lq_templates.specs.Fresh.{fresh}
 use Rattle.lq_tree.specs.Items.{ItemTree, ItemForm}
 use Rattle.lq_tree.specs.MlType as ml
 use Rattle.lq_tree.specs.MlType.{MlType, MlTypes}
-use Rattle.lq_tree.specs.Tree.{Tree}
+use Rattle.lq_tree.specs.Pattern.{Pattern}
+use Rattle.lq_tree.specs.Tree as form
+use Rattle.lq_tree.specs.Tree.{Tree, Trees, Cases, more_cases}
 use Rattle.lq_scalar.specs.Laws.{TemplatesAreWritten}
-use Rattle.lq_scalar.specs.Scalar.{IsBaseType, IsScalarType, IsScalarTree, IsScalarItem, IsScalarProgram}
-use Rattle.lq_scalar.specs.Written.{IsNameless, IsFunctionFor, IsPlainUse, HasPlainUses, IsGivenWritten, IsOperationWritten, IsBlockWritten, IsWritten}
-use Rattle.lq_scalar.proofs.Templates.{base_made, function_made, nameless_made}
+use Rattle.lq_scalar.specs.Scalar.{AreScalarCases, AreScalarTrees, IsScalarPattern, IsScalarType, IsScalarTree, IsScalarItem, IsScalarProgram}
+use Rattle.lq_scalar.specs.Written.{ArmsHaveForms, BlockHasForms, HasForms, HavePlainUses, IsNameless, IsFunctionFor, IsPlainUse, HasPlainUses, TakesNoFields, IsGivenWritten, IsOperationWritten, IsBlockWritten, IsWritten}
+use Rattle.lq_scalar.proofs.Templates.{function_made, nameless_made}
 
 -- ---- templates of points
 
@@ -89,16 +90,111 @@ module _ (n : Annotation) where
   pure_plain (pure_or {a = a} p q) s Δ k = (pure_plain p s.1.0 Δ k, pure_plain q s.1.1 Δ (after k (pure_of n Δ k a)))
   pure_plain (pure_length p) s Δ k = pure_plain p s.1 Δ k
 
-element_base : (t : MlType) → IsScalarType t → IsBaseType (element_type t)
-element_base ml.int s = tt
-element_base ml.bool s = tt
-element_base ml.unit s = tt
-element_base (ml.var i) s = absurd s
-element_base (ml.arrow a b) s = tt
-element_base (ml.tuple ts) s = absurd s
-element_base (ml.array a) s = s
-element_base (ml.named d ts) s = absurd s
-element_base (ml.map_of a) s = absurd s
+module _ (n : Annotation) where
+  pures_plain : {es : Trees} → ArePure es → AreScalarTrees n es → (Δ : List Seen) (k : ℕ) → HavePlainUses (pures_of n Δ k es).read
+  pures_plain no_pure s Δ k = tt
+  pures_plain (more_pure {e = e} p ps) s Δ k = (pure_plain n p s.0 Δ k, pures_plain ps s.1 Δ (after k (pure_of n Δ k e)))
+
+element_scalar : (t : MlType) → IsScalarType t → IsScalarType (element_type t)
+element_scalar ml.int s = tt
+element_scalar ml.bool s = tt
+element_scalar ml.unit s = tt
+element_scalar (ml.var i) s = absurd s
+element_scalar (ml.arrow a b) s = tt
+element_scalar (ml.tuple ts) s = tt
+element_scalar (ml.array a) s = s
+element_scalar (ml.named d ts) s = absurd s
+element_scalar (ml.map_of a) s = absurd s
+
+takes_none : {q : Pattern} → IsArm q → IsScalarPattern q → TakesNoFields (reading.pattern_of q)
+takes_none arm_any s = tt
+takes_none arm_name s = tt
+takes_none arm_unit s = tt
+takes_none (arm_tuple m) s = tt
+takes_none (arm_build m) s = s
+
+-- ---- forms, whatever the templates
+
+module _ (n : Annotation) where
+  -- an operation, and the block that it is alone
+  abbrev FormsRead : t.Block → Type 0
+  FormsRead B = HasForms (last_operation B) × BlockHasForms B
+
+  both : {A : Type 0} → A → A × A
+  both h = (h, h)
+
+  pure_forms : (g : Bool) (k : ℕ) (Δ : List Seen) {e : Tree} → IsPure e → IsScalarTree n e → FormsRead (block_of n g k Δ e).read
+  pure_forms g k Δ (pure_whole {l = l}) s = both tt
+  pure_forms g k Δ (pure_flag {l = l}) s = both tt
+  pure_forms g k Δ (pure_unit {l = l}) s = both tt
+  pure_forms g k Δ (pure_use {i = i} {l = l} {x = x}) s = both (pure_plain n (pure_use {i = i} {l = l} {x = x}) s Δ k)
+  pure_forms g k Δ (pure_arithmetic {i = i} {l = l} ring_add p q) s = both (pure_plain n (pure_arithmetic {i = i} {l = l} ring_add p q) s Δ k)
+  pure_forms g k Δ (pure_arithmetic {i = i} {l = l} ring_subtract p q) s =
+      both (pure_plain n (pure_arithmetic {i = i} {l = l} ring_subtract p q) s Δ k)
+  pure_forms g k Δ (pure_arithmetic {i = i} {l = l} ring_multiply p q) s =
+      both (pure_plain n (pure_arithmetic {i = i} {l = l} ring_multiply p q) s Δ k)
+  pure_forms g k Δ (pure_negated {i = i} {l = l} p) s = both (pure_plain n (pure_negated {i = i} {l = l} p) s Δ k)
+  pure_forms g k Δ (pure_compare {i = i} {l = l} {o = o} p q) s = both (pure_plain n (pure_compare {i = i} {l = l} {o = o} p q) s Δ k)
+  pure_forms g k Δ (pure_not {i = i} {l = l} p) s = both (pure_plain n (pure_not {i = i} {l = l} p) s Δ k)
+  pure_forms g k Δ (pure_and {i = i} {l = l} p q) s = both (pure_plain n (pure_and {i = i} {l = l} p q) s Δ k)
+  pure_forms g k Δ (pure_or {i = i} {l = l} p q) s = both (pure_plain n (pure_or {i = i} {l = l} p q) s Δ k)
+  pure_forms g k Δ (pure_length {i = i} {l = l} p) s = both (pure_plain n (pure_length {i = i} {l = l} p) s Δ k)
+
+  mutual
+    block_forms : (g : Bool) (k : ℕ) (Δ : List Seen) {e : Tree} → IsBlock e → IsScalarTree n e → BlockHasForms (block_of n g k Δ e).read
+    block_forms g k Δ (block_let {i = i} {q = q} {e = e} {b = b} m f r) s =
+        let E : Read t.Block = block_of n false k Δ e in
+        ((operation_forms false k Δ f s.1.0).0, block_forms g (after k E) (seen_until i (reading.parameter_of q) ∷ Δ) r s.1.1)
+    block_forms g k Δ (block_let_rec {i = i} {f = f} {b = b} (is_name {x = x}) r z) s =
+        let Θ : List Seen = seen_until i f ∷ Δ in
+        let B : Read t.Block = block_of n true (suc k) (seen x ∷ Θ) b in
+        (block_forms true (suc k) (seen x ∷ Θ) r s.1.1, block_forms g (after (suc k) B) Θ z s.1.2)
+    block_forms g k Δ (block_operation f) s = (operation_forms g k Δ f s).1
+
+    operation_forms : (g : Bool) (k : ℕ) (Δ : List Seen) {e : Tree} → IsOperation e → IsScalarTree n e → FormsRead (block_of n g k Δ e).read
+    operation_forms g k Δ (is_pure p) s = pure_forms g k Δ p s
+    operation_forms g k Δ (is_fun (is_name {x = x}) r) s = both (block_forms true (suc k) (seen x ∷ Δ) r s.1)
+    operation_forms g k Δ (is_if {c = c} {a = a} p r z) s =
+        let C = pure_of n Δ (suc k) c in
+        let A = block_of n true (after (suc k) C) Δ a in
+        both (
+          pure_plain n p s.1.0 Δ (suc k),
+          block_forms true (after (suc k) C) Δ r s.1.1,
+          block_forms true (after (after (suc k) C) A) Δ z s.1.2,
+        )
+    operation_forms g k Δ (is_match p no_arms) s = absurd s.1
+    operation_forms g k Δ (is_match {e = e} p (more_arms {q = q} {b = b} f r z)) s =
+        let l = after (suc k) (variable_of n Δ (suc k) e) in
+        let Θ = all_seen (names_of (reading.pattern_of q)) Δ in
+        let B = block_of n true l Θ b in
+        both (
+          variable_plain n p s.1.0 Δ (suc k),
+          (block_forms true l Θ r s.1.2.1, arms_forms (after l B) Δ (reading.pattern_of q ∷ []) z s.1.2.2),
+        )
+    operation_forms g k Δ (is_tuple p) s = both (pures_plain n p s.1 Δ k)
+    operation_forms g k Δ (is_build p) s = absurd s.1
+    operation_forms g k Δ (is_call {f = f} p q) s = both (pure_plain n p s.1.0 Δ k, pure_plain n q s.1.1 Δ (after k (pure_of n Δ k f)))
+    operation_forms g k Δ (is_quotient {a = a} p q) s = both (pure_plain n p s.1.0 Δ k, pure_plain n q s.1.1 Δ (after k (pure_of n Δ k a)))
+    operation_forms g k Δ (is_remainder {a = a} p q) s = both (pure_plain n p s.1.0 Δ k, pure_plain n q s.1.1 Δ (after k (pure_of n Δ k a)))
+    operation_forms g k Δ (is_assert p) s = both (pure_plain n p s.1 Δ k)
+    operation_forms g k Δ is_assert_false s = both tt
+    operation_forms g k Δ (is_make {n = a} p q) s =
+        both (pure_plain n p s.1.0 Δ (suc k), pure_plain n q s.1.1 Δ (after (suc k) (pure_of n Δ (suc k) a)))
+    operation_forms g k Δ (is_fetch {a = a} p q) s = both (variable_plain n p s.1.0 Δ k, pure_plain n q s.1.1 Δ (after k (variable_of n Δ k a)))
+    operation_forms g k Δ (is_store {a = a} {n = b} p q r) s =
+        let A = variable_of n Δ k a in
+        let B = pure_of n Δ (after k A) b in
+        both (variable_plain n p s.1.0 Δ k, pure_plain n q s.1.1 Δ (after k A), pure_plain n r s.1.2 Δ (after (after k A) B))
+    operation_forms g k Δ (is_print p) s = both (pure_plain n p s.1 Δ k)
+    operation_forms g k Δ (is_read p) s = both (pure_plain n p s.1 Δ k)
+
+    arms_forms : (k : ℕ) (Δ : List Seen) (qs : List t.Pattern) {cs : Cases} → AreArms cs → AreScalarCases n cs
+        → ArmsHaveForms (arms_of n k Δ qs cs).read
+    arms_forms k Δ qs no_arms s = tt
+    arms_forms k Δ qs (more_arms {q = q} {b = b} f r z) s =
+        let Θ = all_seen (names_of (reading.pattern_of q)) Δ in
+        let B = block_of n true k Θ b in
+        (block_forms true k Θ r s.1, arms_forms (after k B) Δ (qs ++ reading.pattern_of q ∷ []) z s.2)
 
 -- ---- blocks and programs
 
@@ -117,6 +213,15 @@ module _ (D : Datatypes) (n : Annotation) (all : List Point) where
 
   back : (k : ℕ) (ps qs : List Point) → Made k (ps ++ qs) → Made (k + length ps) qs
   back k ps qs h = made_second D P.type_arguments k ps qs h
+
+  -- the first arm is checked, whatever its pattern
+  first_checked : (k : ℕ) (q : Pattern) (ps qs : List Point) → IsArm q
+      → Made k (cond (is_checked [] (reading.pattern_of q)) ps (all_idled ps) ++ qs) → Made k (ps ++ qs)
+  first_checked k q ps qs arm_any h = h
+  first_checked k q ps qs arm_name h = h
+  first_checked k q ps qs arm_unit h = h
+  first_checked k q ps qs (arm_tuple m) h = h
+  first_checked k q ps qs (arm_build m) h = h
 
   -- what holds of each fresh template for a point holds of its template
   template_at : (C : Refined → Type 0) (k : ℕ) (Γ : Scope) (xs : List (Option ℕ)) (a : MlType) → At k (whole Γ xs a)
@@ -199,8 +304,25 @@ module _ (D : Datatypes) (n : Annotation) (all : List Point) where
           ),
           given_at IsNameless g k (scope_at n Δ i) [] (n.types i) h.0 (λ m. nameless_made D.constructors D.ordered m (scope_at n Δ i) (n.types i) s.0),
         )
-    operation_read g k Δ (is_match p r) s h = absurd s.1
-    operation_read g k Δ (is_tuple p) s h = absurd s.1
+    operation_read g k Δ (is_match p no_arms) s h = absurd s.1
+    operation_read g k Δ (is_match {i = i} {e = e} p (more_arms {q = q} {b = b} {cs = cs} f r z)) s h =
+        let a = type_of_form n i (form.match_on e (more_cases q b cs)) in
+        let V = variable_of n Δ (suc k) e in
+        let l = after (suc k) V in
+        let Θ = all_seen (names_of (reading.pattern_of q)) Δ in
+        let B = block_of n true l Θ b in
+        let rest = arms_of n (after l B) Δ (reading.pattern_of q ∷ []) cs in
+        let own = front l B.points rest.points (first_checked l q B.points rest.points f (back (suc k) V.points (arms_of n l Δ [] (more_cases q b cs)).points h.1)) in
+        twice (
+          (
+            variable_plain n p s.1.0 Δ (suc k),
+            takes_none f s.1.2.0,
+            block_read true l Θ r s.1.2.1 own,
+            arms_forms n (after l B) Δ (reading.pattern_of q ∷ []) z s.1.2.2,
+          ),
+          given_at IsNameless g k (scope_at n Δ i) [] a h.0 (λ m. nameless_made D.constructors D.ordered m (scope_at n Δ i) a s.1.1),
+        )
+    operation_read g k Δ (is_tuple p) s h = twice (pures_plain n p s.1 Δ k, nothing_given g)
     operation_read g k Δ (is_build p) s h = absurd s.1
     operation_read g k Δ (is_call {f = f} p q) s h =
         twice ((pure_plain n p s.1.0 Δ k, pure_plain n q s.1.1 Δ (after k (pure_of n Δ k f))), nothing_given g)
@@ -221,8 +343,8 @@ module _ (D : Datatypes) (n : Annotation) (all : List Point) where
           (
             pure_plain n p s.1.0 Δ (suc k),
             pure_plain n q s.1.1 Δ (after (suc k) A),
-            template_at IsBase k (scope_at n Δ i) [] t h.0
-                (λ m. base_made D.constructors D.ordered m (scope_at n Δ i) [] t (element_base (n.types i) s.0)),
+            template_at IsNameless k (scope_at n Δ i) [] t h.0
+                (λ m. nameless_made D.constructors D.ordered m (scope_at n Δ i) t (element_scalar (n.types i) s.0)),
           ),
           nothing_given g,
         )

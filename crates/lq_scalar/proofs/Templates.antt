@@ -1,33 +1,23 @@
 -- The templates of scalar types.
-use Rattle.std.proofs.Common.{ℕ, suc, ◌+◌, Bool, true, false, cond, List, [], ◌∷◌, length, Option, Some, None, refl}
+use Rattle.std.proofs.Common.{ℕ, suc, ◌+◌, Bool, true, false, cond, List, [], ◌∷◌, length, Some, None, refl}
 use Rattle.lq_instances.specs.Scopes.{Scope}
-use Rattle.lq_new_names.specs.NewNames.{HasNoNames}
-use Rattle.lq_plain.specs.Plain.{IsBase}
+use Rattle.lq_new_names.specs.NewNames.{HaveNoNames}
+use Rattle.lq_parts.specs.Part.{Parts}
 use Rattle.lq_points.specs.Annotation.{Annotation, argument_name, is_spoken_of}
 use Rattle.lq_points.specs.Reading.{block_of, written_names}
 use Rattle.lq_points.specs.Seen.{Seen, seen}
 use Rattle.lq_read.specs.Normal.{is_name, IsPure, pure_whole, pure_flag, pure_unit, pure_use, pure_arithmetic, pure_negated, pure_compare, pure_not, pure_and, pure_or, pure_length, ring_add, ring_subtract, ring_multiply, IsBlock, block_let, block_let_rec, block_operation, IsOperation, is_pure, is_fun, is_if, is_match, is_tuple, is_build, is_call, is_quotient, is_remainder, is_assert, is_assert_false, is_make, is_fetch, is_store, is_print, is_read}
-use Rattle.lq_refined.specs.Refined.{Refined, int_with, bool_with, unit_type, function, tuple_of, array_with, data_with, map_with, type_variable}
-use Rattle.lq_templates.specs.Fresh.{fresh, inside, topped}
-use Rattle.lq_templates.specs.Scopes.{with_argument}
-use Rattle.lq_sorts.specs.Shapes.{shape_of}
+use Rattle.lq_refined.specs.Refined.{Refined, int_with, bool_with, unit_type, function, tuple_of, array_with, data_with, map_with, type_variable, with_top}
+use Rattle.lq_templates.specs.Cells.{one_unknown}
+use Rattle.lq_templates.specs.Fresh.{Made, components, fresh, inside, topped}
+use Rattle.lq_templates.specs.Scopes.{with_argument, with_position}
+use Rattle.lq_sorts.specs.Shapes.{Shape, int, bool, array, data_of, other, shape_of}
 use Rattle.lq_tree.specs.MlType as ml
-use Rattle.lq_tree.specs.MlType.{MlType}
+use Rattle.lq_tree.specs.MlType.{MlType, MlTypes}
 use Rattle.lq_tree.specs.Tree.{Tree}
 use Rattle.lq_tree.specs.Types.{Signature}
-use Rattle.lq_scalar.specs.Scalar.{IsBaseType, IsScalarType}
-use Rattle.lq_scalar.specs.Written.{IsNameless, IsNamedBy, IsFunctionFor, IsBlockFor}
-
-pub base_nameless : (t : Refined) → IsBase t → HasNoNames t
-base_nameless (int_with p) h = tt
-base_nameless (bool_with p) h = tt
-base_nameless unit_type h = tt
-base_nameless (function x a b) h = absurd h
-base_nameless (tuple_of ts) h = h
-base_nameless (array_with e p) h = absurd h
-base_nameless (data_with d ts m p) h = h
-base_nameless (map_with e p) h = tt
-base_nameless (type_variable i) h = tt
+use Rattle.lq_scalar.specs.Scalar.{AreScalarTypes, IsScalarType}
+use Rattle.lq_scalar.specs.Written.{AreScalar, IsNameless, IsNamedBy, IsFunctionFor, IsBlockFor}
 
 named_by : (n : Annotation) (x : ℕ) → IsNamedBy x (argument_name n x)
 named_by n x = by (is_spoken_of n x)
@@ -36,33 +26,57 @@ named_by n x = by (is_spoken_of n x)
     by true = refl
     by false = tt
 
+-- ---- tops
+
+nameless_with : (q : Parts) (t : Refined) → IsNameless t → IsNameless (with_top q t)
+nameless_with q (int_with p) h = h
+nameless_with q (bool_with p) h = h
+nameless_with q unit_type h = h
+nameless_with q (function x a b) h = h
+nameless_with q (tuple_of ts) h = h
+nameless_with q (array_with e p) h = h
+nameless_with q (data_with d ts m p) h = h
+nameless_with q (map_with e p) h = h
+nameless_with q (type_variable i) h = h
+
+topped_nameless : (n : ℕ) (Δ : Scope) (s : Shape) (m : Made) → IsNameless m.type → IsNameless (topped n Δ s m).type
+topped_nameless n Δ int m h = nameless_with (one_unknown (n + length m.unknowns)) m.type h
+topped_nameless n Δ bool m h = nameless_with (one_unknown (n + length m.unknowns)) m.type h
+topped_nameless n Δ array m h = nameless_with (one_unknown (n + length m.unknowns)) m.type h
+topped_nameless n Δ (data_of d) m h = nameless_with (one_unknown (n + length m.unknowns)) m.type h
+topped_nameless n Δ other m h = h
+
+-- ---- fresh templates
+
 module _ (g : Signature) (constructors : ℕ → List ℕ) where
-  pub base_made : (m : ℕ) (Γ : Scope) (xs : List (Option ℕ)) (t : MlType) → IsBaseType t → IsBase (fresh g constructors m Γ xs t).type
-  base_made m Γ xs ml.int h = tt
-  base_made m Γ xs ml.bool h = tt
-  base_made m Γ xs ml.unit h = tt
-  base_made m Γ xs (ml.var i) h = absurd h
-  base_made m Γ xs (ml.arrow a b) h = absurd h
-  base_made m Γ xs (ml.tuple ts) h = absurd h
-  base_made m Γ xs (ml.array a) h = absurd h
-  base_made m Γ xs (ml.named d ts) h = absurd h
-  base_made m Γ xs (ml.map_of a) h = absurd h
+  mutual
+    inside_nameless : (m : ℕ) (Γ : Scope) (t : MlType) → IsScalarType t → IsNameless (inside g constructors m Γ [] t).type
+    inside_nameless m Γ ml.int h = (tt, tt)
+    inside_nameless m Γ ml.bool h = (tt, tt)
+    inside_nameless m Γ ml.unit h = (tt, tt)
+    inside_nameless m Γ (ml.var i) h = absurd h
+    inside_nameless m Γ (ml.arrow a b) h =
+        let k = m + length (topped m Γ (shape_of a) (inside g constructors m Γ [] a)).unknowns in
+        let x = topped_nameless m Γ (shape_of a) (inside g constructors m Γ [] a) (inside_nameless m Γ a h.0) in
+        let y = topped_nameless k Γ (shape_of b) (inside g constructors k Γ [] b) (inside_nameless k Γ b h.1) in
+        ((x.0, x.1, y.0), (x.1, y.1))
+    inside_nameless m Γ (ml.tuple ts) h = components_nameless m Γ Γ 0 ts h
+    inside_nameless m Γ (ml.array a) h =
+        let x = topped_nameless m Γ (shape_of a) (inside g constructors m Γ [] a) (inside_nameless m Γ a h) in ((x.0, x.1), x.1)
+    inside_nameless m Γ (ml.named d ts) h = absurd h
+    inside_nameless m Γ (ml.map_of a) h = absurd h
+
+    components_nameless : (m : ℕ) (Γ Δ : Scope) (k : ℕ) (ts : MlTypes) → AreScalarTypes ts
+        → AreScalar (components g constructors m Γ Δ k ts).types × HaveNoNames (components g constructors m Γ Δ k ts).types
+    components_nameless m Γ Δ k ml.no_types h = (tt, tt)
+    components_nameless m Γ Δ k (ml.more_types t ts) h =
+        let s = topped m Δ (shape_of t) (inside g constructors m Γ [] t) in
+        let x = topped_nameless m Δ (shape_of t) (inside g constructors m Γ [] t) (inside_nameless m Γ t h.0) in
+        let y = components_nameless (m + length s.unknowns) Γ (with_position k (shape_of t) Δ) (suc k) ts h.1 in
+        ((x.0, y.0), (x.1, y.1))
 
   pub nameless_made : (m : ℕ) (Γ : Scope) (t : MlType) → IsScalarType t → IsNameless (fresh g constructors m Γ [] t).type
-  nameless_made m Γ ml.int h = (tt, tt)
-  nameless_made m Γ ml.bool h = (tt, tt)
-  nameless_made m Γ ml.unit h = (tt, tt)
-  nameless_made m Γ (ml.var i) h = absurd h
-  nameless_made m Γ (ml.arrow a b) h =
-      let k = m + length (topped m Γ (shape_of a) (inside g constructors m Γ [] a)).unknowns in
-      let x = nameless_made m Γ a h.0 in
-      let y = nameless_made k Γ b h.1 in
-      ((x.0, x.1, y.0), (x.1, y.1))
-  nameless_made m Γ (ml.tuple ts) h = absurd h
-  nameless_made m Γ (ml.array a) h =
-      let x = base_made m Γ [] a h in (x, base_nameless (fresh g constructors m Γ [] a).type x)
-  nameless_made m Γ (ml.named d ts) h = absurd h
-  nameless_made m Γ (ml.map_of a) h = absurd h
+  nameless_made m Γ t h = topped_nameless m Γ (shape_of t) (inside g constructors m Γ [] t) (inside_nameless m Γ t h)
 
   module _ (n : Annotation) where
     abbrev BlockMade : Tree → Bool → ℕ → List Seen → ℕ → Scope → MlType → Type 0
@@ -100,7 +114,7 @@ module _ (g : Signature) (constructors : ℕ → List ℕ) where
     function_by e body x k Δ m Γ ml.bool s = (tt, tt)
     function_by e body x k Δ m Γ ml.unit s = (tt, tt)
     function_by e body x k Δ m Γ (ml.var i) s = absurd s
-    function_by e body x k Δ m Γ (ml.tuple ts) s = absurd s
+    function_by e body x k Δ m Γ (ml.tuple ts) s = nameless_made m Γ (ml.tuple ts) s
     function_by e body x k Δ m Γ (ml.array a) s = nameless_made m Γ (ml.array a) s
     function_by e body x k Δ m Γ (ml.named d ts) s = absurd s
     function_by e body x k Δ m Γ (ml.map_of a) s = absurd s

@@ -1,41 +1,47 @@
--- Scalar programs: over numbers, truth values, unit, arrays of these, and functions over all these, whatever their order.
+-- Scalar programs: over numbers, truth values, unit, and arrays, tuples and functions of these, however nested.
 use Rattle.std.specs.Prelude.{◌≡◌, ℕ, ◌<◌, ◌^◌, None, List, [], ◌∷◌}
-use Rattle.lq_points.specs.Annotation.{Annotation, arguments_at}
+use Rattle.lq_points.specs.Annotation.{Annotation, arguments_at, type_of_form}
 use Rattle.lq_tree.specs.Items.{ItemTree, ItemForm, type_of, let_of, let_rec_of}
 use Rattle.lq_tree.specs.MlType as ml
-use Rattle.lq_tree.specs.MlType.{MlType}
+use Rattle.lq_tree.specs.MlType.{MlType, MlTypes}
+use Rattle.lq_tree.specs.Pattern as p
+use Rattle.lq_tree.specs.Pattern.{Pattern, pattern}
 use Rattle.lq_tree.specs.Tree as form
-use Rattle.lq_tree.specs.Tree.{Tree, tree, Form}
+use Rattle.lq_tree.specs.Tree.{Tree, tree, Form, Trees, no_trees, more_trees, Cases, no_cases, more_cases}
 
 -- ---- types
 
-abbrev pub IsBaseType : MlType → Type 0
-IsBaseType ml.int = Unit {0}
-IsBaseType ml.bool = Unit {0}
-IsBaseType ml.unit = Unit {0}
-IsBaseType (ml.var i) = ⊥
-IsBaseType (ml.arrow a b) = ⊥
-IsBaseType (ml.tuple ts) = ⊥
-IsBaseType (ml.array a) = ⊥
-IsBaseType (ml.named d ts) = ⊥
-IsBaseType (ml.map_of a) = ⊥
+abbrev mutual
+  pub IsScalarType : MlType → Type 0
+  IsScalarType ml.int = Unit {0}
+  IsScalarType ml.bool = Unit {0}
+  IsScalarType ml.unit = Unit {0}
+  IsScalarType (ml.var i) = ⊥
+  IsScalarType (ml.arrow a b) = IsScalarType a × IsScalarType b
+  IsScalarType (ml.tuple ts) = AreScalarTypes ts
+  IsScalarType (ml.array a) = IsScalarType a
+  IsScalarType (ml.named d ts) = ⊥
+  IsScalarType (ml.map_of a) = ⊥
 
-abbrev pub IsScalarType : MlType → Type 0
-IsScalarType ml.int = Unit {0}
-IsScalarType ml.bool = Unit {0}
-IsScalarType ml.unit = Unit {0}
-IsScalarType (ml.var i) = ⊥
-IsScalarType (ml.arrow a b) = IsScalarType a × IsScalarType b
-IsScalarType (ml.tuple ts) = ⊥
-IsScalarType (ml.array a) = IsBaseType a
-IsScalarType (ml.named d ts) = ⊥
-IsScalarType (ml.map_of a) = ⊥
+  pub AreScalarTypes : MlTypes → Type 0
+  AreScalarTypes ml.no_types = Unit {0}
+  AreScalarTypes (ml.more_types t ts) = IsScalarType t × AreScalarTypes ts
+
+-- ---- patterns of arms
+
+-- of no constructor
+abbrev pub IsScalarPattern : Pattern → Type 0
+IsScalarPattern (pattern l p.any) = Unit {0}
+IsScalarPattern (pattern l (p.bind x)) = Unit {0}
+IsScalarPattern (pattern l p.nothing) = Unit {0}
+IsScalarPattern (pattern l (p.tuple_of qs)) = Unit {0}
+IsScalarPattern (pattern l (p.build_of c m qs)) = ⊥
 
 -- ---- expressions, definitions and programs
 
 module _ (n : Annotation) where
-  -- Each node has a scalar type, and no name is used at an instance of a generalised type. Forms are all but tuples, constructors, matches and
-  -- maps, and but lists and sequences, of which there are none in a normal form.
+  -- Each node has a scalar type, and no name is used at an instance of a generalised type. Forms are all but constructors and maps, and but
+  -- lists and sequences, of which there are none in a normal form; a match has an arm, and none of its arms is of a constructor.
   abbrev mutual
     pub IsScalarTree : Tree → Type 0
     IsScalarTree (tree i l f) = IsScalarType (n.types i) × IsScalarForm i f
@@ -47,7 +53,7 @@ module _ (n : Annotation) where
     IsScalarForm i (form.use_of x) = arguments_at n i x ≡ None
     IsScalarForm i (form.qualified m x) = ⊥
     IsScalarForm i (form.fun q b) = IsScalarTree b
-    IsScalarForm i (form.tuple es) = ⊥
+    IsScalarForm i (form.tuple es) = AreScalarTrees es
     IsScalarForm i (form.build c w es) = ⊥
     IsScalarForm i (form.list_of es) = ⊥
     IsScalarForm i (form.let_in q e b) = IsScalarTree e × IsScalarTree b
@@ -60,7 +66,9 @@ module _ (n : Annotation) where
     IsScalarForm i (form.and_of a b) = IsScalarTree a × IsScalarTree b
     IsScalarForm i (form.or_of a b) = IsScalarTree a × IsScalarTree b
     IsScalarForm i (form.if_else c a b) = IsScalarTree c × IsScalarTree a × IsScalarTree b
-    IsScalarForm i (form.match_on e cs) = ⊥
+    IsScalarForm i (form.match_on e no_cases) = ⊥
+    IsScalarForm i (form.match_on e (more_cases q b cs)) =
+        IsScalarTree e × IsScalarType (type_of_form n i (form.match_on e (more_cases q b cs))) × AreScalarCases (more_cases q b cs)
     IsScalarForm i (form.chain es) = ⊥
     IsScalarForm i (form.assert e) = IsScalarTree e
     IsScalarForm i form.assert_false = Unit {0}
@@ -73,6 +81,14 @@ module _ (n : Annotation) where
     IsScalarForm i form.map_empty = ⊥
     IsScalarForm i (form.map_add a b c) = ⊥
     IsScalarForm i (form.map_find a b) = ⊥
+
+    pub AreScalarTrees : Trees → Type 0
+    AreScalarTrees no_trees = Unit {0}
+    AreScalarTrees (more_trees e es) = IsScalarTree e × AreScalarTrees es
+
+    pub AreScalarCases : Cases → Type 0
+    AreScalarCases no_cases = Unit {0}
+    AreScalarCases (more_cases q b cs) = IsScalarPattern q × IsScalarTree b × AreScalarCases cs
 
   abbrev pub IsScalarItem : ItemForm → Type 0
   IsScalarItem (type_of d) = Unit {0}

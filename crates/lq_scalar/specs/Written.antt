@@ -1,24 +1,28 @@
 -- What is asked of a program of the typing rules and of its templates, so that it is plain: its forms are scalar, and its templates name
 -- arguments of functions that are written there alone.
-use Rattle.std.specs.Prelude.{◌≡◌, ℕ, Bool, true, false, Option, Some, None}
-use Rattle.lq_refined.specs.Refined.{Refined, int_with, bool_with, unit_type, function, tuple_of, array_with, data_with, map_with, type_variable}
+use Rattle.std.specs.Prelude.{◌≡◌, ℕ, Bool, true, false, List, [], ◌∷◌, Option, Some, None}
+use Rattle.lq_refined.specs.Refined.{Refined, Refineds, none, more, int_with, bool_with, unit_type, function, tuple_of, array_with, data_with, map_with, type_variable}
 use Rattle.lq_checks.specs.Basis.{Basis}
 use Rattle.lq_checks.specs.Ready.{Where}
-use Rattle.lq_checks.specs.Tree.{Use, Pure, whole, flag, unit, use_of, negated, add, subtract, multiply, length_of, compare, not_of, and_of, or_of, Operation, pure, fun, if_else, match_on, call, tuple, build, make, fetch, store, divide, remainder, assert, assert_false, read, print, map_empty, map_add, map_find, Block, last, binding, recursive, Program, no_items, define, define_recursive, run_unit, run_any}
+use Rattle.lq_checks.specs.Tree.{Use, Pure, whole, flag, unit, use_of, negated, add, subtract, multiply, length_of, compare, not_of, and_of, or_of, Operation, pure, fun, if_else, match_on, call, tuple, build, make, fetch, store, divide, remainder, assert, assert_false, read, print, map_empty, map_add, map_find, Pattern, pattern_any, pattern_name, pattern_unit, pattern_tuple, pattern_build, Arms, no_arms, arm, Block, last, binding, recursive, Program, no_items, define, define_recursive, run_unit, run_any}
 use Rattle.lq_new_names.specs.NewNames.{HasNoNames}
-use Rattle.lq_plain.specs.Plain.{IsBase}
 
--- a type of numbers, truth values, unit, arrays of these, and functions whose arguments are of such types without names
-abbrev pub IsScalar : Refined → Type 0
-IsScalar (int_with p) = Unit {0}
-IsScalar (bool_with p) = Unit {0}
-IsScalar unit_type = Unit {0}
-IsScalar (function x a b) = IsScalar a × HasNoNames a × IsScalar b
-IsScalar (tuple_of ts) = ⊥
-IsScalar (array_with e p) = IsBase e
-IsScalar (data_with d ts m p) = ⊥
-IsScalar (map_with e p) = ⊥
-IsScalar (type_variable i) = ⊥
+-- a type of numbers, truth values, unit, tuples of scalar types, and arrays and functions of these, whose elements and arguments have no names
+abbrev mutual
+  pub IsScalar : Refined → Type 0
+  IsScalar (int_with p) = Unit {0}
+  IsScalar (bool_with p) = Unit {0}
+  IsScalar unit_type = Unit {0}
+  IsScalar (function x a b) = IsScalar a × HasNoNames a × IsScalar b
+  IsScalar (tuple_of ts) = AreScalar ts
+  IsScalar (array_with e p) = IsScalar e × HasNoNames e
+  IsScalar (data_with d ts m p) = ⊥
+  IsScalar (map_with e p) = ⊥
+  IsScalar (type_variable i) = ⊥
+
+  pub AreScalar : Refineds → Type 0
+  AreScalar none = Unit {0}
+  AreScalar (more t ts) = IsScalar t × AreScalar ts
 
 -- and no function in it names its argument
 abbrev pub IsNameless : Refined → Type 0
@@ -93,23 +97,70 @@ HasPlainUses (not_of a) = HasPlainUses a
 HasPlainUses (and_of a b) = HasPlainUses a × HasPlainUses b
 HasPlainUses (or_of a b) = HasPlainUses a × HasPlainUses b
 
+abbrev pub HavePlainUses : List Pure → Type 0
+HavePlainUses [] = Unit {0}
+HavePlainUses (e ∷ es) = HasPlainUses e × HavePlainUses es
+
+-- of no constructor
+abbrev pub TakesNoFields : Pattern → Type 0
+TakesNoFields pattern_any = Unit {0}
+TakesNoFields (pattern_name x) = Unit {0}
+TakesNoFields pattern_unit = Unit {0}
+TakesNoFields (pattern_tuple xs) = Unit {0}
+TakesNoFields (pattern_build c xs) = ⊥
+
+-- forms that are scalar, whatever the templates
+abbrev mutual
+  pub HasForms : Operation → Type 0
+  HasForms (pure e) = HasPlainUses e
+  HasForms (fun p y b) = BlockHasForms b
+  HasForms (if_else p c a b) = HasPlainUses c × BlockHasForms a × BlockHasForms b
+  HasForms (match_on p u arms) = IsPlainUse u × ArmsHaveForms arms
+  HasForms (call g a) = HasPlainUses g × HasPlainUses a
+  HasForms (tuple es) = HavePlainUses es
+  HasForms (build p c es) = ⊥
+  HasForms (make p n e) = HasPlainUses n × HasPlainUses e
+  HasForms (fetch u i) = IsPlainUse u × HasPlainUses i
+  HasForms (store u i e) = IsPlainUse u × HasPlainUses i × HasPlainUses e
+  HasForms (divide x y) = HasPlainUses x × HasPlainUses y
+  HasForms (remainder x y) = HasPlainUses x × HasPlainUses y
+  HasForms (assert e) = HasPlainUses e
+  HasForms (assert_false p) = Unit {0}
+  HasForms (read e) = HasPlainUses e
+  HasForms (print e) = HasPlainUses e
+  HasForms (map_empty p) = ⊥
+  HasForms (map_add p k e m) = ⊥
+  HasForms (map_find k m) = ⊥
+
+  pub BlockHasForms : Block → Type 0
+  BlockHasForms (last l o) = HasForms o
+  BlockHasForms (binding x l o b) = HasForms o × BlockHasForms b
+  BlockHasForms (recursive f p y b c) = BlockHasForms b × BlockHasForms c
+
+  pub ArmsHaveForms : Arms → Type 0
+  ArmsHaveForms no_arms = Unit {0}
+  ArmsHaveForms (arm q b arms) = BlockHasForms b × ArmsHaveForms arms
+
 module _ (P : Basis) where
-  -- where no type is expected of a function or a conditional, its template is one of what is written
+  -- where no type is expected of a function, a conditional or a match, its template is one of what is written
   abbrev pub IsGivenWritten : Operation → Type 0
   IsGivenWritten (fun p y b) = IsFunctionFor y b (P.template p)
   IsGivenWritten (if_else p c a b) = IsNameless (P.template p)
+  IsGivenWritten (match_on p u arms) = IsNameless (P.template p)
   IsGivenWritten _ = Unit {0}
 
+  -- of the arms of a match only the first one is checked
   abbrev mutual
     pub IsOperationWritten : Operation → Type 0
     IsOperationWritten (pure e) = HasPlainUses e
     IsOperationWritten (fun p y b) = IsBlockWritten true b
     IsOperationWritten (if_else p c a b) = HasPlainUses c × IsBlockWritten true a × IsBlockWritten true b
-    IsOperationWritten (match_on p u arms) = ⊥
+    IsOperationWritten (match_on p u no_arms) = ⊥
+    IsOperationWritten (match_on p u (arm q b arms)) = IsPlainUse u × TakesNoFields q × IsBlockWritten true b × ArmsHaveForms arms
     IsOperationWritten (call g a) = HasPlainUses g × HasPlainUses a
-    IsOperationWritten (tuple es) = ⊥
+    IsOperationWritten (tuple es) = HavePlainUses es
     IsOperationWritten (build p c es) = ⊥
-    IsOperationWritten (make p n e) = HasPlainUses n × HasPlainUses e × IsBase (P.template p)
+    IsOperationWritten (make p n e) = HasPlainUses n × HasPlainUses e × IsNameless (P.template p)
     IsOperationWritten (fetch u i) = IsPlainUse u × HasPlainUses i
     IsOperationWritten (store u i e) = IsPlainUse u × HasPlainUses i × HasPlainUses e
     IsOperationWritten (divide x y) = HasPlainUses x × HasPlainUses y

@@ -34,7 +34,7 @@ pub fn scalar_normal_forms_are_plain()
     scalar_programs_are_plain();
 }
 
-/// A recursive function that goes along an array, with a use of it, is a scalar program.
+/// A recursive function that goes along an array, with a use of it in a tuple that is taken apart, is a scalar program.
 pub fn an_example_is_scalar()
     ensures { ExampleIsScalar }
 {}
