@@ -25,7 +25,7 @@ use Rattle.lq_verdict.specs.Judgement.{IsAccepted, IsUndecided, instances_of}
 abbrev pub IsSafeIfStraight : Typed → Type 0
 IsSafeIfStraight t = AreStraight (program_in t).items → IsSafe (program_in t).items
 
--- Of a scalar one, whose normal form is over numbers, truth values, unit, arrays of these and functions.
+-- Of a scalar one, whose normal form is over numbers, truth values, unit, and arrays, tuples and functions of these.
 abbrev pub IsSafeIfScalar : Typed → Type 0
 IsSafeIfScalar t = IsScalarText (program_in t) t.annotation → IsSafe (program_in t).items
 
