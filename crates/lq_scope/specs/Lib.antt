@@ -1,6 +1,7 @@
 -- The definitions of scopes.
 pub mod Complaints
 pub mod Datatypes
+pub mod Growing
 pub mod Known
 pub mod Least
 pub mod Passing

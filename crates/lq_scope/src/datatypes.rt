@@ -4,6 +4,7 @@ ghost use Rattle.lq_tree.specs.Items.{constructor_view, definition_view, paramet
 ghost use Rattle.lq_tree.specs.TypeView.{type_view, types_view};
 ghost use Rattle.lq_scope.specs.Complaints.{least_with};
 ghost use Rattle.lq_scope.specs.Datatypes.{of_name, of_variable, of_types, of_constructors, of_datatype, with_constructors, type_arity, misplaced};
+ghost use Rattle.lq_scope.specs.Growing.{StaysUnder};
 ghost use Rattle.lq_scope.specs.Spots.{frame_view, spots_in, own_of, parts_in, pending};
 ghost use Rattle.lq_scope.specs.Views.{binding_view, found_view};
 
@@ -143,8 +144,10 @@ fn note_fields(
 }
 
 /// The constructors of a datatype become known, each with the number of its fields.
+#[tactic(auto, using(crate::specs::Growing::growing))]
 pub fn show_constructors(known: &mut Scope, constructors: &[Constructor]) -> Result<(), AllocError>
-    ensures { OnOk result (known.new ≡ with_constructors known.old (map constructor_view constructors.now)) }
+    ensures shown { OnOk result (known.new ≡ with_constructors known.old (map constructor_view constructors.now)) }
+    ensures stays { StaysUnder known.old known.new }
 {
     for constructor in constructors {
         known.show(constructor.name, constructor.fields.len())?;

@@ -3,6 +3,7 @@ ghost use Rattle.std.specs.Prelude.{◌≡◌, ◌++◌, map, OnOk};
 ghost use Rattle.lq_name.specs.declared.name.Name.{Name};
 ghost use Rattle.lq_tree.specs.PatternView.{pat_view, pat_form_view, pats_view};
 ghost use Rattle.lq_scope.specs.Complaints.{least_with};
+ghost use Rattle.lq_scope.specs.Growing.{Extends};
 ghost use Rattle.lq_scope.specs.Patterns.{binders_in, binders_in_form, binders_in_all, built_in, built_in_form, built_in_all};
 ghost use Rattle.lq_scope.specs.Views.{binding_view, found_view};
 
@@ -15,17 +16,21 @@ use std::alloc::AllocError;
 
 /// The names that a pattern binds, behind these.
 #[cycle(binders)]
+#[tactic(auto, using(crate::specs::Growing::growing))]
 pub fn push_binders(found: &mut Vec<Binding>, pattern: &Pat<Name>) -> Result<(), AllocError>
-    ensures { OnOk result (map binding_view found.new.items ≡ map binding_view found.old.items
+    ensures bound { OnOk result (map binding_view found.new.items ≡ map binding_view found.old.items
         ++ binders_in (pat_view Name (λ n. n.0) pattern.now)) }
+    ensures begins { Extends found.old.items found.new.items }
 {
     push_form(found, pattern.place, &pattern.node)
 }
 
 #[cycle(binders)]
+#[tactic(auto, using(crate::specs::Growing::growing))]
 fn push_form(found: &mut Vec<Binding>, place: Place, node: &PatNode<Name>) -> Result<(), AllocError>
-    ensures { OnOk result (map binding_view found.new.items ≡ map binding_view found.old.items
+    ensures bound { OnOk result (map binding_view found.new.items ≡ map binding_view found.old.items
         ++ binders_in_form place (pat_form_view Name (λ n. n.0) node.now)) }
+    ensures begins { Extends found.old.items found.new.items }
 {
     match node {
         PatNode::Any | PatNode::Unit => Ok(()),
@@ -39,9 +44,11 @@ fn push_form(found: &mut Vec<Binding>, place: Place, node: &PatNode<Name>) -> Re
 }
 
 #[cycle(binders)]
+#[tactic(auto, using(crate::specs::Growing::growing))]
 fn push_row(found: &mut Vec<Binding>, row: &Pats<Name>) -> Result<(), AllocError>
-    ensures { OnOk result (map binding_view found.new.items ≡ map binding_view found.old.items
+    ensures bound { OnOk result (map binding_view found.new.items ≡ map binding_view found.old.items
         ++ binders_in_all (pats_view Name (λ n. n.0) row.now)) }
+    ensures begins { Extends found.old.items found.new.items }
 {
     for at in 0..row.len() {
         if let Some(pattern) = row.get(at) {

@@ -79,7 +79,8 @@ impl Scope {
 
     /// One name more.
     pub fn show(&mut self, name: Name, count: usize) -> Result<(), AllocError>
-        ensures { OnOk result (self.new ≡ defined name.0 count ∷ self.old) }
+        ensures shown { OnOk result (self.new ≡ defined name.0 count ∷ self.old) }
+        ensures kept { OnErr result (self.new ≡ self.old) }
     {
         let former = self.find(name);
         let number = name.0 as usize;

@@ -17,7 +17,7 @@ returns-clause-found c = λ variables.
     let counted = c.args.definition.now.parameters.ok in let is_length = c.len.ensures in let mapped = length-map c.args.definition.now.parameters.items parameter_view in cc
     in
     whole_datatype k (definition_view c.args.definition.now) _ _ (found_view c.args.least.now.found) _ _ _
-    (c.in_ok-show.ensures ∙ ap (λ n. defined c.args.definition.now.name.0 n ∷ c.args.types.now) count)
+    (c.in_ok-show.ensures.shown ∙ ap (λ n. defined c.args.definition.now.name.0 n ∷ c.args.types.now) count)
     (ap (map name_of) (c.in_ok-note_repeated.ensures.shown ∙ ap (λ known. shown_names (map binding_view c.deref-2.result.now) ++ known) c.requires) ∙ shown_known (map binding_view c.deref-2.result.now) []
     ∙ append-nil (reverse (map parameter_name (map binding_view c.deref-2.result.now))) ∙ ap (λ ns. reverse (map parameter_name ns)) bound)
     c.note_again.ensures

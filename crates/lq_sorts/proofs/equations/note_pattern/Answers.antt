@@ -19,7 +19,7 @@ returns c = λ ds is.
     let before = names_in c.args.before.now in
     let own = of_form ds d before p.place (pat_form_view Name (λ n. n.0) p.node) in
     let bound =
-    ap (map binding_view) c.deref.ensures.value ∙ c.in_ok-push_binders.ensures ∙ ap (λ bs. map binding_view bs ++ binders_in (seen_pattern p)) c.new-bindings.ensures.items ∙ ap binders_in (pattern_seen p)
+    ap (map binding_view) c.deref.ensures.value ∙ c.in_ok-push_binders.ensures.bound ∙ ap (λ bs. map binding_view bs ++ binders_in (seen_pattern p)) c.new-bindings.ensures.items ∙ ap binders_in (pattern_seen p)
     in
     c.in_ok-note_repeated.ensures
     ∙ ap (λ b. least_with b (repeated no_names (map binding_view c.deref.result.now))) (c.note_form.ensures ds is)

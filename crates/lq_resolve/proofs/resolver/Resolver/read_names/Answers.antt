@@ -9,4 +9,4 @@ use Rattle.lq_resolve.proofs.resolver.Resolver.read_names.Goals as goal
 pub returns-clause-names : goal.returns-clause-names
 returns-clause-names c =
     let q = pat_view Name (λ n. n.0) c.args.pattern.now in
-    names_are q c.push_binders.new.found.items (c.in_ok-push_binders.ensures ∙ ap (λ bs. map binding_view bs ++ binders_in q) c.clear.ensures.items)
+    names_are q c.push_binders.new.found.items (c.in_ok-push_binders.ensures.bound ∙ ap (λ bs. map binding_view bs ++ binders_in q) c.clear.ensures.items)

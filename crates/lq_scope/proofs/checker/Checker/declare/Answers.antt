@@ -9,7 +9,7 @@ use Rattle.lq_scope.proofs.checker.Checker.declare.Goals as goal
 pub returns : goal.returns
 returns c =
     let p = pat_view Name (λ n. n.0) c.args.pattern.now in
-    let are = c.in_ok-push_binders.ensures ∙ ap (λ bs. map binding_view bs ++ Rattle.lq_scope.specs.Patterns.binders_in p) c.clear.ensures.items in
+    let are = c.in_ok-push_binders.ensures.bound ∙ ap (λ bs. map binding_view bs ++ Rattle.lq_scope.specs.Patterns.binders_in p) c.clear.ensures.items in
     let bound = ap (map binding_view) c.deref.ensures.value ∙ are in
     let counted : c.len.result ≡ length (map binding_view c.deref.result.now) =
     let ok = c.push_binders.new.found.ok in let is = c.len.ensures in let same = c.deref.ensures.value in let mapped = length-map c.deref.result.now binding_view in cc

@@ -8,7 +8,7 @@ use Rattle.lq_scope.proofs.checker.Checker.hide.Goals as goal
 pub returns : goal.returns
 returns c =
     let p = pat_view Name (λ n. n.0) c.args.pattern.now in
-    let are = c.in_ok-push_binders.ensures ∙ ap (λ bs. map binding_view bs ++ Rattle.lq_scope.specs.Patterns.binders_in p) c.clear.ensures.items in
+    let are = c.in_ok-push_binders.ensures.bound ∙ ap (λ bs. map binding_view bs ++ Rattle.lq_scope.specs.Patterns.binders_in p) c.clear.ensures.items in
     let counted : c.len.result ≡ length c.push_binders.new.found.items = let ok = c.push_binders.new.found.ok in let is = c.len.ensures in cc in
     record {
       names = refl;

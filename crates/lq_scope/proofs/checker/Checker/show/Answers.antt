@@ -8,7 +8,7 @@ use Rattle.lq_scope.proofs.checker.Checker.show.Goals as goal
 pub returns : goal.returns
 returns c =
     let p = pat_view Name (λ n. n.0) c.args.pattern.now in
-    let are = c.in_ok-push_binders.ensures ∙ ap (λ bs. map binding_view bs ++ Rattle.lq_scope.specs.Patterns.binders_in p) c.clear.ensures.items in
+    let are = c.in_ok-push_binders.ensures.bound ∙ ap (λ bs. map binding_view bs ++ Rattle.lq_scope.specs.Patterns.binders_in p) c.clear.ensures.items in
     record {
       names = refl;
       known = known_same _ _ _ _ (shown p c.push_binders.new.found.items c.args.self.now.variables c.show_all.new.known are
