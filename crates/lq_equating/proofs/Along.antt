@@ -1,6 +1,6 @@
 -- What holds as the applications of a case are gone through.
 use Rattle.std.proofs.Common.{◌≡◌, ◌∙◌, ℕ, suc, ◌+◌, ◌<◌, ◌↔◌, List, [], Option, Some, slice_get, slice_index, refl, sym, ap, subst, arith}
-use Rattle.lq_case.specs.PathState.{PathState, facts_in, objects_in}
+use Rattle.lq_case.specs.PathState.{KeepsHanded, PathState, facts_in, objects_in}
 use Rattle.lq_case.specs.RowState.{terms_of as row_terms}
 use Rattle.lq_combine.specs.Path.{Path}
 use Rattle.lq_equating.specs.Equating.{AddsEquations, AreFirsts, EachEquated, Wraps, applied, numbering_by}
@@ -30,6 +30,7 @@ pub record IsAlong (objects terms : List Sum) (classes : List ℕ) (start s : Pa
   pub terms_are : row_terms s.rows ≡ row_terms start.rows
   pub pivots : s.rows.pivots ≡ start.rows.pivots
   pub count : s.objects.count ≡ start.objects.count
+  pub handed : KeepsHanded start s
 
 -- what one application does
 pub record IsStep (objects terms : List Sum) (classes : List ℕ) (s t : PathState) (joints more : List Joint) (entries new : List (FunctionAt × Application)) (n : ℕ) : Type 0 where
@@ -39,6 +40,7 @@ pub record IsStep (objects terms : List Sum) (classes : List ℕ) (s t : PathSta
   pub wraps : (whole : Path) (choices : List (Readings Row)) → Wraps (numbering_by terms) whole choices joints (facts_in (name_in objects) s) → Wraps (numbering_by terms) whole choices more (facts_in (name_in objects) t)
   pub objects_are : objects_in t ≡ objects_in s
   pub limits : (row_terms t.rows ≡ row_terms s.rows) × (t.rows.pivots ≡ s.rows.pivots) × (t.objects.count ≡ s.objects.count)
+  pub handed : KeepsHanded s t
 
 pub along_step : (objects terms : List Sum) (classes given : List ℕ) (start s t : PathState) (joints more : List Joint) (entries new : List (FunctionAt × Application)) (k n m : ℕ) → given ≡ classes
     → k ≡ n → m ≡ n + 1 → IsAlong objects terms classes start s joints entries n → IsStep objects terms given s t joints more entries new k
@@ -55,6 +57,7 @@ along_step objects terms classes given start s t joints more entries new k n m q
       terms_are = b.limits.0 ∙ a.terms_are;
       pivots = second b.limits ∙ a.pivots;
       count = third b.limits ∙ a.count;
+      handed = λ ever h. b.handed ever (a.handed ever h);
     }
 
 -- objects that facts join have one class, also where equations came after the classes were read
@@ -76,6 +79,7 @@ along_start objects terms classes s joints entries e f = record {
   terms_are = refl;
   pivots = refl;
   count = refl;
+  handed = λ ever h. h;
 }
 
 -- an application that is neither a length nor a measure
@@ -92,4 +96,5 @@ along_skip objects terms classes start s joints entries n t place none a =
       terms_are = a.terms_are;
       pivots = a.pivots;
       count = a.count;
+      handed = a.handed;
     }

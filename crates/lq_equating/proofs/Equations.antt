@@ -1,7 +1,9 @@
 -- Facts with equations after them: what their rows say, their sizes, and the stops.
-use Rattle.std.proofs.Common.{◌≡◌, ◌⊎◌, inl, inr, ℕ, suc, pos, negsuc, ◌≤◌, List, [], ◌∷◌, ◌++◌, map, refl, sym, ap, subst, ◌∙◌, arith, append-nil, append_assoc}
+use Rattle.std.proofs.Common.{◌≡◌, ◌⊎◌, inl, inr, ℕ, zero, suc, pos, negsuc, ◌≤◌, List, [], ◌∷◌, ◌++◌, All, Some, map, slice_get, refl, sym, ap, subst, ◌∙◌, arith, append-nil, append_assoc}
 use Rattle.std.proofs.lemmas.List.{map-append}
+use Rattle.std.proofs.lemmas.List.Elements.{All-cons, All-nil}
 use Rattle.lq_case.specs.RowState.{AreDifferences, MayStop}
+use Rattle.lq_case.specs.Stored.{StopsInTableau}
 use Rattle.lq_combine.specs.Path.{Fact, row_fact, flag_fact, objects_fact, never}
 use Rattle.lq_combine.specs.Proves.{rows_among, rows_from}
 use Rattle.lq_diff.specs.Stops.{StopsBy}
@@ -12,8 +14,7 @@ use Rattle.lq_linear.specs.declared.engine.LinearStop.{LinearStop}
 use Rattle.lq_linear.specs.declared.engine.LinearStop.TheVariants.{Number, Pivots, Memory}
 use Rattle.lq_math.specs.Rational.{ℚ, whole, ◌+ℚ◌, ◌*ℚ◌}
 use Rattle.lq_math.specs.Solver.{var, con, ◌⊕◌, ◌⊗◌, solve}
-use Rattle.lq_simplex.specs.Table.{StopsAt}
-use Rattle.lq_equating.specs.Equating.{AddsEquations, equation, equation_fact}
+use Rattle.lq_equating.specs.Equating.{AddsEquations, Grows, equation, equation_fact}
 
 -- ---- what rows say
 
@@ -99,15 +100,37 @@ adds_constants old new p = ap (λ l. constants (rows_among l)) p.is ∙ same_con
 pub adds_stops : (old new : List Fact) (stop : LinearStop) → AddsEquations old new → StopsBy (constants (rows_among new)) stop → StopsBy (constants (rows_among old)) stop
 adds_stops old new stop p h = subst (λ n. StopsBy n stop) (adds_constants old new p) h
 
-pub may_stop_by : (limit : ℕ) (facts : List Fact) (stop : LinearStop) → StopsBy (constants (rows_among facts)) stop → MayStop limit (rows_among facts) stop
-may_stop_by limit facts stop h = record { differences = λ d. h; any = inl h }
+pub adds_grows : (old new : List Fact) → AddsEquations old new → Grows old new
+adds_grows old new p = record { more = map equation_fact p.pairs; is = p.is }
 
-pub adds_may_stop : (limit : ℕ) (old new : List Fact) (stop : LinearStop) → AddsEquations old new → MayStop limit (rows_among new) stop → MayStop limit (rows_among old) stop
-adds_may_stop limit old new stop p h = record {
+pub may_stop_by : (terms limit : ℕ) (ever : List Row) (P : Row → Type 0) (facts : List Fact) (stop : LinearStop) → StopsBy (constants (rows_among facts)) stop
+    → MayStop terms limit ever P (rows_among facts) stop
+may_stop_by terms limit ever P facts stop h = record { differences = λ d. h; any = inl h }
+
+pub adds_may_stop : (terms limit : ℕ) (ever : List Row) (P : Row → Type 0) (old new : List Fact) (stop : LinearStop) → AddsEquations old new
+    → MayStop terms limit ever P (rows_among new) stop → MayStop terms limit ever P (rows_among old) stop
+adds_may_stop terms limit ever P old new stop p h = record {
   differences = λ d. adds_stops old new stop p (h.differences (subst (λ l. AreDifferences (rows_among l)) (sym p.is) (more_differences 1 old p.pairs d)));
   any = by h.any;
 }
   where
-    by : StopsBy (constants (rows_among new)) stop ⊎ StopsAt limit stop → StopsBy (constants (rows_among old)) stop ⊎ StopsAt limit stop
+    by : StopsBy (constants (rows_among new)) stop ⊎ StopsInTableau terms limit ever P stop → StopsBy (constants (rows_among old)) stop ⊎ StopsInTableau terms limit ever P stop
     by (inl k) = inl (adds_stops old new stop p k)
     by (inr k) = inr k
+
+-- ---- rows
+
+rows_each : (P : Row → Type 0) (n : ℕ) (old : List Fact) (pairs : List (ℕ × ℕ)) → ((k : ℕ) (r : Row) → slice_get old k ≡ Some (row_fact r) → P r)
+    → ((terms : ℕ × ℕ) (r : Row) → r ≡ equation terms → P r) → All (λ (r : ℕ × Row). P r.1) (rows_from n (old ++ map equation_fact pairs))
+rows_each P n [] [] f g = All-nil (λ (r : ℕ × Row). P r.1)
+rows_each P n [] (p ∷ pairs) f g = All-cons (λ (r : ℕ × Row). P r.1) (n, equation p) (rows_from (suc n) (map equation_fact pairs)) (g p (equation p) refl) (rows_each P (suc n) [] pairs (λ k r e. cc) g)
+rows_each P n (row_fact r ∷ fs) pairs f g =
+    All-cons (λ (r : ℕ × Row). P r.1) (n, r) (rows_from (suc n) (fs ++ map equation_fact pairs)) (f zero r refl) (rows_each P (suc n) fs pairs (λ k. f (suc k)) g)
+rows_each P n (flag_fact x value ∷ fs) pairs f g = rows_each P (suc n) fs pairs (λ k. f (suc k)) g
+rows_each P n (objects_fact a b one ∷ fs) pairs f g = rows_each P (suc n) fs pairs (λ k. f (suc k)) g
+rows_each P n (never ∷ fs) pairs f g = rows_each P (suc n) fs pairs (λ k. f (suc k)) g
+
+-- what holds of each earlier row and of each equation
+pub added_rows : (P : Row → Type 0) (old new : List Fact) → AddsEquations old new → ((k : ℕ) (r : Row) → slice_get old k ≡ Some (row_fact r) → P r)
+    → ((terms : ℕ × ℕ) (r : Row) → r ≡ equation terms → P r) → All (λ (r : ℕ × Row). P r.1) (rows_among new)
+added_rows P old new p f g = subst (λ l. All (λ (r : ℕ × Row). P r.1) (rows_among l)) (sym p.is) (rows_each P 1 old p.pairs f g)

@@ -1,11 +1,11 @@
 // Lengths and measures of one object are equal.
-ghost use Rattle.std.specs.Prelude.{◌≡◌, ◌<◌, ◌∷◌, ◌++◌, [], suc, List, ℕ, IsTrue, Some, IfOk, IfErr, IfSome, IfNone, OnOk, Option, length, slice_get, slice_index, unwrap_or};
-ghost use Rattle.lq_case.specs.PathState.{facts_in, objects_in};
+ghost use Rattle.std.specs.Prelude.{◌≡◌, ◌<◌, ◌∷◌, ◌++◌, [], suc, List, ℕ, IsTrue, Some, IfOk, IfErr, IfSome, IfNone, OnErr, OnOk, Option, length, slice_get, slice_index, unwrap_or};
+ghost use Rattle.lq_case.specs.PathState.{KeepsHanded, facts_in, objects_in};
 ghost use Rattle.lq_case.specs.RowState.{terms_of as row_terms};
 ghost use Rattle.lq_combine.specs.Path.{Path};
 ghost use Rattle.lq_combine.specs.Proves.{Clashes, rows_among};
 ghost use Rattle.lq_combine.specs.TreeView.{clash_of};
-ghost use Rattle.lq_equating.specs.Equating.{AddsEquations, AreEquated, AreFirsts, ClassesJoin, EachEquated, IsApplication, KeepsFirsts, Wraps, applied, equation, equation_fact, first_at, numbering_by};
+ghost use Rattle.lq_equating.specs.Equating.{AddsEquations, AreEquated, AreFirsts, ClassesJoin, EachEquated, Grows, IsApplication, KeepsFirsts, Wraps, applied, equation, equation_fact, first_at, numbering_by};
 ghost use Rattle.lq_equating.specs.Naming.{HasAllArguments, name_in, objects_of};
 ghost use Rattle.lq_diff.specs.Stops.{StopsBy};
 ghost use Rattle.lq_diff.specs.Table.{constants};
@@ -73,6 +73,8 @@ fn equate(
     ensures objects { objects_in state.new ≡ objects_in state.old }
     ensures limits { (row_terms state.new.rows ≡ row_terms state.old.rows)
         × (state.new.rows.pivots ≡ state.old.rows.pivots) × (state.new.objects.count ≡ state.old.objects.count) }
+    ensures refused { OnErr result ((name : ℕ → Sum) → facts_in name state.new ≡ facts_in name state.old) }
+    ensures handed { KeepsHanded state.old state.new }
     ensures clash { IfOk result (λ clash. IfSome clash (λ p.
         Clashes (facts_in (name_in (objects_of objects.now)) state.new) (clash_of p))) }
     ensures stop { IfErr result (StopsBy (constants (rows_among (facts_in (name_in (objects_of objects.now)) state.old)))) }
@@ -189,6 +191,8 @@ fn equate_later(
     ensures objects { objects_in state.new ≡ objects_in state.old }
     ensures limits { (row_terms state.new.rows ≡ row_terms state.old.rows)
         × (state.new.rows.pivots ≡ state.old.rows.pivots) × (state.new.objects.count ≡ state.old.objects.count) }
+    ensures refused { OnErr result ((name : ℕ → Sum) → facts_in name state.new ≡ facts_in name state.old) }
+    ensures handed { KeepsHanded state.old state.new }
     ensures clash { IfOk result (λ clash. IfSome clash (λ p.
         Clashes (facts_in (name_in (objects_of objects.now)) state.new) (clash_of p))) }
     ensures stop { IfErr result (StopsBy (constants (rows_among (facts_in (name_in (objects_of objects.now)) state.old)))) }
@@ -232,6 +236,8 @@ pub fn equate_all(
     ensures objects { objects_in state.new ≡ objects_in state.old }
     ensures limits { (row_terms state.new.rows ≡ row_terms state.old.rows)
         × (state.new.rows.pivots ≡ state.old.rows.pivots) × (state.new.objects.count ≡ state.old.objects.count) }
+    ensures refused { OnErr result ((name : ℕ → Sum) → Grows (facts_in name state.old) (facts_in name state.new)) }
+    ensures handed { KeepsHanded state.old state.new }
     ensures clash { IfOk result (λ found. IfSome found.1 (λ p.
         Clashes (facts_in (name_in (objects_of objects.now)) state.new) (clash_of p))) }
     ensures stop { IfErr result (StopsBy (constants (rows_among (facts_in (name_in (objects_of objects.now)) state.old)))) }

@@ -15,7 +15,7 @@ pub struct ObjectTable {
 }
 
 impl ObjectTable {
-    ghost use Rattle.std.specs.Prelude.{◌≡◌, ◌<◌, [], true, IsTrue, Some, OnOk, length, map, slice_get};
+    ghost use Rattle.std.specs.Prelude.{◌≡◌, ◌<◌, [], true, IsTrue, Some, OnErr, OnOk, length, map, slice_get};
     ghost use Rattle.lq_equating.specs.Naming.{objects_of};
     ghost use Rattle.lq_pred.specs.Table.{all_differ, has_term, with_term};
     ghost use Rattle.lq_pred.specs.TermView.{sum_of};
@@ -45,9 +45,10 @@ impl ObjectTable {
         &self.terms[at]
     }
 
-    /// Adds an object that may be there.
+    /// Adds an object that may be there. After a refusal the objects are as before.
     pub fn add(&mut self, alloc: Global, object: &Term) -> Result<(), AllocError>
-        ensures { OnOk result (objects_of self.new ≡ with_term (objects_of self.old) (sum_of object.now)) }
+        ensures added { OnOk result (objects_of self.new ≡ with_term (objects_of self.old) (sum_of object.now)) }
+        ensures refused { OnErr result (objects_of self.new ≡ objects_of self.old) }
     {
         if self.terms.get_index_of(object).is_none() {
             let copied = object.copy(alloc)?;

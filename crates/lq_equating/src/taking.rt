@@ -1,6 +1,6 @@
 // A literal is taken as the next fact of a path.
-ghost use Rattle.std.specs.Prelude.{◌≡◌, ℕ, [], ◌∷◌, ◌++◌, IfErr, IfOk, IfSome, OnOk, length};
-ghost use Rattle.lq_case.specs.PathState.{facts_in, objects_in};
+ghost use Rattle.std.specs.Prelude.{◌≡◌, ℕ, [], ◌∷◌, ◌++◌, IfErr, IfOk, IfSome, OnErr, OnOk, length};
+ghost use Rattle.lq_case.specs.PathState.{KeepsHanded, facts_in, objects_in};
 ghost use Rattle.lq_case.specs.RowState.{terms_of};
 ghost use Rattle.lq_combine.specs.Proves.{Clashes, rows_among};
 ghost use Rattle.lq_combine.specs.TreeView.{clash_of};
@@ -34,6 +34,8 @@ pub fn take_literal(
     ensures more { OnOk result (SaysMore (objects_in state.old) (objects_in state.new)) }
     ensures limits { (terms_of state.new.rows ≡ terms_of state.old.rows)
         × (state.new.rows.pivots ≡ state.old.rows.pivots) × (state.new.objects.count ≡ state.old.objects.count) }
+    ensures refused { OnErr result ((name : ℕ → Sum) → facts_in name state.new ≡ facts_in name state.old) }
+    ensures handed { KeepsHanded state.old state.new }
     ensures clash { IfOk result (λ clash. IfSome clash (λ p.
         Clashes (facts_in (name_in (objects_of objects.now)) state.new) (clash_of p))) }
     ensures stop { IfErr result (StopsBy (constants (rows_among (facts_in (name_in (objects_of objects.now)) state.old

@@ -14,4 +14,4 @@ returns-in-Length-clause-has c =
       | inl p ↦ subst (λ t. HasArgument (objects_of c.add.new.self) (sum_of t)) (sym p) h
       | inr p ↦ subst (λ t. HasArgument (objects_of c.add.new.self) (sum_of t)) (sym p.1) h
     ])
-    c.add.ensures
+    c.add.ensures.added

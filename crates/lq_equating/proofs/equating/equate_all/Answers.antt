@@ -2,10 +2,11 @@ use Rattle.std.proofs.Common.{◌≡◌, ◌∙◌, ℕ, ◌+◌, ◌<◌, ◌�
 use Rattle.std.proofs.lemmas.Option.{slice_get-get_or}
 use Rattle.std.proofs.lemmas.Result.{err_from_is_err_and}
 use Rattle.lq_case.specs.PathState.{facts_in, objects_in}
+use Rattle.lq_equating.specs.Equating.{Grows}
 use Rattle.lq_equating.specs.Naming.{name_in, objects_of}
 use Rattle.lq_equating.proofs.Along.{along_skip, along_start, along_step, classes_one}
 use Rattle.lq_equating.proofs.Equated.{each_all}
-use Rattle.lq_equating.proofs.Equations.{adds_stops, adds_then}
+use Rattle.lq_equating.proofs.Equations.{adds_grows, adds_stops, adds_then}
 use Rattle.lq_literals.specs.Parts.{places_from}
 use Rattle.lq_pred.specs.TableView.{terms_of}
 use Rattle.lq_equating.proofs.equating.equate_all.Goals as goal
@@ -36,25 +37,25 @@ loop-index-preserved c =
           let given : w.deref.result.now ≡ c.in-Ok.classes.items = search rules in
           rw (w.state-is, w.equations-is) (along_step objects terms classes w.deref.result.now start s w.equate_later.new.state joints w.equate_later.new.equations.joints.items entries
           w.equate_later.new.equations.firsts.entries w.in-Some.later.index n (n + 1) given w.in-Some.ensures.place.0 refl invariant
-          (record { firsts = e.firsts; equated = e.equated; adds = e.adds; wraps = e.wraps; objects_are = e.objects; limits = e.limits }))
+          (record { firsts = e.firsts; equated = e.equated; adds = e.adds; wraps = e.wraps; objects_are = e.objects; limits = e.limits; handed = w.equate_later.ensures.handed }))
       | in-Some+in_ok-clash+else-is_some+in-Some+in-Merges-1 w ↦
           let e = w.in_ok-clash.ensures in
           let given : w.deref.result.now ≡ c.in-Ok.classes.items = search rules in
           rw (w.state-is, w.equations-is) (along_step objects terms classes w.deref.result.now start s w.equate_later.new.state joints w.equate_later.new.equations.joints.items entries
           w.equate_later.new.equations.firsts.entries w.in-Some.later.index n (n + 1) given w.in-Some.ensures.place.0 refl invariant
-          (record { firsts = e.firsts; equated = e.equated; adds = e.adds; wraps = e.wraps; objects_are = e.objects; limits = e.limits }))
+          (record { firsts = e.firsts; equated = e.equated; adds = e.adds; wraps = e.wraps; objects_are = e.objects; limits = e.limits; handed = w.equate_later.ensures.handed }))
       | in-Some+in_ok-clash+else-is_some+in-Some+in-Flags-1 w ↦
           let e = w.in_ok-clash.ensures in
           let given : w.deref.result.now ≡ c.in-Ok.classes.items = search rules in
           rw (w.state-is, w.equations-is) (along_step objects terms classes w.deref.result.now start s w.equate_later.new.state joints w.equate_later.new.equations.joints.items entries
           w.equate_later.new.equations.firsts.entries w.in-Some.later.index n (n + 1) given w.in-Some.ensures.place.0 refl invariant
-          (record { firsts = e.firsts; equated = e.equated; adds = e.adds; wraps = e.wraps; objects_are = e.objects; limits = e.limits }))
+          (record { firsts = e.firsts; equated = e.equated; adds = e.adds; wraps = e.wraps; objects_are = e.objects; limits = e.limits; handed = w.equate_later.ensures.handed }))
       | in-Some+in_ok-clash+else-is_some+in-None-1 w ↦
           let e = w.in_ok-clash.ensures in
           let given : w.deref.result.now ≡ c.in-Ok.classes.items = search rules in
           rw (w.state-is, w.equations-is) (along_step objects terms classes w.deref.result.now start s w.equate_later.new.state joints w.equate_later.new.equations.joints.items entries
           w.equate_later.new.equations.firsts.entries w.in-Some.later.index n (n + 1) given w.in-Some.ensures.place.0 refl invariant
-          (record { firsts = e.firsts; equated = e.equated; adds = e.adds; wraps = e.wraps; objects_are = e.objects; limits = e.limits }))
+          (record { firsts = e.firsts; equated = e.equated; adds = e.adds; wraps = e.wraps; objects_are = e.objects; limits = e.limits; handed = w.equate_later.ensures.handed }))
       | in_default-application_at w ↦
           let at : c.index.result.now ≡ get_or c.in-Ok-applications.places.items n c.index.result.now = search rules in
           let within : n < length c.in-Ok-applications.places.items = (let m = c.loop-index-test.true in omega (arith, m)) in
@@ -87,3 +88,16 @@ returns-clause-equated c =
     each_all objects terms c.in-Ok.classes.items (objects_in s) n c.loop-index.equations.firsts.entries (facts_in (name_in objects) s) c.requires.different most
     (classes_one (length objects) c.args.state.now.objects.count c.in-Ok.classes.items c.classes.result.now (objects_in c.args.state.now) (objects_in s) c.requires.count items
     c.loop-index.invariant.objects_are c.classes.ensures.one) c.loop-index.invariant.equated
+
+pub returns-in_err-clash-clause-refused : goal.returns-in_err-clash-clause-refused
+returns-in_err-clash-clause-refused c =
+    let p = err_from_is_err_and c.from_residual.result c.from_residual.ensures.1 in
+    rw p.1 (λ name.
+    subst (Grows (facts_in name c.args.state.now)) (sym (c.in_err-clash.ensures.refused name))
+    (adds_grows (facts_in name c.args.state.now) (facts_in name c.loop-index.state) (c.loop-index.invariant.adds name)))
+
+pub returns-in_err-clash-clause-handed : goal.returns-in_err-clash-clause-handed
+returns-in_err-clash-clause-handed c = λ ever h. c.equate_later.ensures.handed ever (c.loop-index.invariant.handed ever h)
+
+pub returns-then-is_some-clause-handed : goal.returns-then-is_some-clause-handed
+returns-then-is_some-clause-handed c = λ ever h. c.equate_later.ensures.handed ever (c.loop-index.invariant.handed ever h)

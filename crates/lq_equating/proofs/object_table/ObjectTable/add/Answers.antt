@@ -8,11 +8,11 @@ pub invariant_of-self : goal.invariant_of-self
 invariant_of-self c =
     record { distinct = distinct_with c.args.self.now.terms.keys c.in_ok-copied.copied c.insert_full.new.self.keys c.insert_full.result c.insert_full.ensures.keys c.insert_full.ensures.err c.args.self.now.distinct }
 
-pub returns-in_ok-insert_full : goal.returns-in_ok-insert_full
-returns-in_ok-insert_full c =
+pub returns-in_ok-insert_full-clause-added : goal.returns-in_ok-insert_full-clause-added
+returns-in_ok-insert_full-clause-added c =
     keys_with c.args.self.now.terms.keys c.in_ok-copied.copied (sum_of c.args.object.now) _ c.in_ok-copied.ensures c.in_ok-insert_full.ensures.keys
 
-pub returns-else-is_none : goal.returns-else-is_none
-returns-else-is_none c =
+pub returns-else-is_none-clause-added : goal.returns-else-is_none-clause-added
+returns-else-is_none-clause-added c =
     let keys = c.args.self.now.terms.keys in
     sym (with_term-present (map sum_of keys) (sum_of c.args.object.now) (sym (list_any-keys (sum_of c.args.object.now) keys) ∙ (sym c.get_index_of.ensures.found ∙ c.if-is_none.ensures)))
