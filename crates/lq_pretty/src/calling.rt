@@ -1,6 +1,7 @@
 // What binders and symbols are called.
 ghost use Rattle.std.specs.Prelude.{◌≡◌, ◌++◌, codes, decimal, slice_get, ◌<◌, ◌^◌, Some, OnOk};
 ghost use Rattle.lq_pretty.specs.Calling.{called, name_text, binder_text, made_text, symbol_text, untwinned, with_ordinal};
+ghost use Rattle.lq_pretty.specs.Continued.{Continues};
 ghost use Rattle.lq_pretty.specs.Views.{calling_view, made_view, source_view, IsTold};
 
 use itoa::Buffer;
@@ -21,8 +22,10 @@ pub struct Calling<'a> {
     pub ordinals: Option<&'a [usize]>,
 }
 
+#[tactic(auto, using(crate::specs::Continued::continuing))]
 fn push_count(line: &mut Vec<u8>, n: u64) -> Result<(), AllocError>
-    ensures { OnOk result (line.new.items ≡ line.old.items ++ decimal n) }
+    ensures written { OnOk result (line.new.items ≡ line.old.items ++ decimal n) }
+    ensures begins { Continues line.old.items line.new.items }
 {
     let mut number = Buffer::new();
     line.extend_from_slice(number.format(n).as_bytes())?;
@@ -40,8 +43,10 @@ pub(crate) fn text_of(table: &NameTable, name: Name) -> &str
     }
 }
 
+#[tactic(auto, using(crate::specs::Continued::continuing))]
 fn push_with_ordinal(line: &mut Vec<u8>, name: &[u8], ordinal: usize) -> Result<(), AllocError>
-    ensures { OnOk result (line.new.items ≡ line.old.items ++ with_ordinal name.now ordinal) }
+    ensures written { OnOk result (line.new.items ≡ line.old.items ++ with_ordinal name.now ordinal) }
+    ensures begins { Continues line.old.items line.new.items }
 {
     line.extend_from_slice(name)?;
     if ordinal > 1 {
@@ -58,6 +63,7 @@ fn ordinal_at(ordinals: &[usize], number: usize) -> Option<usize>
 }
 
 // The name of the binder of this number, which has this source name.
+#[tactic(auto, using(crate::specs::Continued::continuing))]
 fn push_source(
     line: &mut Vec<u8>,
     calling: &Calling<'_>,
@@ -66,8 +72,9 @@ fn push_source(
 ) -> Result<(), AllocError>
     requires told { IsTold calling.now }
     requires source { slice_get (calling_view calling.now).sources number ≡ Some (Some name.0) }
-    ensures { OnOk result (line.new.items ≡ line.old.items
+    ensures written { OnOk result (line.new.items ≡ line.old.items
         ++ called (calling_view calling.now) number (Some (Some name.0))) }
+    ensures begins { Continues line.old.items line.new.items }
 {
     let text = text_of(calling.table, name).as_bytes();
     match calling.ordinals {
@@ -92,10 +99,12 @@ fn untwinned(binder: Binder) -> usize
     }
 }
 
+#[tactic(auto, using(crate::specs::Continued::continuing))]
 fn push_binder(line: &mut Vec<u8>, calling: &Calling<'_>, binder: Binder) -> Result<(), AllocError>
     requires { IsTold calling.now }
-    ensures { OnOk result (line.new.items ≡ line.old.items
+    ensures written { OnOk result (line.new.items ≡ line.old.items
         ++ binder_text (calling_view calling.now) binder.0) }
+    ensures begins { Continues line.old.items line.new.items }
 {
     let number = untwinned(binder);
     match calling.sources.get(number) {
@@ -116,8 +125,10 @@ fn made_at(made: &[Option<usize>], number: usize) -> Option<usize>
 }
 
 // The binder of this number as a made name, if it is one.
+#[tactic(auto, using(crate::specs::Continued::continuing))]
 fn push_made(line: &mut Vec<u8>, calling: &Calling<'_>, number: usize) -> Result<(), AllocError>
-    ensures { OnOk result (line.new.items ≡ line.old.items ++ made_text (calling_view calling.now) number) }
+    ensures written { OnOk result (line.new.items ≡ line.old.items ++ made_text (calling_view calling.now) number) }
+    ensures begins { Continues line.old.items line.new.items }
 {
     match made_at(calling.made, number) {
         Some(k) => {
@@ -129,14 +140,16 @@ fn push_made(line: &mut Vec<u8>, calling: &Calling<'_>, number: usize) -> Result
 }
 
 /// Writes what a symbol is called behind the bytes: `v`, a binder's name, or `#k`.
+#[tactic(auto, using(crate::specs::Continued::continuing))]
 pub fn push_symbol(
     line: &mut Vec<u8>,
     calling: &Calling<'_>,
     symbol: Symbol,
 ) -> Result<(), AllocError>
     requires { IsTold calling.now }
-    ensures { OnOk result (line.new.items ≡ line.old.items
+    ensures written { OnOk result (line.new.items ≡ line.old.items
         ++ symbol_text (calling_view calling.now) symbol) }
+    ensures begins { Continues line.old.items line.new.items }
 {
     match symbol {
         Symbol::Value => line.extend_from_slice(b"v"),

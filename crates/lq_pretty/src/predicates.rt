@@ -1,6 +1,7 @@
 // How predicates are written.
 ghost use Rattle.std.specs.Prelude.{◌≡◌, ◌++◌, codes, OnOk};
 ghost use Rattle.lq_pred.specs.PredView.{formula_of};
+ghost use Rattle.lq_pretty.specs.Continued.{Continues};
 ghost use Rattle.lq_pretty.specs.Predicates.{compare_text, formula_level, formula_text};
 ghost use Rattle.lq_pretty.specs.Terms.{placed};
 ghost use Rattle.lq_pretty.specs.Views.{calling_view, IsTold};
@@ -40,6 +41,7 @@ fn level_of(pred: &Pred) -> u8
 
 // A predicate at a place that asks for a level.
 #[cycle(predicates)]
+#[tactic(auto, using(crate::specs::Continued::continuing))]
 fn push_placed(
     line: &mut Vec<u8>,
     calling: &Calling<'_>,
@@ -47,8 +49,9 @@ fn push_placed(
     pred: &Pred,
 ) -> Result<(), AllocError>
     requires { IsTold calling.now }
-    ensures { OnOk result (line.new.items ≡ line.old.items ++ placed asked (formula_level (formula_of pred.now))
+    ensures written { OnOk result (line.new.items ≡ line.old.items ++ placed asked (formula_level (formula_of pred.now))
         (formula_text (calling_view calling.now) (formula_of pred.now))) }
+    ensures begins { Continues line.old.items line.new.items }
 {
     if level_of(pred) < asked {
         line.extend_from_slice(b"(")?;
@@ -62,10 +65,12 @@ fn push_placed(
 /// Writes a predicate behind the bytes: a blank on each side of an operator, and parentheses where an operator binds less tightly than its
 /// place asks for.
 #[cycle(predicates)]
+#[tactic(auto, using(crate::specs::Continued::continuing))]
 pub fn push_pred(line: &mut Vec<u8>, calling: &Calling<'_>, pred: &Pred) -> Result<(), AllocError>
     requires { IsTold calling.now }
-    ensures { OnOk result (line.new.items ≡ line.old.items
+    ensures written { OnOk result (line.new.items ≡ line.old.items
         ++ formula_text (calling_view calling.now) (formula_of pred.now)) }
+    ensures begins { Continues line.old.items line.new.items }
 {
     match pred {
         Pred::True => line.extend_from_slice(b"true"),

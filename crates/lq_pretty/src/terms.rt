@@ -2,6 +2,7 @@
 ghost use Rattle.std.specs.Prelude.{◌≡◌, ◌++◌, codes, OnOk};
 ghost use Rattle.std.specs.Fmt.{signed_decimal};
 ghost use Rattle.lq_pred.specs.TermView.{sum_of};
+ghost use Rattle.lq_pretty.specs.Continued.{Continues};
 ghost use Rattle.lq_pretty.specs.Terms.{factor_level, placed, term_level, term_text};
 ghost use Rattle.lq_pretty.specs.Views.{calling_view, IsTold};
 
@@ -11,8 +12,10 @@ use lq_pred::Term;
 use std::alloc::AllocError;
 
 /// Writes a whole number behind the bytes.
+#[tactic(auto, using(crate::specs::Continued::continuing))]
 pub fn push_whole(line: &mut Vec<u8>, n: i128) -> Result<(), AllocError>
-    ensures { OnOk result (line.new.items ≡ line.old.items ++ signed_decimal n) }
+    ensures written { OnOk result (line.new.items ≡ line.old.items ++ signed_decimal n) }
+    ensures begins { Continues line.old.items line.new.items }
 {
     let mut number = Buffer::new();
     line.extend_from_slice(number.format(n).as_bytes())?;
@@ -49,6 +52,7 @@ fn factor_level(term: &Term) -> u8
 
 // A term of this level at a place that asks for one.
 #[cycle(terms)]
+#[tactic(auto, using(crate::specs::Continued::continuing))]
 pub(crate) fn push_placed(
     line: &mut Vec<u8>,
     calling: &Calling<'_>,
@@ -57,8 +61,9 @@ pub(crate) fn push_placed(
     term: &Term,
 ) -> Result<(), AllocError>
     requires { IsTold calling.now }
-    ensures { OnOk result (line.new.items ≡ line.old.items
+    ensures written { OnOk result (line.new.items ≡ line.old.items
         ++ placed asked level (term_text (calling_view calling.now) (sum_of term.now))) }
+    ensures begins { Continues line.old.items line.new.items }
 {
     if level < asked {
         line.extend_from_slice(b"(")?;
@@ -71,6 +76,7 @@ pub(crate) fn push_placed(
 
 // At a place that asks for a level.
 #[cycle(terms)]
+#[tactic(auto, using(crate::specs::Continued::continuing))]
 pub(crate) fn push_at(
     line: &mut Vec<u8>,
     calling: &Calling<'_>,
@@ -78,8 +84,9 @@ pub(crate) fn push_at(
     term: &Term,
 ) -> Result<(), AllocError>
     requires { IsTold calling.now }
-    ensures { OnOk result (line.new.items ≡ line.old.items ++ placed asked (term_level (sum_of term.now))
+    ensures written { OnOk result (line.new.items ≡ line.old.items ++ placed asked (term_level (sum_of term.now))
         (term_text (calling_view calling.now) (sum_of term.now))) }
+    ensures begins { Continues line.old.items line.new.items }
 {
     push_placed(line, calling, asked, level_of(term), term)
 }
@@ -87,10 +94,12 @@ pub(crate) fn push_at(
 /// Writes a term behind the bytes: a blank on each side of an operator, and parentheses where an operator binds less tightly than its place
 /// asks for.
 #[cycle(terms)]
+#[tactic(auto, using(crate::specs::Continued::continuing))]
 pub fn push_term(line: &mut Vec<u8>, calling: &Calling<'_>, term: &Term) -> Result<(), AllocError>
     requires { IsTold calling.now }
-    ensures { OnOk result (line.new.items ≡ line.old.items
+    ensures written { OnOk result (line.new.items ≡ line.old.items
         ++ term_text (calling_view calling.now) (sum_of term.now)) }
+    ensures begins { Continues line.old.items line.new.items }
 {
     match term {
         Term::Whole(n) => push_whole(line, *n),
