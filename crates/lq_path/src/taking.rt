@@ -1,6 +1,6 @@
 // Readings become facts and choices.
 ghost use Rattle.std.specs.Prelude.{◌≡◌, List, [], ◌∷◌, ◌++◌, IfOk, IfNone, IfSome, IsNone, IsSome, OnOk, OnErr, length, map};
-ghost use Rattle.lq_case.specs.PathState.{facts_in};
+ghost use Rattle.lq_case.specs.PathState.{KeepsHanded, facts_in};
 ghost use Rattle.lq_case.specs.RowState.{terms_of};
 ghost use Rattle.lq_combine.specs.Path.{Fact, each_taken, taken};
 ghost use Rattle.lq_combine.specs.Proves.{Clashes};
@@ -40,6 +40,7 @@ fn take_literal(
     ensures clash { IfOk result (λ clash. IfSome clash (λ c.
         Clashes (facts_in (name_in (map sum_of objects.now.keys)) state.new) (clash_of c))) }
     ensures limits { SameLimits state.new state.old }
+    ensures handed { KeepsHanded state.old state.new }
 {
     match literal {
         Literal::Row(row) => state.take_row(row),
@@ -90,6 +91,7 @@ pub fn take<'a>(
     ensures begins { Begins (path_by (map sum_of objects.now.keys) state.old choices.old.items)
         (path_by (map sum_of objects.now.keys) state.new choices.new.items) }
     ensures limits { SameLimits state.new state.old }
+    ensures handed { KeepsHanded state.old state.new }
 {
     clashes_stay();
     let literal = match reading {
@@ -126,6 +128,7 @@ fn take_all<'a>(
     ensures begins { Begins (path_by (map sum_of objects.now.keys) state.old choices.old.items)
         (path_by (map sum_of objects.now.keys) state.new choices.new.items) }
     ensures limits { SameLimits state.new state.old }
+    ensures handed { KeepsHanded state.old state.new }
 {
     clashes_stay();
     for reading in readings.as_slice() {

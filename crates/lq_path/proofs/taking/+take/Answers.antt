@@ -44,7 +44,7 @@ take-returns-in-Some-clause-leaf t c =
     ]
 
 pub take_all-loop-reading-init : goal.take_all-loop-reading-init
-take_all-loop-reading-init t c = record { path = refl; begins = begins_itself _; limits = (refl, refl, refl) }
+take_all-loop-reading-init t c = record { path = refl; begins = begins_itself _; limits = (refl, refl, refl); handed = λ ever h. h }
 
 pub take_all-take-requires : goal.take_all-take-requires
 take_all-take-requires t c =
@@ -89,6 +89,7 @@ take_all-loop-reading-preserved t c =
       path = stands ∙ ap (λ q. taken q (nnf_view n)) before.path ∙ sym (one_more p items i n c.loop-reading-test.true c.reading-item.is);
       begins = begins_then p old new before.begins c.in_ok-leaf.ensures.begins;
       limits = (l.0 ∙ k.0, l.1 ∙ k.1, l.2 ∙ k.2);
+      handed = λ ever h. c.in_ok-leaf.ensures.handed ever (before.handed ever h);
     }
 
 pub take_all-returns-clause-stands : goal.take_all-returns-clause-stands
@@ -98,3 +99,9 @@ take_all-returns-clause-stands t c =
     let past_end : length items ≤ i = subst (λ l. length l ≤ i) c.as_slice-reading-items.ensures c.loop-reading-test.false in
     c.loop-reading.invariant.path ∙ ap (λ l. each_taken p (row_of (take i l))) c.as_slice-reading-items.ensures ∙ ap (λ l. each_taken p (row_of l)) (take_all i items past_end)
     ∙ ap (each_taken p) (sym (view_items c.args.readings.now))
+
+pub take_all-returns-in_err-leaf-clause-handed : goal.take_all-returns-in_err-leaf-clause-handed
+take_all-returns-in_err-leaf-clause-handed t c = λ ever h. c.in_err-leaf.ensures.handed ever (c.loop-reading.invariant.handed ever h)
+
+pub take_all-returns-in-Some-clause-handed : goal.take_all-returns-in-Some-clause-handed
+take_all-returns-in-Some-clause-handed t c = λ ever h. c.in_ok-leaf.ensures.handed ever (c.loop-reading.invariant.handed ever h)

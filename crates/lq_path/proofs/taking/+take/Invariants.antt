@@ -1,4 +1,5 @@
 use Rattle.std.proofs.Common.{◌≡◌, map, take}
+use Rattle.lq_case.specs.PathState.{KeepsHanded}
 use Rattle.lq_combine.specs.Path.{each_taken}
 use Rattle.lq_pred.specs.NnfView.{nnf_view, nnfs_view}
 use Rattle.lq_pred.specs.TermView.{sum_of}
@@ -18,4 +19,5 @@ invariant-take_all-loop-reading l = record {
       ≡ each_taken (path_by (map sum_of l.objects.keys) l.fn.state l.fn.choices.items) (row_of (take l.reading-index l.reading-items));
   begins : Begins (path_by (map sum_of l.objects.keys) l.fn.state l.fn.choices.items) (path_by (map sum_of l.objects.keys) l.state l.choices.items);
   limits : SameLimits l.state l.fn.state;
+  handed : KeepsHanded l.fn.state l.state;
 }
