@@ -5,6 +5,7 @@ ghost use Rattle.lq_refined.specs.Refined.{top};
 ghost use Rattle.lq_refinements.specs.Whole.{count_of, refined_at, IsNode};
 ghost use Rattle.lq_substitution.specs.Views.{part_view, parts_view};
 ghost use Rattle.lq_subtype.specs.Implication.{goals};
+ghost use Rattle.lq_implications.specs.Growing.{Continues};
 ghost use Rattle.lq_implications.specs.Views.{count_of as implication_count, environment_at, environment_lists, implications_of, origin_view};
 
 use lq_implications::{Implications, Reason};
@@ -26,6 +27,7 @@ fn collected(alloc: Global, parts: &[Part]) -> Result<Parts, AllocError>
 
 /// Adds the implications by which the top of the left type is to have what the top of the right one asks for, in an environment: one for
 /// each part on the right that isn't written `true`.
+#[tactic(auto, using(lq_implications::specs::Growing::continuing))]
 pub fn tops(
     alloc: Global,
     list: &mut Implications,
@@ -46,6 +48,7 @@ pub fn tops(
         + length (goals (environment_at list.old env) (top (refined_at scopes types.now sides.0))
         (top (refined_at scopes types.now sides.1)) (origin_view origin.0 origin.1))) (2 ^ 64 - 1)) }
     ensures environments { environment_lists list.new ≡ environment_lists list.old }
+    ensures continues { Continues list.old list.new }
 {
     let left = collected(alloc, types.node(sides.0).parts())?;
     let right = types.node(sides.1).parts();
