@@ -1,6 +1,9 @@
 -- Where a search stops or ends from one path, it does so from the path before.
 use Rattle.std.proofs.Common.{◌≡◌, ◌∙◌, ℕ, ◌+◌, ◌<◌, ◌≤◌, List, ◌++◌, true, false, Option, Some, None, Result, Ok, Err, IfErr, IfNone, IfOk, get_or, length, set, slice_get, sym, ap, subst, arith}
-use Rattle.lq_case.specs.PathState.{HasStops, PathState, facts_in}
+use Rattle.lq_case.specs.PathState.{HandsMore, HasHanded, HasStops, KeepsHanded, PathState, facts_in}
+use Rattle.lq_case.specs.RowState.{terms_of}
+use Rattle.lq_case.specs.Stored.{Stands}
+use Rattle.lq_case.proofs.Handing.{hands_as, hands_kept, hands_then, may_stop_as}
 use Rattle.lq_combine.specs.Path.{Fact, Path, taken}
 use Rattle.lq_combine.specs.Proves.{rows_among}
 use Rattle.lq_diff.specs.Stops.{StopsBy}
@@ -9,7 +12,7 @@ use Rattle.lq_equating.specs.Equating.{AddsEquations}
 use Rattle.lq_equating.specs.Naming.{name_in}
 use Rattle.lq_linear.specs.Row.{Row}
 use Rattle.lq_linear.specs.declared.engine.LinearStop.{LinearStop}
-use Rattle.lq_path.specs.SearchPath.{choices_of}
+use Rattle.lq_path.specs.SearchPath.{SameLimits, choices_of}
 use Rattle.lq_path.specs.declared.choice.Choice.{Choice}
 use Rattle.lq_pred.specs.NnfView.{nnf_items, nnf_view, nnfs_view}
 use Rattle.lq_pred.specs.Reading.{Reading, Readings, any_of, yes}
@@ -19,26 +22,46 @@ use Rattle.lq_pruning.proofs.Taking as taking
 use Rattle.lq_search.specs.Scope.{Scope}
 use Rattle.lq_search.specs.SearchPath.{IsBack, facts_of, path_of, ways_of}
 use Rattle.lq_search.specs.Sizes.{most, row_size}
-use Rattle.lq_search.specs.Stopping.{MayReach, ReachesFrom, StopsFrom, StopsSearch, most_on, most_open}
+use Rattle.lq_search.specs.Stopping.{HandsFrom, MayReach, MayTake, ReachesFrom, StopsFrom, StopsSearch, most_on, most_open}
 use Rattle.lq_search.specs.declared.pair.Pair.{Pair}
 use Rattle.lq_search.specs.declared.search_path.SearchPath.{SearchPath}
 use Rattle.lq_search.proofs.Ready.{IsTakenFrom, marked_members, taken_path}
 use Rattle.lq_search.proofs.Sizes.{added_sizes, fact_sizes-append, member_most, most_back, most_equated, most_open-marked, most_taken, on_is, sizes_among}
 use Rattle.lq_search.proofs.Steps.{members_at, path_back}
-use Rattle.lq_search.proofs.Stops.{TakesNoMore, choice_takes, equations_take, may_stop, member_takes, reached_before, reached_here, stops_before, stops_here, way_takes}
+use Rattle.lq_search.proofs.Stops.{TakesNoMore, choice_takes, equations_take, may_stop, member_takes, reached_before, reached_here, standing_take, stops_before, stops_here, way_takes}
 use Rattle.lq_search.proofs.Weights.{with_done}
 
 -- from the path p with the reading t the search goes on from q with r
 pub record IsStep (s : Scope) (pairs : List Pair) (t : Reading Row) (p : SearchPath) (r : Reading Row) (q : SearchPath) : Type 0 where
   pub takes : TakesNoMore (ways_of pairs) (taken (path_of s q) r) (taken (path_of s p) t)
   pub sizes : most_on s q + most row_size r ≤ most_on s p + most row_size t
+  pub terms : terms_of q.state.rows ≡ terms_of p.state.rows
   pub limit : q.state.rows.pivots ≡ p.state.rows.pivots
+  pub handed : HandsFrom t s pairs p q
 
 pub stops_step : (s : Scope) (pairs : List Pair) (t : Reading Row) (p : SearchPath) (r : Reading Row) (q : SearchPath) (stop : LinearStop) → IsStep s pairs t p r q
     → StopsFrom r s pairs q stop → StopsFrom t s pairs p stop
-stops_step s pairs t p r q stop i h =
-    stops_before q.state.rows.pivots p.state.rows.pivots (ways_of pairs) (taken (path_of s q) r) (taken (path_of s p) t) (most_on s q + most row_size r) (most_on s p + most row_size t) stop
-    i.limit i.takes i.sizes h
+stops_step s pairs t p r q stop i h = λ ever e.
+    stops_before (terms_of q.state.rows) q.state.rows.pivots (terms_of p.state.rows) p.state.rows.pivots ever i.handed.more (ways_of pairs) (taken (path_of s q) r) (taken (path_of s p) t)
+    (most_on s q + most row_size r) (most_on s p + most row_size t) stop i.terms i.limit i.takes i.handed.each i.sizes (h (ever ++ i.handed.more) (i.handed.handed ever e))
+
+pub hands_step : (s : Scope) (pairs : List Pair) (t : Reading Row) (p : SearchPath) (r : Reading Row) (q x : SearchPath) → IsStep s pairs t p r q → HandsFrom r s pairs q x
+    → HandsFrom t s pairs p x
+hands_step s pairs t p r q x i h =
+    hands_then (MayTake (taken (path_of s p) t) (ways_of pairs)) p.state.rows.tableau q.state.rows.tableau x.state.rows.tableau i.handed
+    (hands_as (MayTake (taken (path_of s q) r) (ways_of pairs)) (MayTake (taken (path_of s p) t) (ways_of pairs)) q.state.rows.tableau x.state.rows.tableau i.takes h)
+
+-- what was handed stays
+pub hands_same : (r : Reading Row) (s : Scope) (pairs : List Pair) (p q : SearchPath) → KeepsHanded p.state q.state → HandsFrom r s pairs p q
+hands_same r s pairs p q k = hands_kept (MayTake (taken (path_of s p) r) (ways_of pairs)) p.state.rows.tableau q.state.rows.tableau k
+
+pub hands_more : (r : Reading Row) (s : Scope) (pairs : List Pair) (p q x : SearchPath) → HandsFrom r s pairs p q → KeepsHanded q.state x.state → HandsFrom r s pairs p x
+hands_more r s pairs p q x h k =
+    let P = MayTake (taken (path_of s p) r) (ways_of pairs) in
+    hands_then P p.state.rows.tableau q.state.rows.tableau x.state.rows.tableau h (hands_kept P q.state.rows.tableau x.state.rows.tableau k)
+
+keeps_by : (s t : PathState) → t ≡ s → KeepsHanded s t
+keeps_by s t e = subst (KeepsHanded s) (sym e) (λ ever h. h)
 
 pub reached_step : (s : Scope) (pairs : List Pair) (t : Reading Row) (p : SearchPath) (r : Reading Row) (q x : SearchPath) → IsStep s pairs t p r q
     → ReachesFrom r s pairs q x → ReachesFrom t s pairs p x
@@ -51,34 +74,33 @@ same_path : (ways : List (Readings Row)) (p q : Path) → p ≡ q → TakesNoMor
 same_path ways p q e = subst (TakesNoMore ways p) e (λ r m. m)
 
 pub step_equated : (s : Scope) (pairs : List Pair) (p q : SearchPath) → AddsEquations (facts_of s p) (facts_of s q) → q.choices.items ≡ p.choices.items → q.pairs.items ≡ p.pairs.items
-    → q.state.rows.pivots ≡ p.state.rows.pivots → IsStep s pairs yes p yes q
-step_equated s pairs p q a c d l = record {
+    → SameLimits q.state p.state → KeepsHanded p.state q.state → IsStep s pairs yes p yes q
+step_equated s pairs p q a c d l k = record {
   takes = equations_take (ways_of pairs) (path_of s p) (path_of s q) a (ap choices_of c);
   sizes = let m = most_equated s p q a c d in omega (arith, m);
-  limit = l;
+  terms = l.0;
+  limit = l.1;
+  handed = hands_same yes s pairs p q k;
 }
 
-pub step_back : (s : Scope) (pairs : List Pair) (p q : SearchPath) → IsBack p q → IsStep s pairs yes p yes q
-step_back s pairs p q b = record {
-  takes = same_path (ways_of pairs) (path_of s q) (path_of s p) (path_back s p q b);
-  sizes = let m = most_back s p q b in omega (arith, m);
-  limit = b.limits.1;
-}
-
-pub step_taken : (s : Scope) (pairs : List Pair) (r : Reading Row) (p q : SearchPath) → IsTakenFrom s r p q → IsStep s pairs r p yes q
-step_taken s pairs r p q t = record {
+pub step_taken : (s : Scope) (pairs : List Pair) (r : Reading Row) (p q : SearchPath) → IsTakenFrom s r p q → KeepsHanded p.state q.state → IsStep s pairs r p yes q
+step_taken s pairs r p q t k = record {
   takes = same_path (ways_of pairs) (path_of s q) (taken (path_of s p) r) (taken_path s r p q t);
   sizes = let m = most_taken s r p q t in omega (arith, m);
+  terms = t.limits.0;
   limit = t.limits.1;
+  handed = hands_same r s pairs p q k;
 }
 
 pub step_member : (s : Scope) (pairs : List Pair) (p q : SearchPath) (members : Nnfs) (items : List Nnf) (i : ℕ) (n : Nnf) → items ≡ nnf_items members → i < length items
-    → n ≡ get_or items i n → IsBack p q → IsStep s pairs (any_of (nnfs_view members)) p (nnf_view n) q
-step_member s pairs p q members items i n e l is b = record {
+    → n ≡ get_or items i n → IsBack p q → HandsFrom (any_of (nnfs_view members)) s pairs p q → IsStep s pairs (any_of (nnfs_view members)) p (nnf_view n) q
+step_member s pairs p q members items i n e l is b h = record {
   takes = subst (λ x. TakesNoMore (ways_of pairs) (taken x (nnf_view n)) (taken (path_of s p) (any_of (nnfs_view members)))) (sym (path_back s p q b))
       (member_takes (ways_of pairs) (path_of s p) members items i n e l is);
   sizes = let m = most_back s p q b in let k = member_most members items i n e l is in omega (arith, m, k);
+  terms = b.limits.0;
   limit = b.limits.1;
+  handed = h;
 }
 
 same_facts : (s : Scope) (p q : SearchPath) → q.state ≡ p.state → constants (rows_among (facts_of s q)) ≡ constants (rows_among (facts_of s p))
@@ -90,7 +112,9 @@ step_marked s pairs p q at c st here is_open is same = record {
   takes = subst (λ x. TakesNoMore (ways_of pairs) (taken x (any_of (nnfs_view c.members.now))) (path_of s p)) (sym path)
       (choice_takes (ways_of pairs) (path_of s p) at (nnfs_view c.members.now) (members_at p.choices.items at c here));
   sizes = let f = same_facts s p q st in let m = most_open-marked p.choices.items at c here is_open in let k = ap most_open is in let d = ap most_open same in omega (arith, f, m, k, d);
+  terms = ap (λ (x : PathState). terms_of x.rows) st;
   limit = ap (λ (x : PathState). x.rows.pivots) st;
+  handed = hands_same yes s pairs p q (keeps_by p.state q.state st);
 }
   where
     path : path_of s q ≡ path_of s p
@@ -104,7 +128,9 @@ step_pair_marked s pairs p q at c members ways e st here is_open is same = subst
   takes = subst (λ x. TakesNoMore (ways_of pairs) (taken x (any_of (nnfs_view c.members.now))) (path_of s p)) (sym path)
       (way_takes (ways_of pairs) (path_of s p) at (nnfs_view c.members.now) (ap (λ l. slice_get l at) (sym ways) ∙ members_at p.pairs.items at c here));
   sizes = let f = same_facts s p q st in let m = most_open-marked p.pairs.items at c here is_open in let k = ap most_open is in let d = ap most_open same in omega (arith, f, m, k, d);
+  terms = ap (λ (x : PathState). terms_of x.rows) st;
   limit = ap (λ (x : PathState). x.rows.pivots) st;
+  handed = hands_same yes s pairs p q (keeps_by p.state q.state st);
 })
   where
     path : path_of s q ≡ path_of s p
@@ -114,11 +140,30 @@ step_pair_marked s pairs p q at c members ways e st here is_open is same = subst
 -- ---- where a stop comes from
 
 -- a check, and equations
-pub check_stops : (s : Scope) (pairs : List Pair) (p : SearchPath) (stop : LinearStop) → HasStops p.state.rows.pivots (facts_of s p) stop → StopsFrom yes s pairs p stop
-check_stops s pairs p stop h = stops_here p.state.rows.pivots (path_of s p) (ways_of pairs) (most_on s p + most row_size yes) stop (omega arith) h
+pub check_stops : (s : Scope) (pairs : List Pair) (p : SearchPath) (stop : LinearStop)
+    → ((ever : List Row) → HasHanded p.state ever → HasStops (terms_of p.state.rows) p.state.rows.pivots ever (Stands (rows_among (facts_of s p))) (facts_of s p) stop) → StopsFrom yes s pairs p stop
+check_stops s pairs p stop h = λ ever e.
+    stops_here (terms_of p.state.rows) p.state.rows.pivots ever (path_of s p) (ways_of pairs) (most_on s p + most row_size yes) stop (omega arith)
+    (may_stop_as (Stands (rows_among (facts_of s p))) (MayTake (path_of s p) (ways_of pairs)) (terms_of p.state.rows) p.state.rows.pivots ever (rows_among (facts_of s p)) stop
+    (standing_take (path_of s p) (ways_of pairs)) (h ever e))
 
 pub equating_stops : (s : Scope) (pairs : List Pair) (p : SearchPath) (stop : LinearStop) → StopsBy (constants (rows_among (facts_of s p))) stop → StopsFrom yes s pairs p stop
-equating_stops s pairs p stop h = check_stops s pairs p stop (may_stop p.state.rows.pivots (rows_among (facts_of s p)) stop h)
+equating_stops s pairs p stop h = check_stops s pairs p stop
+    (λ ever e. may_stop (terms_of p.state.rows) p.state.rows.pivots ever (Stands (rows_among (facts_of s p))) (rows_among (facts_of s p)) stop h)
+
+-- rows that a check hands
+pub check_hands : (s : Scope) (pairs : List Pair) (p q : SearchPath) → HandsMore (Stands (rows_among (facts_of s p))) p.state q.state → HandsFrom yes s pairs p q
+check_hands s pairs p q h =
+    hands_as (Stands (rows_among (facts_of s p))) (MayTake (path_of s p) (ways_of pairs)) p.state.rows.tableau q.state.rows.tableau (standing_take (path_of s p) (ways_of pairs)) h
+
+pub step_checked : (s : Scope) (pairs : List Pair) (p q : SearchPath) → IsBack p q → HandsMore (Stands (rows_among (facts_of s p))) p.state q.state → IsStep s pairs yes p yes q
+step_checked s pairs p q b h = record {
+  takes = same_path (ways_of pairs) (path_of s q) (path_of s p) (path_back s p q b);
+  sizes = let m = most_back s p q b in omega (arith, m);
+  terms = b.limits.0;
+  limit = b.limits.1;
+  handed = check_hands s pairs p q h;
+}
 
 pub checked_reaches : (s : Scope) (pairs : List Pair) (p q : SearchPath) → facts_of s q ≡ facts_of s p → ReachesFrom yes s pairs p q
 checked_reaches s pairs p q e =
@@ -127,10 +172,12 @@ checked_reaches s pairs p q e =
 -- literals that are taken
 pub taking_stops : (s : Scope) (pairs : List Pair) (r : Reading Row) (p : SearchPath) (fs : List Fact) (stop : LinearStop) → fs ≡ taking.facts_of r
     → StopsBy (constants (rows_among (facts_of s p ++ fs))) stop → StopsFrom r s pairs p stop
-taking_stops s pairs r p fs stop e h =
-    subst (λ x. StopsSearch p.state.rows.pivots x (ways_of pairs) (most_on s p + most row_size r) stop) (sym (taking.taken_is (path_of s p) r))
-    (stops_here p.state.rows.pivots (taking.path_with (path_of s p) (taking.facts_of r) (taking.choices_of r)) (ways_of pairs) (most_on s p + most row_size r) stop le
-    (may_stop p.state.rows.pivots (rows_among (facts_of s p ++ taking.facts_of r)) stop (subst (λ l. StopsBy (constants (rows_among (facts_of s p ++ l))) stop) e h)))
+taking_stops s pairs r p fs stop e h = λ ever k.
+    let terms = terms_of p.state.rows in let limit = p.state.rows.pivots in
+    let path = taking.path_with (path_of s p) (taking.facts_of r) (taking.choices_of r) in
+    subst (λ x. StopsSearch terms limit ever x (ways_of pairs) (most_on s p + most row_size r) stop) (sym (taking.taken_is (path_of s p) r))
+    (stops_here terms limit ever path (ways_of pairs) (most_on s p + most row_size r) stop le
+    (may_stop terms limit ever (MayTake path (ways_of pairs)) (rows_among (facts_of s p ++ taking.facts_of r)) stop (subst (λ l. StopsBy (constants (rows_among (facts_of s p ++ l))) stop) e h)))
   where
     le : constants (rows_among (facts_of s p ++ taking.facts_of r)) ≤ most_on s p + most row_size r
     le =

@@ -4,6 +4,8 @@ use Rattle.std.proofs.lemmas.List.{map-append}
 use Rattle.std.proofs.lemmas.List.Elements.{All-cons, All-nil, All-weaker}
 use Rattle.lq_case.specs.PathState.{HasStops}
 use Rattle.lq_case.specs.RowState.{MayStop}
+use Rattle.lq_case.specs.Stored.{Stands}
+use Rattle.lq_case.proofs.Handing.{may_stop_as, may_stop_less, of_standing}
 use Rattle.lq_combine.specs.Path.{Fact, row_fact, flag_fact, objects_fact, never, Path, taken, with_choice}
 use Rattle.lq_combine.specs.Proves.{rows_among, rows_from}
 use Rattle.lq_diff.specs.Stops.{StopsBy}
@@ -156,14 +158,20 @@ reached_before ways p q m n facts takes le h = record {
   sizes = let w = h.sizes in omega (arith, w, le);
 }
 
-pub stops_before : (limit old : ℕ) (ways : List (Readings Row)) (p q : Path) (m n : ℕ) (stop : LinearStop) → limit ≡ old → TakesNoMore ways p q → m ≤ n
-    → StopsSearch limit p ways m stop → StopsSearch old q ways n stop
-stops_before limit old ways p q m n stop same takes le h = subst (λ l. StopsSearch l q ways n stop) same (by stop h)
+pub stops_before : (terms limit old_terms old_limit : ℕ) (ever later : List Row) (ways : List (Readings Row)) (p q : Path) (m n : ℕ) (stop : LinearStop) → terms ≡ old_terms → limit ≡ old_limit
+    → TakesNoMore ways p q → All (MayTake q ways) later → m ≤ n → StopsSearch terms limit (ever ++ later) p ways m stop → StopsSearch old_terms old_limit ever q ways n stop
+stops_before terms limit old_terms old_limit ever later ways p q m n stop same_terms same takes each le h =
+    subst (λ k. StopsSearch k old_limit ever q ways n stop) same_terms (subst (λ l. StopsSearch terms l ever q ways n stop) same (by stop h))
   where
-    on : (stop : LinearStop) → StopsOn limit p ways m stop → StopsOn limit q ways n stop
-    on stop h = record { facts = h.facts; reached = reached_before ways p q m n h.facts takes le h.reached; stops = h.stops }
+    on : (stop : LinearStop) → StopsOn terms limit (ever ++ later) p ways m stop → StopsOn terms limit ever q ways n stop
+    on stop h = record {
+      facts = h.facts;
+      reached = reached_before ways p q m n h.facts takes le h.reached;
+      stops = may_stop_less (MayTake q ways) terms limit ever later (rows_among h.facts) stop each
+          (may_stop_as (MayTake p ways) (MayTake q ways) terms limit (ever ++ later) (rows_among h.facts) stop takes h.stops);
+    }
 
-    by : (stop : LinearStop) → StopsSearch limit p ways m stop → StopsSearch limit q ways n stop
+    by : (stop : LinearStop) → StopsSearch terms limit (ever ++ later) p ways m stop → StopsSearch terms limit ever q ways n stop
     by Memory h = tt
     by (Number e) h = on (Number e) h
     by (Pivots k) h = on (Pivots k) h
@@ -180,22 +188,26 @@ facts_take P n (never ∷ fs) h = facts_take P (suc n) fs (λ k. h (suc k))
 pub reached_here : (path : Path) (ways : List (Readings Row)) (n : ℕ) → constants (rows_among path.facts) ≤ n → MayReach path ways n path.facts
 reached_here path ways n le = record { each = facts_take (MayTake path ways) 1 path.facts (λ k r e. of_fact k e); sizes = le }
 
+-- a row that stands is one of them
+pub standing_take : (path : Path) (ways : List (Readings Row)) (r : Row) → Stands (rows_among path.facts) r → MayTake path ways r
+standing_take path ways = of_standing (MayTake path ways) (rows_among path.facts) (facts_take (MayTake path ways) 1 path.facts (λ k r e. of_fact k e))
+
 -- a stop of an engine on them
-pub stops_here : (limit : ℕ) (path : Path) (ways : List (Readings Row)) (n : ℕ) (stop : LinearStop) → constants (rows_among path.facts) ≤ n
-    → HasStops limit path.facts stop → StopsSearch limit path ways n stop
-stops_here limit path ways n stop le h = by stop h
+pub stops_here : (terms limit : ℕ) (ever : List Row) (path : Path) (ways : List (Readings Row)) (n : ℕ) (stop : LinearStop) → constants (rows_among path.facts) ≤ n
+    → HasStops terms limit ever (MayTake path ways) path.facts stop → StopsSearch terms limit ever path ways n stop
+stops_here terms limit ever path ways n stop le h = by stop h
   where
-    on : (stop : LinearStop) → HasStops limit path.facts stop → StopsOn limit path ways n stop
+    on : (stop : LinearStop) → HasStops terms limit ever (MayTake path ways) path.facts stop → StopsOn terms limit ever path ways n stop
     on stop h = record { facts = path.facts; reached = reached_here path ways n le; stops = h }
 
-    by : (stop : LinearStop) → HasStops limit path.facts stop → StopsSearch limit path ways n stop
+    by : (stop : LinearStop) → HasStops terms limit ever (MayTake path ways) path.facts stop → StopsSearch terms limit ever path ways n stop
     by Memory h = tt
     by (Number e) h = on (Number e) h
     by (Pivots k) h = on (Pivots k) h
 
 -- a stop by the sizes alone is one that an engine may answer
-pub may_stop : (limit : ℕ) (rows : Tagged) (stop : LinearStop) → StopsBy (constants rows) stop → MayStop limit rows stop
-may_stop limit rows stop h = record { differences = λ d. h; any = inl h }
+pub may_stop : (terms limit : ℕ) (ever : List Row) (P : Row → Type 0) (rows : Tagged) (stop : LinearStop) → StopsBy (constants rows) stop → MayStop terms limit ever P rows stop
+may_stop terms limit ever P rows stop h = record { differences = λ d. h; any = inl h }
 
 pub stops_larger : (m n : ℕ) (stop : LinearStop) → m ≤ n → StopsBy m stop → StopsBy n stop
 stops_larger m n Memory le h = tt
@@ -221,4 +233,4 @@ pub memory_by : (n : ℕ) (stop : LinearStop) → stop ≡ Memory → StopsBy n 
 memory_by n stop e = subst (StopsBy n) (sym e) tt
 
 pub memory_from : (r : Reading Row) (s : Scope) (pairs : List Pair) (p : SearchPath) (stop : LinearStop) → stop ≡ Memory → StopsFrom r s pairs p stop
-memory_from r s pairs p stop e = subst (StopsFrom r s pairs p) (sym e) tt
+memory_from r s pairs p stop e = subst (StopsFrom r s pairs p) (sym e) (λ ever h. tt)

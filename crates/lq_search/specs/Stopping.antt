@@ -1,6 +1,7 @@
 -- When a search stops: as an engine may on rows that it may take.
 use Rattle.std.specs.Prelude.{◌≡◌, ◌⊎◌, ◌≤◌, ◌+◌, ℕ, List, [], ◌∷◌, All, Some, if◌then◌else◌, slice_get}
-use Rattle.lq_case.specs.PathState.{HasStops}
+use Rattle.lq_case.specs.PathState.{HandsMore, HasHanded, HasStops}
+use Rattle.lq_case.specs.RowState.{terms_of}
 use Rattle.lq_combine.specs.Path.{Fact, Path, row_fact, taken}
 use Rattle.lq_combine.specs.Proves.{rows_among}
 use Rattle.lq_diff.specs.Table.{constants}
@@ -62,21 +63,28 @@ pub record MayReach (path : Path) (ways : List (Readings Row)) (n : ℕ) (facts 
   pub each : All (λ r. MayTake path ways r.1) (rows_among facts)
   pub sizes : constants (rows_among facts) ≤ n
 
--- a stop of an engine on such facts, with this limit on pivots
-pub record StopsOn (limit : ℕ) (path : Path) (ways : List (Readings Row)) (n : ℕ) (stop : LinearStop) : Type 0 where
+-- a stop of an engine on such facts, over so many terms and with this limit on pivots; the tableau was ever handed some rows, and then rows
+-- that the search may take
+pub record StopsOn (terms limit : ℕ) (ever : List Row) (path : Path) (ways : List (Readings Row)) (n : ℕ) (stop : LinearStop) : Type 0 where
   pub facts : List Fact
   pub reached : MayReach path ways n facts
-  pub stops : HasStops limit facts stop
+  pub stops : HasStops terms limit ever (MayTake path ways) facts stop
 
 -- want of memory, or a stop of an engine
-abbrev pub StopsSearch : ℕ → Path → List (Readings Row) → ℕ → LinearStop → Type 0
-StopsSearch limit path ways n Memory = Unit {0}
-StopsSearch limit path ways n (Number e) = StopsOn limit path ways n (Number e)
-StopsSearch limit path ways n (Pivots k) = StopsOn limit path ways n (Pivots k)
+abbrev pub StopsSearch : ℕ → ℕ → List Row → Path → List (Readings Row) → ℕ → LinearStop → Type 0
+StopsSearch terms limit ever path ways n Memory = Unit {0}
+StopsSearch terms limit ever path ways n (Number e) = StopsOn terms limit ever path ways n (Number e)
+StopsSearch terms limit ever path ways n (Pivots k) = StopsOn terms limit ever path ways n (Pivots k)
 
--- a search with a reading, from one path: a stop, and the facts with which it ends
+-- a search with a reading, from one path: a stop, whatever rows the tableau was handed before, the rows that are handed to it besides, and the
+-- facts with which it ends
 abbrev pub StopsFrom : Reading Row → Scope → List Pair → SearchPath → LinearStop → Type 0
-StopsFrom r s pairs p stop = StopsSearch p.state.rows.pivots (taken (path_of s p) r) (ways_of pairs) (most_on s p + most row_size r) stop
+StopsFrom r s pairs p stop =
+    (ever : List Row) → HasHanded p.state ever
+    → StopsSearch (terms_of p.state.rows) p.state.rows.pivots ever (taken (path_of s p) r) (ways_of pairs) (most_on s p + most row_size r) stop
+
+abbrev pub HandsFrom : Reading Row → Scope → List Pair → SearchPath → SearchPath → Type 0
+HandsFrom r s pairs p q = HandsMore (MayTake (taken (path_of s p) r) (ways_of pairs)) p.state q.state
 
 abbrev pub ReachesFrom : Reading Row → Scope → List Pair → SearchPath → SearchPath → Type 0
 ReachesFrom r s pairs p q = MayReach (taken (path_of s p) r) (ways_of pairs) (most_on s p + most row_size r) (facts_of s q)

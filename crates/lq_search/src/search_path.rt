@@ -1,6 +1,6 @@
 // The path of a search.
 ghost use Rattle.std.specs.Prelude.{◌≡◌, ◌<◌, ◌≤◌, ℕ, [], All, IfOk, false, length, take};
-ghost use Rattle.lq_case.specs.PathState.{facts_in};
+ghost use Rattle.lq_case.specs.PathState.{KeepsHanded, facts_in};
 ghost use Rattle.lq_path.specs.SearchPath.{SameLimits, choices_of};
 ghost use Rattle.lq_pred.specs.Sum.{Sum};
 ghost use Rattle.lq_search.specs.SearchPath.{SetsDone, ways_of};
@@ -62,6 +62,7 @@ impl<'a> SearchPath<'a> {
         requires { (name : ℕ → Sum) → counts.facts ≤ length (facts_in name self.old.state) }
         ensures facts { (name : ℕ → Sum) → facts_in name self.new.state ≡ take counts.facts (facts_in name self.old.state) }
         ensures limits { SameLimits self.new.state self.old.state }
+        ensures handed { KeepsHanded self.old.state self.new.state }
         ensures choices { self.new.choices.items ≡ take counts.choices self.old.choices.items }
         ensures pairs { self.new.pairs.items ≡ self.old.pairs.items }
     {

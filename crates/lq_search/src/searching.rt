@@ -11,7 +11,7 @@ ghost use Rattle.lq_search.specs.Branches.{BranchProves, SplitProves};
 ghost use Rattle.lq_search.specs.Scope.{AreWithin, IsWithin};
 ghost use Rattle.lq_search.specs.SearchPath.{AreGiven, EndsMet, IsBack, IsLonger, IsReady, IsReadyFor, IsReadyForAny, facts_of, path_of, scope_of};
 ghost use Rattle.lq_search.specs.Splits.{IsOpen};
-ghost use Rattle.lq_search.specs.Stopping.{ReachesFrom, StopsFrom};
+ghost use Rattle.lq_search.specs.Stopping.{HandsFrom, ReachesFrom, StopsFrom};
 
 use crate::branch::{Branch, Split, any_tree, apart_tree, branch_of, leaf_around, tree_around};
 use crate::counting::Counts;
@@ -42,6 +42,8 @@ pub fn search<'a>(
     ensures met { IfOk result (λ found. IfNone found (EndsMet (scope_of givens.now) givens.now.pairs.now
         (path_of (scope_of givens.now) path.old) path.new)) }
     ensures reached { IfOk result (λ found. IfNone found (ReachesFrom yes (scope_of givens.now)
+        givens.now.pairs.now path.old path.new)) }
+    ensures handed { IfOk result (λ found. OnSome found (HandsFrom yes (scope_of givens.now)
         givens.now.pairs.now path.old path.new)) }
     ensures stop { IfErr result (StopsFrom yes (scope_of givens.now)
         givens.now.pairs.now path.old) }
@@ -79,6 +81,8 @@ fn search_on<'a>(
         (path_of (scope_of givens.now) path.old) path.new)) }
     ensures reached { IfOk result (λ found. IfNone found (ReachesFrom yes (scope_of givens.now)
         givens.now.pairs.now path.old path.new)) }
+    ensures handed { IfOk result (λ found. OnSome found (HandsFrom yes (scope_of givens.now)
+        givens.now.pairs.now path.old path.new)) }
     ensures stop { IfErr result (StopsFrom yes (scope_of givens.now)
         givens.now.pairs.now path.old) }
 {
@@ -109,6 +113,8 @@ fn split_choice<'a>(
     ensures met { IfOk result (λ found. IfNone found (EndsMet (scope_of givens.now) givens.now.pairs.now
         (path_of (scope_of givens.now) path.old) path.new)) }
     ensures reached { IfOk result (λ found. IfNone found (ReachesFrom yes (scope_of givens.now)
+        givens.now.pairs.now path.old path.new)) }
+    ensures handed { IfOk result (λ found. OnSome found (HandsFrom yes (scope_of givens.now)
         givens.now.pairs.now path.old path.new)) }
     ensures stop { IfErr result (StopsFrom yes (scope_of givens.now)
         givens.now.pairs.now path.old) }
@@ -142,6 +148,8 @@ fn split_pair<'a>(
         (path_of (scope_of givens.now) path.old) path.new)) }
     ensures reached { IfOk result (λ found. IfNone found (ReachesFrom yes (scope_of givens.now)
         givens.now.pairs.now path.old path.new)) }
+    ensures handed { IfOk result (λ found. OnSome found (HandsFrom yes (scope_of givens.now)
+        givens.now.pairs.now path.old path.new)) }
     ensures stop { IfErr result (StopsFrom yes (scope_of givens.now)
         givens.now.pairs.now path.old) }
 {
@@ -173,6 +181,8 @@ fn refute_each<'a>(
     ensures met { IfOk result (λ found. IfNone found (EndsMet (scope_of givens.now) givens.now.pairs.now
         (path_of (scope_of givens.now) path.old) path.new)) }
     ensures reached { IfOk result (λ found. IfNone found (ReachesFrom (any_of (nnfs_view members.now)) (scope_of givens.now)
+        givens.now.pairs.now path.old path.new)) }
+    ensures handed { IfOk result (λ found. OnSome found (HandsFrom (any_of (nnfs_view members.now)) (scope_of givens.now)
         givens.now.pairs.now path.old path.new)) }
     ensures stop { IfErr result (StopsFrom (any_of (nnfs_view members.now)) (scope_of givens.now)
         givens.now.pairs.now path.old) }
@@ -212,6 +222,8 @@ fn refute_with<'a>(
         (path_of (scope_of givens.now) path.old) path.new)) }
     ensures reached { IfOk result (λ found. IfNone found (ReachesFrom (nnf_view member.now) (scope_of givens.now)
         givens.now.pairs.now path.old path.new)) }
+    ensures handed { IfOk result (λ found. OnSome found (HandsFrom (nnf_view member.now) (scope_of givens.now)
+        givens.now.pairs.now path.old path.new)) }
     ensures stop { IfErr result (StopsFrom (nnf_view member.now) (scope_of givens.now)
         givens.now.pairs.now path.old) }
 {
@@ -242,6 +254,8 @@ pub fn search_with<'a>(
     ensures met { IfOk result (λ found. IfNone found (EndsMet (scope_of givens.now) givens.now.pairs.now
         (taken (path_of (scope_of givens.now) path.old) (nnf_view reading.now)) path.new)) }
     ensures reached { IfOk result (λ found. IfNone found (ReachesFrom (nnf_view reading.now) (scope_of givens.now)
+        givens.now.pairs.now path.old path.new)) }
+    ensures handed { IfOk result (λ found. OnSome found (HandsFrom (nnf_view reading.now) (scope_of givens.now)
         givens.now.pairs.now path.old path.new)) }
     ensures stop { IfErr result (StopsFrom (nnf_view reading.now) (scope_of givens.now)
         givens.now.pairs.now path.old) }

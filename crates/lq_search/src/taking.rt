@@ -1,6 +1,6 @@
 // Literals become the next facts of a path.
 ghost use Rattle.std.specs.Prelude.{◌≡◌, ℕ, [], ◌∷◌, ◌++◌, List, IfErr, IfNone, IfOk, IfSome, length};
-ghost use Rattle.lq_case.specs.PathState.{facts_in, objects_in};
+ghost use Rattle.lq_case.specs.PathState.{KeepsHanded, facts_in, objects_in};
 ghost use Rattle.lq_case.specs.RowState.{terms_of};
 ghost use Rattle.lq_combine.specs.Path.{never};
 ghost use Rattle.lq_combine.specs.Proves.{rows_among};
@@ -56,6 +56,7 @@ fn take_part(
         (tree_view t))) }
     ensures grows { IfOk result (λ _. (name : ℕ → Sum) → Grows (facts_in name state.old) (facts_in name state.new)) }
     ensures limits { SameLimits state.new state.old }
+    ensures handed { KeepsHanded state.old state.new }
     ensures stop { IfErr result (StopsBy (constants (rows_among (facts_in (name_in (objects_of objects.now)) state.old
         ++ part_fact part.now ∷ [])))) }
 {
@@ -89,6 +90,7 @@ pub(crate) fn take_parts(
         (tree_view t))) }
     ensures grows { IfOk result (λ _. (name : ℕ → Sum) → Grows (facts_in name state.old) (facts_in name state.new)) }
     ensures limits { SameLimits state.new state.old }
+    ensures handed { KeepsHanded state.old state.new }
     ensures stop { IfErr result (StopsBy (constants (rows_among (facts_in (name_in (objects_of objects.now)) state.old
         ++ facts_of parts.now)))) }
 {

@@ -22,7 +22,7 @@ use Rattle.lq_search.specs.declared.pair.Pair.{Pair}
 use Rattle.lq_search.specs.declared.search_path.SearchPath.{SearchPath}
 use Rattle.lq_search.proofs.Nodes.{leaf_seen, no_trees, one_more}
 use Rattle.lq_search.proofs.Ready.{IsTakenFrom, ready_back, ready_equated, ready_marked, ready_pair_marked, ready_taken, taken_path}
-use Rattle.lq_search.proofs.Reaching.{check_stops, checked_reaches, equating_stops, if_err_more, if_ok_none, reached_step, step_equated, step_marked, step_member, step_pair_marked, step_taken, stops_step, taking_stops}
+use Rattle.lq_search.proofs.Reaching.{check_hands, check_stops, checked_reaches, equating_stops, hands_more, hands_same, hands_step, if_err_more, if_ok_none, reached_step, step_checked, step_equated, step_marked, step_member, step_pair_marked, step_taken, stops_step, taking_stops}
 use Rattle.lq_search.proofs.Steps.{all_members, back_itself, back_then, choice_at, ends_at, ends_before, if_ok_some, leaf_taken, left_back, left_taken, longer_back, marked_path, marks, member_inside, member_is, member_weight, members_at, parts_are, parts_below, parts_sides, path_back, ready_member, same_item, set_length, unmarked_is, ways_at, ways_length}
 use Rattle.lq_search.proofs.Weights.{total, total-marked, weights, with_done}
 use Rattle.lq_search.proofs.Within.{item_within}
@@ -33,6 +33,7 @@ use Rattle.lq_search.proofs.searching.+search.Goals as goal
 pub refute_each-loop-member-init : goal.refute_each-loop-member-init
 refute_each-loop-member-init t c = record {
   back = back_itself c.args.path.now;
+  handed = hands_same (any_of (nnfs_view c.args.members.now)) (scope_of c.args.givens.now) c.args.givens.now.pairs.now c.args.path.now c.args.path.now (λ ever h. h);
   proves = no_trees (numbering_by (scope_of c.args.givens.now).terms) (path_of (scope_of c.args.givens.now) c.args.path.now) c.in-Ok.trees c.in-Ok.ensures;
 }
 
@@ -70,7 +71,11 @@ refute_each-loop-member-preserved t c =
     let before = c.loop-member.invariant in
     let branch = rw c.in-Some-Own.is at c.in_ok-refute_with.ensures.branch in
     let own = subst (BranchProves n (path_of s c.loop-member.path) (nnf_view member)) c.in-Some-Own.field-0-is branch in
+    let pairs = c.args.givens.now.pairs.now in
+    let step = step_member s pairs c.args.path.now c.loop-member.path c.args.members.now items i member c.as_slice-member-items.ensures c.loop-member-test.true c.member-item.is before.back before.handed in
     record {
+      handed = hands_step s pairs (any_of (nnfs_view c.args.members.now)) c.args.path.now (nnf_view member) c.loop-member.path c.refute_with.new.path step
+          (rw c.in-Some-Own.is at c.in_ok-refute_with.ensures.handed);
       back = back_then c.args.path.now c.loop-member.path c.refute_with.new.path before.back (rw c.in-Some-Own.is at c.in_ok-refute_with.ensures.back);
       proves = one_more n (path_of s c.args.path.now) items i member c.loop-member.trees c.push.new.self c.in-Some-Own.tree c.loop-member-test.true c.member-item.is c.in-Ok-push.ensures.ok before.proves
           (subst (λ p. Proves n (taken p (nnf_view member)) (tree_view c.in-Some-Own.tree)) (path_back s c.args.path.now c.loop-member.path before.back) own);
@@ -425,7 +430,7 @@ search-returns-in_err-tree-clause-stop t c =
     let p = c.args.path.now in
     let e = c.in_ok-joints.ensures in
     let q : SearchPath = record { state = c.equate_all.new.state; choices = p.choices; pairs = p.pairs } in
-    let step = step_equated s c.args.givens.now.pairs.now p q (e.adds (name_in s.objects)) refl refl e.limits.1 in
+    let step = step_equated s c.args.givens.now.pairs.now p q (e.adds (name_in s.objects)) refl refl e.limits e.handed in
     rw (r.1, r.2) (stops_step s c.args.givens.now.pairs.now yes p yes q c.in_err-tree.field-0.0 step c.in_err-tree.ensures.stop)
 
 pub search-returns-in-None-clause-reached : goal.search-returns-in-None-clause-reached
@@ -434,7 +439,7 @@ search-returns-in-None-clause-reached t c =
     let p = c.args.path.now in
     let e = c.in_ok-joints.ensures in
     let q : SearchPath = record { state = c.equate_all.new.state; choices = p.choices; pairs = p.pairs } in
-    let step = step_equated s c.args.givens.now.pairs.now p q (e.adds (name_in s.objects)) refl refl e.limits.1 in
+    let step = step_equated s c.args.givens.now.pairs.now p q (e.adds (name_in s.objects)) refl refl e.limits e.handed in
     reached_step s c.args.givens.now.pairs.now yes p yes q c.search_on.new.path step (rw c.in-None.is at c.in_ok-tree.ensures.reached)
 
 pub search_on-returns-in_err-clash-clause-stop : goal.search_on-returns-in_err-clash-clause-stop
@@ -458,7 +463,7 @@ refute_each-returns-in_err-refute_with-clause-stop t c =
     let p = c.args.path.now in
     let n = c.member-item.result in
     let step = step_member s pairs p c.loop-member.path c.args.members.now c.as_slice-member-items.result.now c.loop-member.member-index n c.as_slice-member-items.ensures
-    c.loop-member-test.true c.member-item.is c.loop-member.invariant.back in
+    c.loop-member-test.true c.member-item.is c.loop-member.invariant.back c.loop-member.invariant.handed in
     rw (r.1, r.2) (stops_step s pairs (any_of (nnfs_view c.args.members.now)) p (nnf_view n) c.loop-member.path c.in_err-refute_with.field-0.0 step c.in_err-refute_with.ensures.stop)
 
 pub refute_each-returns-in-None-clause-reached : goal.refute_each-returns-in-None-clause-reached
@@ -468,7 +473,7 @@ refute_each-returns-in-None-clause-reached t c =
     let p = c.args.path.now in
     let n = c.member-item.result in
     let step = step_member s pairs p c.loop-member.path c.args.members.now c.as_slice-member-items.result.now c.loop-member.member-index n c.as_slice-member-items.ensures
-    c.loop-member-test.true c.member-item.is c.loop-member.invariant.back in
+    c.loop-member-test.true c.member-item.is c.loop-member.invariant.back c.loop-member.invariant.handed in
     reached_step s pairs (any_of (nnfs_view c.args.members.now)) p (nnf_view n) c.loop-member.path c.refute_with.new.path step (rw c.in-None.is at c.in_ok-refute_with.ensures.reached)
 
 pub search_with-returns-in_err-leaf-clause-stop : goal.search_with-returns-in_err-leaf-clause-stop
@@ -497,7 +502,7 @@ search_with-returns-clause-reached t c =
       limits = e.limits;
     } in
     let pairs = c.args.givens.now.pairs.now in
-    if_ok_none c.search.result (λ h. reached_step s pairs r p yes q c.search.new.path (step_taken s pairs r p q is) h) c.search.ensures.reached
+    if_ok_none c.search.result (λ h. reached_step s pairs r p yes q c.search.new.path (step_taken s pairs r p q is e.handed) h) c.search.ensures.reached
 
 pub search_with-returns-clause-stop : goal.search_with-returns-clause-stop
 search_with-returns-clause-stop t c =
@@ -517,7 +522,7 @@ search_with-returns-clause-stop t c =
       limits = e.limits;
     } in
     let pairs = c.args.givens.now.pairs.now in
-    if_err_more c.search.result (λ stop h. stops_step s pairs r p yes q stop (step_taken s pairs r p q is) h) c.search.ensures.stop
+    if_err_more c.search.result (λ stop h. stops_step s pairs r p yes q stop (step_taken s pairs r p q is e.handed) h) c.search.ensures.stop
 
 pub split_choice-any_tree-requires : goal.split_choice-any_tree-requires
 split_choice-any_tree-requires t c =
@@ -591,3 +596,141 @@ split_pair-returns-in-None-clause-reached t c =
     let ways : nnfs_view choice.members.now ≡ members = ways_at pairs p.pairs.items at choice pair c.requires.ready.pairs_are here c.index-givens-at.is ∙ ap (λ (x : Pair). nnfs_view x.ways) c.index-givens-at.is in
     let step = step_pair_marked s pairs p q at choice members c.requires.ready.pairs_are ways refl here open_at.open_still is refl in
     reached_step s pairs yes p (any_of members) q c.refute_each.new.path step (rw c.in-None.is at c.in_ok-split.ensures.reached)
+
+-- ---- rows that are handed
+
+pub search-returns-in-Some-clause-handed : goal.search-returns-in-Some-clause-handed
+search-returns-in-Some-clause-handed t c =
+    hands_same yes (scope_of c.args.givens.now) c.args.givens.now.pairs.now c.args.path.now c.back_to.new.self (λ ever h. c.back_to.ensures.handed ever (c.equate_all.ensures.handed ever h))
+
+pub search_on-returns-in-Some-clause-handed : goal.search_on-returns-in-Some-clause-handed
+search_on-returns-in-Some-clause-handed t c =
+    let s = scope_of c.args.givens.now in
+    let p = c.args.path.now in
+    let q : SearchPath = record { state = c.check.new.self; choices = p.choices; pairs = p.pairs } in
+    check_hands s c.args.givens.now.pairs.now p q (c.check.ensures.handed (name_in s.objects))
+
+pub refute_each-returns-in-Some-Whole-clause-handed : goal.refute_each-returns-in-Some-Whole-clause-handed
+refute_each-returns-in-Some-Whole-clause-handed t c =
+    let s = scope_of c.args.givens.now in
+    let pairs = c.args.givens.now.pairs.now in
+    let p = c.args.path.now in
+    let n = c.member-item.result in
+    let step = step_member s pairs p c.loop-member.path c.args.members.now c.as_slice-member-items.result.now c.loop-member.member-index n c.as_slice-member-items.ensures
+    c.loop-member-test.true c.member-item.is c.loop-member.invariant.back c.loop-member.invariant.handed in
+    hands_step s pairs (any_of (nnfs_view c.args.members.now)) p (nnf_view n) c.loop-member.path c.refute_with.new.path step (rw c.in-Some-Whole.is at c.in_ok-refute_with.ensures.handed)
+
+pub refute_with-returns-in_ok-branch_of-in-Some-clause-handed : goal.refute_with-returns-in_ok-branch_of-in-Some-clause-handed
+refute_with-returns-in_ok-branch_of-in-Some-clause-handed t c =
+    hands_more (nnf_view c.args.member.now) (scope_of c.args.givens.now) c.args.givens.now.pairs.now c.args.path.now c.search_with.new.path c.back_to.new.self
+    (rw c.in-Some.is at c.in_ok-tree.ensures.handed) c.back_to.ensures.handed
+
+pub search_with-returns-in-Some-clause-handed : goal.search_with-returns-in-Some-clause-handed
+search_with-returns-in-Some-clause-handed t c =
+    let q : SearchPath = record { state = c.take_parts.new.state; choices = c.add_parts.new.choices; pairs = c.args.path.now.pairs } in
+    hands_same (nnf_view c.args.reading.now) (scope_of c.args.givens.now) c.args.givens.now.pairs.now c.args.path.now q c.take_parts.ensures.handed
+
+pub search_with-returns-clause-handed : goal.search_with-returns-clause-handed
+search_with-returns-clause-handed t c =
+    let s = scope_of c.args.givens.now in
+    let r = nnf_view c.args.reading.now in
+    let p = c.args.path.now in
+    let e = c.in_ok-leaf.ensures in
+    let q : SearchPath = record { state = c.take_parts.new.state; choices = c.add_parts.new.choices; pairs = c.args.path.now.pairs } in
+    let is : IsTakenFrom s r p q = record {
+      parts = c.deref.result.now;
+      facts = rw c.in_default-2.is at e.stands;
+      may_hold = rw c.in_default-2.is at e.may_hold;
+      path = ap (λ l. path_by l c.add_parts.new.choices.items) c.deref.ensures.value ∙ c.in-Ok.ensures.taken ∙ ap (λ l. taken (path_by l p.choices.items) r) c.new-parts.ensures.items;
+      adds = c.in-Ok.ensures.adds;
+      pairs_are = refl;
+      told = (rw c.in_default-2.is at e.told) c.requires.ready.told;
+      limits = e.limits;
+    } in
+    let pairs = c.args.givens.now.pairs.now in
+    if_ok_some c.search.result (λ h. hands_step s pairs r p yes q c.search.new.path (step_taken s pairs r p q is e.handed) h) c.search.ensures.handed
+
+pub split_choice-returns-in-Some-clause-handed : goal.split_choice-returns-in-Some-clause-handed
+split_choice-returns-in-Some-clause-handed t c =
+    let s = scope_of c.args.givens.now in
+    let pairs = c.args.givens.now.pairs.now in
+    let p = c.args.path.now in
+    let at = c.args.at in
+    let choice = c.index.result.now in
+    let open_at = c.requires.is_open in
+    let inside = slice_get_within p.choices.items at open_at.choice open_at.here in
+    let here : slice_get p.choices.items at ≡ Some choice = slice_get-get_or p.choices.items at choice inside ∙ ap Some (sym c.index.ensures) in
+    let is_open : choice.is_done ≡ false = ap (λ (x : Choice). x.is_done) (same_item p.choices.items at choice open_at.choice here open_at.here) ∙ open_at.open_still in
+    let q : SearchPath = record { state = p.state; choices = c.set_done.new.choices; pairs = p.pairs } in
+    let is : q.choices.items ≡ set p.choices.items at (with_done choice true) = marks p.choices.items c.set_done.new.choices.items at choice here c.set_done.ensures in
+    hands_step s pairs yes p (any_of (nnfs_view choice.members.now)) q c.refute_each.new.path (step_marked s pairs p q at choice refl here is_open is refl) (rw c.in-Some.is at c.in_ok-split.ensures.handed)
+
+pub split_pair-returns-in-Some-clause-handed : goal.split_pair-returns-in-Some-clause-handed
+split_pair-returns-in-Some-clause-handed t c =
+    let s = scope_of c.args.givens.now in
+    let pairs = c.args.givens.now.pairs.now in
+    let p = c.args.path.now in
+    let at = c.args.at in
+    let open_at = c.requires.is_open in
+    let choice = open_at.choice in
+    let here = open_at.here in
+    let pair = c.index-givens-at.result in
+    let q : SearchPath = record { state = p.state; choices = p.choices; pairs = c.set_done.new.choices } in
+    let is : q.pairs.items ≡ set p.pairs.items at (with_done choice true) = marks p.pairs.items c.set_done.new.choices.items at choice here c.set_done.ensures in
+    let members = nnfs_view (get_or pairs at pair).ways in
+    let ways : nnfs_view choice.members.now ≡ members = ways_at pairs p.pairs.items at choice pair c.requires.ready.pairs_are here c.index-givens-at.is ∙ ap (λ (x : Pair). nnfs_view x.ways) c.index-givens-at.is in
+    let step = step_pair_marked s pairs p q at choice members c.requires.ready.pairs_are ways refl here open_at.open_still is refl in
+    hands_step s pairs yes p (any_of members) q c.refute_each.new.path step (rw c.in-Some.is at c.in_ok-split.ensures.handed)
+
+pub search-returns-in_ok-tree_around-in-Some-2-clause-handed : goal.search-returns-in_ok-tree_around-in-Some-2-clause-handed
+search-returns-in_ok-tree_around-in-Some-2-clause-handed t c =
+    let s = scope_of c.args.givens.now in
+    let pairs = c.args.givens.now.pairs.now in
+    let p = c.args.path.now in
+    let e = c.in_ok-joints.ensures in
+    let q : SearchPath = record { state = c.equate_all.new.state; choices = p.choices; pairs = p.pairs } in
+    let step = step_equated s pairs p q (e.adds (name_in s.objects)) refl refl e.limits c.equate_all.ensures.handed in
+    hands_more yes s pairs p c.search_on.new.path c.back_to-in-Some-2.new.self
+    (hands_step s pairs yes p yes q c.search_on.new.path step (rw c.in-Some-2.is at c.in_ok-tree.ensures.handed)) c.back_to-in-Some-2.ensures.handed
+
+-- ---- after a check
+
+pub search_on-returns-in-Some-Choice-clause-handed : goal.search_on-returns-in-Some-Choice-clause-handed
+search_on-returns-in-Some-Choice-clause-handed t c =
+    let s = scope_of c.args.givens.now in
+    let pairs = c.args.givens.now.pairs.now in
+    let p = c.args.path.now in
+    let e = c.in_ok-clash.ensures in
+    let q : SearchPath = record { state = c.check.new.self; choices = p.choices; pairs = p.pairs } in
+    let back : IsBack p q = record { facts = e.facts; choices_are = refl; pairs_are = refl; limits = e.limits } in
+    if_ok_some c.split_choice.result (λ h. hands_step s pairs yes p yes q c.split_choice.new.path (step_checked s pairs p q back (c.check.ensures.handed (name_in s.objects))) h) c.split_choice.ensures.handed
+
+pub search_on-returns-in-Some-Choice-clause-stop : goal.search_on-returns-in-Some-Choice-clause-stop
+search_on-returns-in-Some-Choice-clause-stop t c =
+    let s = scope_of c.args.givens.now in
+    let pairs = c.args.givens.now.pairs.now in
+    let p = c.args.path.now in
+    let e = c.in_ok-clash.ensures in
+    let q : SearchPath = record { state = c.check.new.self; choices = p.choices; pairs = p.pairs } in
+    let back : IsBack p q = record { facts = e.facts; choices_are = refl; pairs_are = refl; limits = e.limits } in
+    if_err_more c.split_choice.result (λ stop h. stops_step s pairs yes p yes q stop (step_checked s pairs p q back (c.check.ensures.handed (name_in s.objects))) h) c.split_choice.ensures.stop
+
+pub search_on-returns-in-Some-Pair-clause-handed : goal.search_on-returns-in-Some-Pair-clause-handed
+search_on-returns-in-Some-Pair-clause-handed t c =
+    let s = scope_of c.args.givens.now in
+    let pairs = c.args.givens.now.pairs.now in
+    let p = c.args.path.now in
+    let e = c.in_ok-clash.ensures in
+    let q : SearchPath = record { state = c.check.new.self; choices = p.choices; pairs = p.pairs } in
+    let back : IsBack p q = record { facts = e.facts; choices_are = refl; pairs_are = refl; limits = e.limits } in
+    if_ok_some c.split_pair.result (λ h. hands_step s pairs yes p yes q c.split_pair.new.path (step_checked s pairs p q back (c.check.ensures.handed (name_in s.objects))) h) c.split_pair.ensures.handed
+
+pub search_on-returns-in-Some-Pair-clause-stop : goal.search_on-returns-in-Some-Pair-clause-stop
+search_on-returns-in-Some-Pair-clause-stop t c =
+    let s = scope_of c.args.givens.now in
+    let pairs = c.args.givens.now.pairs.now in
+    let p = c.args.path.now in
+    let e = c.in_ok-clash.ensures in
+    let q : SearchPath = record { state = c.check.new.self; choices = p.choices; pairs = p.pairs } in
+    let back : IsBack p q = record { facts = e.facts; choices_are = refl; pairs_are = refl; limits = e.limits } in
+    if_err_more c.split_pair.result (λ stop h. stops_step s pairs yes p yes q stop (step_checked s pairs p q back (c.check.ensures.handed (name_in s.objects))) h) c.split_pair.ensures.stop

@@ -4,7 +4,9 @@ use Rattle.lq_combine.specs.TreeView.{trees_view}
 use Rattle.lq_equating.specs.Equating.{numbering_by}
 use Rattle.lq_path.proofs.Readings.{row_of}
 use Rattle.lq_pred.specs.NnfView.{nnf_view, nnfs_view}
+use Rattle.lq_pred.specs.Reading.{any_of}
 use Rattle.lq_search.specs.SearchPath.{IsBack, path_of, scope_of}
+use Rattle.lq_search.specs.Stopping.{HandsFrom}
 use Rattle.lq_search.proofs.Weights.{left, weight, weights}
 use Rattle.lq_search.proofs.searching.+search.Given as goal
 
@@ -32,5 +34,6 @@ decreases-search_with l = 8 * (left l.path.now + weight (nnf_view l.reading.now)
 abbrev pub invariant-refute_each-loop-member : goal.invariant-refute_each-loop-member
 invariant-refute_each-loop-member l = record {
   back : IsBack l.fn.path l.path;
+  handed : HandsFrom (any_of (nnfs_view l.members)) (scope_of l.givens) l.givens.pairs.now l.fn.path l.path;
   proves : ProvesEach (numbering_by (scope_of l.givens).terms) (path_of (scope_of l.givens) l.fn.path) (row_of (take l.member-index l.member-items)) (trees_view l.trees);
 }

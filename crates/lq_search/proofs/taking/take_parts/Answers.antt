@@ -19,6 +19,7 @@ loop-part-init c = record {
   told = λ h. h;
   grows = λ name. grows_itself _;
   limits = (refl, refl, refl);
+  handed = λ ever h. h;
 }
 
 pub take_part-requires-clause-sides : goal.take_part-requires-clause-sides
@@ -64,6 +65,7 @@ loop-part-preserved c =
       told = λ h. (rw c.in_default.is at e.told) (before.told h);
       grows = λ m. grows_then (facts_in m c.args.state.now) (facts_in m c.loop-part.state) (facts_in m c.take_part.new.state) (before.grows m) (e.grows m);
       limits = (e.limits.0 ∙ before.limits.0, e.limits.1 ∙ before.limits.1, e.limits.2 ∙ before.limits.2);
+      handed = λ ever h. c.take_part.ensures.handed ever (before.handed ever h);
     }
 
 pub returns-clause-stands : goal.returns-clause-stands
@@ -80,3 +82,9 @@ returns-in_err-leaf-clause-stop c =
     let front = facts_in name c.loop-part.state in
     let le = front_smaller base front c.args.parts.now c.loop-part.part-index c.part-item.result c.loop-part.invariant.stands c.loop-part-test.true c.part-item.is in
     rw (p.1, p.2) (stops_larger (constants (rows_among (front ++ part_fact c.part-item.result ∷ []))) (constants (rows_among (base ++ facts_of c.args.parts.now))) c.in_err-leaf.field-0.0 le c.in_err-leaf.ensures.stop)
+
+pub returns-in_err-leaf-clause-handed : goal.returns-in_err-leaf-clause-handed
+returns-in_err-leaf-clause-handed c = λ ever h. c.take_part.ensures.handed ever (c.loop-part.invariant.handed ever h)
+
+pub returns-in-Some-clause-handed : goal.returns-in-Some-clause-handed
+returns-in-Some-clause-handed c = λ ever h. c.take_part.ensures.handed ever (c.loop-part.invariant.handed ever h)

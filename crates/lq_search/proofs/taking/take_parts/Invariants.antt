@@ -1,5 +1,5 @@
 use Rattle.std.proofs.Common.{◌≡◌, ◌++◌, ℕ, take}
-use Rattle.lq_case.specs.PathState.{facts_in, objects_in}
+use Rattle.lq_case.specs.PathState.{KeepsHanded, facts_in, objects_in}
 use Rattle.lq_equating.specs.Equating.{Grows}
 use Rattle.lq_equating.specs.Naming.{AllTold, name_in, objects_of}
 use Rattle.lq_path.specs.SearchPath.{SameLimits}
@@ -16,4 +16,5 @@ invariant-loop-part l = record {
       → AllTold (objects_of l.objects) (objects_in l.state) (facts_in (name_in (objects_of l.objects)) l.state);
   grows : (name : ℕ → Sum) → Grows (facts_in name l.fn.state) (facts_in name l.state);
   limits : SameLimits l.state l.fn.state;
+  handed : KeepsHanded l.fn.state l.state;
 }
