@@ -1,5 +1,5 @@
 -- What the pass holds in memory.
-use Rattle.std.specs.Prelude.{ℕ, Bool, true, false, List, Option, Some, None, map}
+use Rattle.std.specs.Prelude.{◌≡◌, ◌++◌, ◌≤◌, ℕ, Bool, true, false, List, Option, Some, None, map}
 use Rattle.lq_block.specs.AtomView.{atom_view}
 use Rattle.lq_block.specs.BlockView.{operation_view, lets_view}
 use Rattle.lq_block.specs.declared.atom.Atom.{Atom}
@@ -33,6 +33,12 @@ is_pure_normal (normal.Operation o) = false
 -- the bindings so far
 abbrev pub lets_of : Pass → List Let
 lets_of P = lets_view P.bindings.items
+
+-- the bindings of the first stand first in the second, which has made as many names or more
+pub record GoesOn (old new : Pass) : Type 0 where
+  pub more : List Let
+  pub lets : lets_of new ≡ lets_of old ++ more
+  pub next : old.next ≤ new.next
 
 abbrev pub shown : Normal → Shown
 shown n = record { last = last_view n; stands = does_stand n; pure = is_pure_normal n }

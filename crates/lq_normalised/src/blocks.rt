@@ -6,7 +6,7 @@ ghost use Rattle.lq_tree.specs.Tree.{tree, flag, if_else, build, more_trees, no_
 ghost use Rattle.lq_tree.specs.declared.expr.Arguments.TheVariants.{Apart};
 ghost use Rattle.lq_walk.specs.View.{two_view};
 ghost use Rattle.lq_normalised.specs.Forming.{operates_as, choice_of, literal};
-ghost use Rattle.lq_normalised.specs.Views.{shown, settled_as, row_of, under_view};
+ghost use Rattle.lq_normalised.specs.Views.{shown, settled_as, row_of, under_view, GoesOn};
 
 use crate::making::Pass;
 use crate::value::Normal;
@@ -107,13 +107,15 @@ fn cell_node(
 
 impl Pass {
     /// A list literal: from the last item on, each tail is bound.
+    #[tactic(auto, using(crate::specs::Going::going))]
     pub fn literal(
         &mut self,
         id: u32,
         place: Place,
         mut items: Vec<Atom>,
     ) -> Result<Operation, AllocError>
-        ensures { IfOk result (λ o. settled_as self.new o ≡ literal id place (row_of self.old items.items)) }
+        ensures literal { IfOk result (λ o. settled_as self.new o ≡ literal id place (row_of self.old items.items)) }
+        ensures goes_on { GoesOn self.old self.new }
     {
         let node = OperationNode::Build(Name::NIL, Arguments::Apart, Vec::new(self.alloc));
         let mut list = Operation { id, place, node };

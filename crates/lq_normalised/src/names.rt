@@ -1,10 +1,10 @@
 // Bindings to made names.
-ghost use Rattle.std.specs.Prelude.{◌≡◌, ◌+◌, [], ◌∷◌, ◌++◌, false, IfOk, OnOk};
+ghost use Rattle.std.specs.Prelude.{◌≡◌, ◌+◌, [], ◌∷◌, ◌++◌, false, IfOk, OnOk, OnErr};
 ghost use Rattle.lq_block.specs.BlockView.{local_view, operation_view};
 ghost use Rattle.lq_normal.specs.Flattening.{let_one};
 ghost use Rattle.lq_tree.specs.TreeView.{scoped_view};
 ghost use Rattle.lq_normalised.specs.Forming as formed;
-ghost use Rattle.lq_normalised.specs.Views.{became, became_atom, is_pure_normal, lets_of, settled_as, standing_as};
+ghost use Rattle.lq_normalised.specs.Views.{became, became_atom, is_pure_normal, lets_of, settled_as, standing_as, GoesOn};
 
 use crate::making::Pass;
 use crate::value::Normal;
@@ -18,7 +18,8 @@ impl Pass {
     pub fn make_name(&mut self) -> Result<Binder, AllocError>
         ensures name { IfOk result (λ x. x.0 ≡ self.old.next) }
         ensures next { OnOk result (self.new.next ≡ self.old.next + 1) }
-        ensures lets { OnOk result (lets_of self.new ≡ lets_of self.old) }
+        ensures lets { lets_of self.new ≡ lets_of self.old }
+        ensures kept { OnErr result (self.new.next ≡ self.old.next) }
     {
         let name = self.next;
         match name.checked_add(1) {
@@ -40,7 +41,8 @@ impl Pass {
     ) -> Result<(), AllocError>
         ensures lets { OnOk result (lets_of self.new
             ≡ lets_of self.old ++ let_one id place (local_view local) (operation_view value) ∷ []) }
-        ensures next { OnOk result (self.new.next ≡ self.old.next) }
+        ensures next { self.new.next ≡ self.old.next }
+        ensures kept { OnErr result (lets_of self.new ≡ lets_of self.old) }
     {
         self.bindings.push(Binding {
             id,
@@ -51,14 +53,16 @@ impl Pass {
     }
 
     /// An operation bound to the next made name, and that name.
+    #[tactic(auto, using(crate::specs::Going::going))]
     pub fn bind_made(
         &mut self,
         id: u32,
         place: Place,
         value: Operation,
     ) -> Result<Binder, AllocError>
-        ensures { IfOk result (λ x. standing_as self.new id place x
+        ensures bound { IfOk result (λ x. standing_as self.new id place x
             ≡ formed.named id place (settled_as self.old value)) }
+        ensures goes_on { GoesOn self.old self.new }
     {
         let binder = self.make_name()?;
         self.bind(id, place, Local { place, binder }, value)?;
@@ -66,9 +70,11 @@ impl Pass {
     }
 
     /// The same, and a use of that name.
+    #[tactic(auto, using(crate::specs::Going::going))]
     pub fn name(&mut self, id: u32, place: Place, value: Operation) -> Result<Atom, AllocError>
-        ensures { IfOk result (λ a. became_atom self.new a false
+        ensures named { IfOk result (λ a. became_atom self.new a false
             ≡ formed.named id place (settled_as self.old value)) }
+        ensures goes_on { GoesOn self.old self.new }
     {
         let binder = self.bind_made(id, place, value)?;
         Ok(Atom {
@@ -79,9 +85,11 @@ impl Pass {
     }
 
     /// What an operand became: what can't stand as one is bound.
+    #[tactic(auto, using(crate::specs::Going::going))]
     pub fn operand(&mut self, part: &Expr<Binder>, normal: Normal) -> Result<Atom, AllocError>
-        ensures { IfOk result (λ a. became_atom self.new a (is_pure_normal normal)
+        ensures stands { IfOk result (λ a. became_atom self.new a (is_pure_normal normal)
             ≡ formed.operand (scoped_view part.now) (became self.old normal)) }
+        ensures goes_on { GoesOn self.old self.new }
     {
         match normal {
             Normal::Atom(atom, _) => Ok(atom),

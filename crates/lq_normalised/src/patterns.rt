@@ -1,5 +1,5 @@
 // Patterns whose `_` are made names.
-ghost use Rattle.std.specs.Prelude.{◌≡◌, IfOk, OnOk};
+ghost use Rattle.std.specs.Prelude.{◌≡◌, ◌≤◌, IfOk, OnOk};
 ghost use Rattle.lq_name.specs.declared.name.Binder.{Binder};
 ghost use Rattle.lq_tree.specs.PatternView.{pat_view, pats_view};
 ghost use Rattle.lq_block.specs.BlockView.{local_view};
@@ -20,7 +20,8 @@ impl Pass {
     fn name_part(&mut self, pattern: &Pat<Binder>) -> Result<Pat<Binder>, AllocError>
         ensures named { IfOk result (λ q. named_as self.new q
             ≡ named_part self.old.next (pat_view Binder (λ b. b.0) pattern.now)) }
-        ensures lets { OnOk result (lets_of self.new ≡ lets_of self.old) }
+        ensures lets { lets_of self.new ≡ lets_of self.old }
+        ensures later { self.old.next ≤ self.new.next }
     {
         let node = match &pattern.node {
             PatNode::Any => PatNode::Bind(self.make_name()?),
@@ -41,7 +42,8 @@ impl Pass {
     fn name_parts(&mut self, parts: &Pats<Binder>) -> Result<Pats<Binder>, AllocError>
         ensures named { IfOk result (λ qs. parts_as self.new qs
             ≡ named_parts self.old.next (pats_view Binder (λ b. b.0) parts.now)) }
-        ensures lets { OnOk result (lets_of self.new ≡ lets_of self.old) }
+        ensures lets { lets_of self.new ≡ lets_of self.old }
+        ensures later { self.old.next ≤ self.new.next }
     {
         let mut named = Pats::new(self.alloc)?;
         for at in 0..parts.len() {
@@ -55,7 +57,8 @@ impl Pass {
     pub fn name_pattern(&mut self, pattern: &Pat<Binder>) -> Result<Pat<Binder>, AllocError>
         ensures named { IfOk result (λ q. named_as self.new q
             ≡ named_pattern self.old.next (pat_view Binder (λ b. b.0) pattern.now)) }
-        ensures lets { OnOk result (lets_of self.new ≡ lets_of self.old) }
+        ensures lets { lets_of self.new ≡ lets_of self.old }
+        ensures later { self.old.next ≤ self.new.next }
     {
         match &pattern.node {
             PatNode::Any => Ok(Pat {
@@ -77,7 +80,8 @@ impl Pass {
         ensures under { IfOk result (λ r. (b : Tree) → under_view r.0 r.1 b
             ≡ body_under self.old.next (pat_view Binder (λ b. b.0) pattern.now) b) }
         ensures matched { IfOk result (λ r. is_there r.1 ≡ is_matched (pat_view Binder (λ b. b.0) pattern.now)) }
-        ensures lets { OnOk result (lets_of self.new ≡ lets_of self.old) }
+        ensures lets { lets_of self.new ≡ lets_of self.old }
+        ensures later { self.old.next ≤ self.new.next }
     {
         let place = pattern.place;
         match &pattern.node {

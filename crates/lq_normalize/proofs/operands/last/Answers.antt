@@ -11,4 +11,4 @@ pub returns : goal.returns
 returns c =
     let P = c.operand.new.self in
     last_goes c.args.label.id c.args.label.place (three_view c.args.head) (atom [] 0 true (atom_view c.args.first)) (atom [] 0 true (atom_view c.args.middle)) (scoped_view c.args.part.now)
-    (became c.args.pass.now c.args.normal) (lets_of P) P.next (is_pure_normal c.args.normal) (atom_view c.in_ok-atom.atom) (shown c.in_ok-made.made) c.in_ok-atom.ensures c.in_ok-made.ensures
+    (became c.args.pass.now c.args.normal) (lets_of P) P.next (is_pure_normal c.args.normal) (atom_view c.in_ok-atom.atom) (shown c.in_ok-made.made) c.in_ok-atom.ensures.stands c.in_ok-made.ensures

@@ -11,4 +11,4 @@ returns c =
     let P = c.operand.new.self in
     one_goes c.args.label.id c.args.label.place (one_view c.args.head) (scoped_view c.args.part.now) (became c.args.pass.now c.args.normal) (lets_of P) P.next
     c.is_pure-pure.result (atom_view c.in_ok-atom.atom) (shown c.in_ok-made.made)
-    (ap (became_atom P c.in_ok-atom.atom) c.is_pure-pure.ensures ∙ c.in_ok-atom.ensures) c.in_ok-made.ensures
+    (ap (became_atom P c.in_ok-atom.atom) c.is_pure-pure.ensures ∙ c.in_ok-atom.ensures.stands) c.in_ok-made.ensures

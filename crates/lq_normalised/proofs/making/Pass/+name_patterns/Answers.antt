@@ -17,6 +17,7 @@ name_parts-loop-at-preserved t c =
           ∙ ap (λ l. in_front (map seen (pats_items Binder c.loop-at.named)) (named_parts c.loop-at.self.next (patterns_of (map seen l)))) (sym (one_less row c.loop-at.at x (sym c.in-Some.ensures)))
           ∙ c.loop-at.invariant.0,
       c.in_ok-name_part.ensures.lets ∙ c.loop-at.invariant.1,
+      (let a = c.name_part.ensures.later in let b = c.loop-at.invariant.2 in omega arith),
     )
 
 pub name_parts-returns-clause-named : goal.name_parts-returns-clause-named

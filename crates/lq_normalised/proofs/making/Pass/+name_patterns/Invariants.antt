@@ -1,4 +1,4 @@
-use Rattle.std.proofs.Common.{◌≡◌, map, drop}
+use Rattle.std.proofs.Common.{◌≡◌, ◌≤◌, map, drop}
 use Rattle.lq_name.specs.declared.name.Binder.{Binder}
 use Rattle.lq_tree.specs.PatternView.{pat_view, pats_items, patterns_of}
 use Rattle.lq_normal.specs.Naming.{named_parts}
@@ -12,3 +12,4 @@ invariant-name_parts-loop-at l =
     (in_front (map (pat_view Binder (λ b. b.0)) (pats_items Binder l.named)) (named_parts l.self.next (patterns_of (map (pat_view Binder (λ b. b.0)) (drop l.at (pats_items Binder l.parts)))))
     ≡ named_parts l.initial.self.next (patterns_of (map (pat_view Binder (λ b. b.0)) (pats_items Binder l.parts))))
     × (lets_of l.self ≡ lets_of l.initial.self)
+    × (l.initial.self.next ≤ l.self.next)

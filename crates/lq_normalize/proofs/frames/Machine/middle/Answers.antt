@@ -14,7 +14,7 @@ returns-clause-whole c =
     c.in_ok-next.ensures.whole
     ∙ ap (plugged c.args.self.now.frames.items)
     (middle_goes c.args.label.id c.args.label.place (three_view c.args.head) (atom [] 0 true (atom_view c.args.first)) (scoped_view c.args.part.now) (scoped_view c.args.last.now)
-    (became c.args.self.now.pass c.args.normal) (lets_of P) P.next (is_pure_normal c.args.normal) (atom_view c.in_ok-middle.middle) c.in_ok-middle.ensures)
+    (became c.args.self.now.pass c.args.normal) (lets_of P) P.next (is_pure_normal c.args.normal) (atom_view c.in_ok-middle.middle) c.in_ok-middle.ensures.stands)
 
 pub returns-clause-work : goal.returns-clause-work
 returns-clause-work c = omega (arith, c.in_ok-next.ensures.work)
