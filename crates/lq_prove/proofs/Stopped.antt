@@ -1,8 +1,10 @@
 -- The stops of a search are those of the implication.
-use Rattle.std.proofs.Common.{◌≡◌, inl, inr, ℕ, zero, suc, ◌+◌, ◌<◌, ◌≤◌, List, [], ◌∷◌, ◌++◌, All, true, false, Some, Result, Ok, Err, IfErr, get_or, length, map, slice_get, refl, sym, ap, subst, arith}
+use Rattle.std.proofs.Common.{◌≡◌, ◌∙◌, ◌⊎◌, inl, inr, ℕ, zero, suc, ◌+◌, ◌<◌, ◌≤◌, List, [], ◌∷◌, ◌++◌, All, true, false, Some, Result, Ok, Err, IfErr, get_or, length, map, slice_get, refl, sym, ap, subst, arith}
 use Rattle.std.proofs.lemmas.List.Elements.{All-head, All-tail, All-weaker, Contains-append_left, Contains-append_right}
 use Rattle.lq_case.specs.PathState.{HasStops}
 use Rattle.lq_case.specs.RowState.{AreDifferences}
+use Rattle.lq_case.specs.Stored.{StopsInTableau}
+use Rattle.lq_case.proofs.Handing.{may_stop_as}
 use Rattle.lq_combine.specs.Path.{AreReadings, Fact, nothing, taken}
 use Rattle.lq_combine.specs.Proves.{AreRowsOf, five_ways, rows_among}
 use Rattle.lq_linear.specs.Contradiction.{Tagged}
@@ -34,7 +36,7 @@ use Rattle.lq_search.proofs.PairSizes.{condition_of, sizes-append}
 use Rattle.lq_search.proofs.Stops.{choice_has, fact_has}
 use Rattle.lq_prove.specs.Openings.{IsOpeningReading}
 use Rattle.lq_prove.specs.Stopping as stopping
-use Rattle.lq_prove.specs.Stopping.{AreItsFacts, IsDifferenceImplication, IsItsRow, IsPointStop, IsRowIn, IsSmallDifference, IsStopOf, StopsOnFacts, StopsProving, StopsSmall}
+use Rattle.lq_prove.specs.Stopping.{AreItsFacts, IsDifferenceImplication, IsItsRow, IsPointStop, IsRowIn, IsSmallDifference, IsSpentOn, IsStopOf, StopsOnFacts, StopsProving, StopsSmall}
 use Rattle.lq_prove.proofs.Literals.{gathered_most, gathered_row, pair_among, row_in_more, under_sign}
 
 -- ---- the sizes of the opening reading
@@ -168,32 +170,6 @@ its_facts i preds reading pairs n facts b le h = record {
   sizes = let w = h.sizes in let o = opening_most (terms_in i) i reading b.opening in omega (arith, w, o, le);
 }
 
--- ---- stops
-
-pub search_stops : (limit : ℕ) (i : ClosedImplication) (preds : List Pred) (reading : Reading Row) (pairs : List Pair) (n : ℕ) (linear_stop : LinearStop) (stop : Stop) → CanBeGathered i
-    → Begins i preds reading pairs → n ≤ sizes (all_pairs (terms_in i)) → IsStopOf linear_stop stop
-    → StopsSearch limit (taken nothing reading) (ways_of pairs) (n + most row_size reading) linear_stop → StopsProving limit i stop
-search_stops limit i preds reading pairs n (linear.Number e) (Number f) g b le is h =
-    (g, inl (record { facts = h.facts; are = its_facts i preds reading pairs n h.facts b le h.reached; stops = subst (λ x. HasStops limit h.facts (linear.Number x)) is h.stops }))
-search_stops limit i preds reading pairs n (linear.Pivots k) (Pivots l) g b le is h =
-    (g, record { facts = h.facts; are = its_facts i preds reading pairs n h.facts b le h.reached; stops = subst (λ x. HasStops limit h.facts (linear.Pivots x)) is h.stops })
-search_stops limit i preds reading pairs n linear.Memory Memory g b le is h = tt
-search_stops limit i preds reading pairs n (linear.Number e) (Gather p) g b le is h = absurd is
-search_stops limit i preds reading pairs n (linear.Number e) (Pivots k) g b le is h = absurd is
-search_stops limit i preds reading pairs n (linear.Number e) Memory g b le is h = absurd is
-search_stops limit i preds reading pairs n (linear.Pivots k) (Number f) g b le is h = absurd is
-search_stops limit i preds reading pairs n (linear.Pivots k) (Gather p) g b le is h = absurd is
-search_stops limit i preds reading pairs n (linear.Pivots k) Memory g b le is h = absurd is
-search_stops limit i preds reading pairs n linear.Memory (Number f) g b le is h = absurd is
-search_stops limit i preds reading pairs n linear.Memory (Gather p) g b le is h = absurd is
-search_stops limit i preds reading pairs n linear.Memory (Pivots l) g b le is h = absurd is
-
-pub point_stops : (limit : ℕ) (i : ClosedImplication) (stop : Stop) → CanBeGathered i → IsPointStop i stop → StopsProving limit i stop
-point_stops limit i (Number e) g h = (g, inr h)
-point_stops limit i (Gather p) g h = absurd h
-point_stops limit i (Pivots k) g h = absurd h
-point_stops limit i Memory g h = tt
-
 -- ---- difference implications
 
 its_difference : (i : ClosedImplication) → IsDifferenceImplication i → (r : Row) → IsItsRow i r → IsDifference r.parts
@@ -205,6 +181,65 @@ differences i d [] a = tt
 differences i d (r ∷ rows) a =
     (its_difference i d r.1 (All-head (λ (x : ℕ × Row). IsItsRow i x.1) r rows a), differences i d rows (All-tail (λ (x : ℕ × Row). IsItsRow i x.1) r rows a))
 
+-- ---- stops
+
+-- a tableau that was handed rows of the implication alone spent its pivots
+spent_on : (limit : ℕ) (i : ClosedImplication) (facts : List Fact) (k l : ℕ) → AreItsFacts i facts → HasStops (length (terms_in i)) limit [] (IsItsRow i) facts (linear.Pivots k) → k ≡ l
+    → (IsDifferenceImplication i → ⊥) × (l ≡ limit) × IsSpentOn limit i
+spent_on limit i facts k l are h is = by h.any
+  where
+    by : ⊥ ⊎ StopsInTableau (length (terms_in i)) limit [] (IsItsRow i) (linear.Pivots k) → (IsDifferenceImplication i → ⊥) × (l ≡ limit) × IsSpentOn limit i
+    by (inl e) = absurd e
+    by (inr s) = (
+      λ d. h.differences (differences i d (rows_among facts) are.each),
+      sym is ∙ s.stops.0,
+      record { ever = s.more; each = s.each; standing = s.standing; each_stands = s.each_stands; spent = s.stops.1 },
+    )
+
+its_stops : (limit : ℕ) (i : ClosedImplication) (preds : List Pred) (reading : Reading Row) (pairs : List Pair) (facts : List Fact) (stop : LinearStop) → Begins i preds reading pairs
+    → HasStops (length (terms_in i)) limit [] (MayTake (taken nothing reading) (ways_of pairs)) facts stop → HasStops (length (terms_in i)) limit [] (IsItsRow i) facts stop
+its_stops limit i preds reading pairs facts stop b h =
+    may_stop_as (MayTake (taken nothing reading) (ways_of pairs)) (IsItsRow i) (length (terms_in i)) limit [] (rows_among facts) stop (its_row i preds reading pairs b) h
+
+stops_of : (limit : ℕ) (i : ClosedImplication) (preds : List Pred) (reading : Reading Row) (pairs : List Pair) (n : ℕ) (linear_stop : LinearStop) (stop : Stop) → CanBeGathered i
+    → Begins i preds reading pairs → n ≤ sizes (all_pairs (terms_in i)) → IsStopOf linear_stop stop
+    → StopsSearch (length (terms_in i)) limit [] (taken nothing reading) (ways_of pairs) (n + most row_size reading) linear_stop → StopsProving limit i stop
+stops_of limit i preds reading pairs n (linear.Number e) (Number f) g b le is h = (
+  g,
+  inl (record {
+    facts = h.facts;
+    are = its_facts i preds reading pairs n h.facts b le h.reached;
+    stops = subst (λ x. HasStops (length (terms_in i)) limit [] (IsItsRow i) h.facts (linear.Number x)) is (its_stops limit i preds reading pairs h.facts (linear.Number e) b h.stops);
+  }),
+)
+stops_of limit i preds reading pairs n (linear.Pivots k) (Pivots l) g b le is h =
+    let s = spent_on limit i h.facts k l (its_facts i preds reading pairs n h.facts b le h.reached) (its_stops limit i preds reading pairs h.facts (linear.Pivots k) b h.stops) is in
+    (g, s.0, s.1, s.2)
+stops_of limit i preds reading pairs n linear.Memory Memory g b le is h = tt
+stops_of limit i preds reading pairs n (linear.Number e) (Gather p) g b le is h = absurd is
+stops_of limit i preds reading pairs n (linear.Number e) (Pivots k) g b le is h = absurd is
+stops_of limit i preds reading pairs n (linear.Number e) Memory g b le is h = absurd is
+stops_of limit i preds reading pairs n (linear.Pivots k) (Number f) g b le is h = absurd is
+stops_of limit i preds reading pairs n (linear.Pivots k) (Gather p) g b le is h = absurd is
+stops_of limit i preds reading pairs n (linear.Pivots k) Memory g b le is h = absurd is
+stops_of limit i preds reading pairs n linear.Memory (Number f) g b le is h = absurd is
+stops_of limit i preds reading pairs n linear.Memory (Gather p) g b le is h = absurd is
+stops_of limit i preds reading pairs n linear.Memory (Pivots l) g b le is h = absurd is
+
+pub search_stops : (terms limit : ℕ) (i : ClosedImplication) (preds : List Pred) (reading : Reading Row) (pairs : List Pair) (n : ℕ) (linear_stop : LinearStop) (stop : Stop)
+    → terms ≡ length (terms_in i) → CanBeGathered i → Begins i preds reading pairs → n ≤ sizes (all_pairs (terms_in i)) → IsStopOf linear_stop stop
+    → StopsSearch terms limit [] (taken nothing reading) (ways_of pairs) (n + most row_size reading) linear_stop → StopsProving limit i stop
+search_stops terms limit i preds reading pairs n linear_stop stop same g b le is h =
+    stops_of limit i preds reading pairs n linear_stop stop g b le is (subst (λ k. StopsSearch k limit [] (taken nothing reading) (ways_of pairs) (n + most row_size reading) linear_stop) same h)
+
+pub point_stops : (limit : ℕ) (i : ClosedImplication) (stop : Stop) → CanBeGathered i → IsPointStop i stop → StopsProving limit i stop
+point_stops limit i (Number e) g h = (g, inr h)
+point_stops limit i (Gather p) g h = absurd h
+point_stops limit i (Pivots k) g h = absurd h
+point_stops limit i Memory g h = tt
+
+-- ---- small difference implications
+
 none_by_number : (limit : ℕ) (i : ClosedImplication) (e : NumberPast) → IsSmallDifference i → StopsOnFacts limit i (linear.Number e) → ⊥
 none_by_number limit i e s h =
     let by = h.stops.differences (differences i s.difference (rows_among h.facts) h.are.each) in
@@ -214,7 +249,7 @@ pub small_stops : (limit : ℕ) (i : ClosedImplication) (stop : Stop) → StopsP
 small_stops limit i (Number e) (g, inl h) s = absurd (none_by_number limit i e s h)
 small_stops limit i (Number e) (g, inr h) s = let large = h.large s.difference in let l = s.small in omega (arith, large, l)
 small_stops limit i (Gather p) h s = tt
-small_stops limit i (Pivots k) h s = h.1.stops.differences (differences i s.difference (rows_among h.1.facts) h.1.are.each)
+small_stops limit i (Pivots k) h s = h.1 s.difference
 small_stops limit i Memory h s = tt
 
 pub if_small : {X : Type 0} (limit : ℕ) (i : ClosedImplication) (r : Result X Stop) → IfErr r (StopsProving limit i) → IfErr r (λ stop. IsSmallDifference i → StopsSmall stop)

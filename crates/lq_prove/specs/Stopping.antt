@@ -1,10 +1,11 @@
 -- When `valid` stops.
-use Rattle.std.specs.Prelude.{◌≡◌, ◌⊎◌, ◌≤◌, ◌<◌, ℕ, List, All, Contains}
+use Rattle.std.specs.Prelude.{◌≡◌, ◌⊎◌, ◌≤◌, ◌<◌, ℕ, List, [], All, Contains, length}
 use Rattle.lq_case.specs.PathState.{HasStops}
 use Rattle.lq_combine.specs.Path.{Fact}
 use Rattle.lq_combine.specs.Proves.{rows_among}
 use Rattle.lq_diff.specs.Table.{constants}
 use Rattle.lq_equating.specs.Equating.{equation}
+use Rattle.lq_linear.specs.Contradiction.{Tagged}
 use Rattle.lq_linear.specs.Difference.{IsDifference}
 use Rattle.lq_linear.specs.Row.{Row}
 use Rattle.lq_linear.specs.declared.engine.LinearStop.{LinearStop}
@@ -25,6 +26,7 @@ use Rattle.lq_pred.specs.Sum.{Sum}
 use Rattle.lq_pred.specs.declared.pred.Stop.{Stop}
 use Rattle.lq_pred.specs.declared.pred.Stop.TheVariants.{Number, Gather, Pivots, Memory}
 use Rattle.lq_prove.specs.Answers.{IsCounterexample}
+use Rattle.lq_simplex.specs.Table.{IsSpent}
 
 -- ---- difference implications
 
@@ -55,11 +57,19 @@ pub record AreItsFacts (i : ClosedImplication) (facts : List Fact) : Type 0 wher
   pub each : All (λ r. IsItsRow i r.1) (rows_among facts)
   pub sizes : constants (rows_among facts) ≤ sizes_of i
 
--- a stop of an engine on such facts, with this limit on pivots
+-- a stop of an engine on such facts, with this limit on pivots; a tableau was ever handed rows of the implication alone
 pub record StopsOnFacts (limit : ℕ) (i : ClosedImplication) (stop : LinearStop) : Type 0 where
   pub facts : List Fact
   pub are : AreItsFacts i facts
-  pub stops : HasStops limit facts stop
+  pub stops : HasStops (length (terms_in i)) limit [] (IsItsRow i) facts stop
+
+-- a chain of as many pivots as the limit: of the variables of rows of the implication, over its terms, under rows of it that stand
+pub record IsSpentOn (limit : ℕ) (i : ClosedImplication) : Type 0 where
+  pub ever : List Row
+  pub each : All (IsItsRow i) ever
+  pub standing : Tagged
+  pub each_stands : All (λ r. IsItsRow i r.1) standing
+  pub spent : IsSpent (length (terms_in i)) limit standing ever
 
 -- ---- stops of an evaluation
 
@@ -81,12 +91,12 @@ IsPointStop i Memory = Unit {0}
 
 -- ---- all stops
 
--- The first predicate with a literal that can't be gathered, exactly where there is one. Else a stop of an engine on the implication's
--- rows, with this limit on pivots, or an evaluation's.
+-- The first predicate with a literal that can't be gathered, exactly where there is one. Else a number of an engine on the implication's
+-- rows, or an evaluation's; or the limit on pivots, where a literal is no difference row and a chain of pivots spends it.
 abbrev pub StopsProving : ℕ → ClosedImplication → Stop → Type 0
 StopsProving limit i (Gather p) = IsFirstPast (sources_of i) (formula_of p)
 StopsProving limit i (Number e) = CanBeGathered i × (StopsOnFacts limit i (linear.Number e) ⊎ IsPastAtPoint i e)
-StopsProving limit i (Pivots k) = CanBeGathered i × StopsOnFacts limit i (linear.Pivots k)
+StopsProving limit i (Pivots k) = CanBeGathered i × (IsDifferenceImplication i → ⊥) × (k ≡ limit) × IsSpentOn limit i
 StopsProving limit i Memory = Unit {0}
 
 -- a stop of an engine is that of a proof

@@ -1,6 +1,6 @@
 // Proving an implication, or finding a point at which it fails.
 ghost use Rattle.std.specs.Prelude.{◌≡◌, ◌≤◌, IfErr, IfOk, IsTrue, OnOk, [], ℕ, length};
-ghost use Rattle.lq_case.specs.PathState.{facts_in};
+ghost use Rattle.lq_case.specs.PathState.{HasHanded, facts_in};
 ghost use Rattle.lq_case.specs.RowState.{terms_of as row_terms};
 ghost use Rattle.lq_combine.specs.Path.{nothing};
 ghost use Rattle.lq_combine.specs.TreeView.{tree_view};
@@ -51,6 +51,7 @@ fn state_of(alloc: Global, givens: &Givens<'_>, limit: u64) -> Result<PathState,
     ensures terms { IfOk result (λ s. row_terms s.rows ≡ length (scope_of givens.now).terms) }
     ensures count { IfOk result (λ s. s.objects.count ≡ length (scope_of givens.now).objects) }
     ensures limit { IfOk result (λ s. s.rows.pivots ≡ limit) }
+    ensures handed { IfOk result (λ s. HasHanded s []) }
 {
     let Ok(count) = u32::try_from(givens.objects.len()) else {
         return Err(AllocError);
@@ -74,6 +75,7 @@ fn prove_path<'a>(
     requires all { AreAllPairs (scope_of givens.now).terms givens.now.pairs.now }
     requires ready { IsReadyFor (nnf_view reading.now) (scope_of givens.now) givens.now.pairs.now path.old }
     requires nothing { path_of (scope_of givens.now) path.old ≡ nothing }
+    requires handed { HasHanded path.old.state [] }
     requires ordered { AreOrdered givens.now.pairs.now }
     requires sizes { most_on (scope_of givens.now) path.old ≤ sizes (pair_literals (scope_of givens.now).terms) }
     ensures tree { IfOk result (λ answer. IfValid answer (λ t. ProvesImplication (implication_of implication.now)

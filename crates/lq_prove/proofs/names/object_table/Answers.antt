@@ -29,7 +29,7 @@ loop-at-preserved c =
     let old = objects_of c.loop-at.objects in
     let new = objects_of c.add.new.self in
     let x = sum_of c.named_at.result.now in
-    let n = keeps_new old new x c.in_ok-add.ensures in
+    let n = keeps_new old new x c.in_ok-add.ensures.added in
     record {
       arguments = λ k t e. argument_keeps old new t n.0 (c.loop-at.invariant.arguments k t e);
       named = λ k a l e. named_next (map sum_of c.args.named.now.keys) old new c.loop-at.at k a x n.0 n.1 c.named_at.ensures c.loop-at.invariant.named (fewer k c.loop-at.at (omega (arith, l))) e;

@@ -1,5 +1,5 @@
-use Rattle.std.proofs.Common.{◌∙◌, IfErr, ap, arith, subst}
-use Rattle.lq_case.specs.PathState.{PathState, facts_in}
+use Rattle.std.proofs.Common.{◌∙◌, [], IfErr, ap, arith, subst, sym}
+use Rattle.lq_case.specs.PathState.{HasHanded, PathState, facts_in}
 use Rattle.lq_pred.specs.NnfView.{nnf_view}
 use Rattle.lq_pred.specs.PredView.{implication_of}
 use Rattle.lq_search.specs.SearchPath.{scope_of}
@@ -56,3 +56,6 @@ pub returns-clause-stop : goal.returns-clause-stop
 returns-clause-stop c =
     let limit = ap (λ (x : PathState). x.rows.pivots) c.in-Ok-new.ensures.state ∙ c.in-Ok.ensures.limit in
     subst (λ n. IfErr c.prove_path.result (StopsProving n (implication_of c.args.implication.now))) limit c.prove_path.ensures.stop
+
+pub prove_path-requires-clause-handed : goal.prove_path-requires-clause-handed
+prove_path-requires-clause-handed c = subst (λ (x : PathState). HasHanded x []) (sym c.in-Ok-new.ensures.state) c.in-Ok.ensures.handed

@@ -1,4 +1,5 @@
-use Rattle.std.proofs.Common.{◌+◌, ◌≤◌, refl, subst}
+use Rattle.std.proofs.Common.{◌∙◌, [], ◌+◌, ◌≤◌, ap, length, refl, subst}
+use Rattle.lq_case.specs.RowState.{terms_of as row_terms}
 use Rattle.lq_combine.specs.Path.{taken}
 use Rattle.lq_combine.specs.Proves.{Proves}
 use Rattle.lq_combine.specs.TreeView.{tree_view}
@@ -51,6 +52,7 @@ returns-in-Err-clause-stop c =
     let n = most_on s c.args.path.now in
     let preds = pred_items c.args.implication.now.hypotheses in
     let le = subst (λ ts. n ≤ sizes (all_pairs ts)) c.requires.terms c.requires.sizes in
-    search_stops limit i preds r pairs n c.in-Err.stop c.stop_of.result c.requires.gathers
+    let terms = row_terms c.args.path.now.state.rows in
+    search_stops terms limit i preds r pairs n c.in-Err.stop c.stop_of.result (c.requires.ready.terms_are ∙ ap length c.requires.terms) c.requires.gathers
     (begins s.terms i preds r pairs c.requires.terms refl c.requires.opening c.requires.given.each c.requires.ordered) le c.stop_of.ensures
-    (subst (λ p. StopsSearch limit (taken p r) (ways_of pairs) (n + most row_size r) c.in-Err.stop) c.requires.nothing c.in-Err.ensures.stop)
+    (subst (λ p. StopsSearch terms limit [] (taken p r) (ways_of pairs) (n + most row_size r) c.in-Err.stop) c.requires.nothing (c.in-Err.ensures.stop [] c.requires.handed))
