@@ -1,20 +1,44 @@
 -- The stop of an engine is one of deciding.
-use Rattle.std.proofs.Common.{ℕ, inl, subst}
-use Rattle.lq_case.specs.RowState.{MayStop}
+use Rattle.std.proofs.Common.{◌≡◌, ◌∙◌, ◌⊎◌, ℕ, List, [], Some, inl, inr, length, slice_get, subst, sym}
+use Rattle.lq_case.specs.RowState.{AreDifferences}
+use Rattle.lq_case.specs.Stored.{Stands, StopsInTableau}
+use Rattle.lq_case.proofs.Handing.{of_standing}
+use Rattle.lq_combine.specs.Path.{Fact, row_fact}
 use Rattle.lq_combine.specs.Proves.{rows_among}
+use Rattle.lq_equating.specs.Equating.{AddsEquations}
+use Rattle.lq_equating.proofs.Equations.{added_rows}
+use Rattle.lq_linear.specs.Row.{Row}
 use Rattle.lq_linear.specs.declared.engine.LinearStop.{LinearStop}
 use Rattle.lq_linear.specs.declared.engine.LinearStop.TheVariants as linear
 use Rattle.lq_pred.specs.declared.pred.Stop.{Stop}
 use Rattle.lq_pred.specs.declared.pred.Stop.TheVariants.{Number, Gather, Pivots, Memory}
 use Rattle.lq_decide.specs.Case.{Case}
-use Rattle.lq_decide.specs.Stopping.{IsStopOf, StopsDeciding}
+use Rattle.lq_decide.specs.Stopping.{IsItsRow, IsSpentOn, IsStopOf, StopsDeciding, StopsOnRows, of_equation, of_fact}
 
-pub stops : (limit : ℕ) (c : Case) (e : LinearStop) (s : Stop) → MayStop limit (rows_among c.facts) e → IsStopOf e s → StopsDeciding limit c s
-stops limit c (linear.Number e) (Number f) m i = inl (subst (λ x. MayStop limit (rows_among c.facts) (linear.Number x)) i m)
+-- a tableau that was handed rows of the case alone spent its pivots
+spent_on : (limit : ℕ) (c : Case) (k l : ℕ) → StopsOnRows limit c (linear.Pivots k) → k ≡ l → (AreDifferences (rows_among c.facts) → ⊥) × (l ≡ limit) × IsSpentOn limit c
+spent_on limit c k l m i = by m.any
+  where
+    by : ⊥ ⊎ StopsInTableau (length c.terms) limit [] (IsItsRow c) (linear.Pivots k) → (AreDifferences (rows_among c.facts) → ⊥) × (l ≡ limit) × IsSpentOn limit c
+    by (inl h) = absurd h
+    by (inr s) = (
+      m.differences,
+      sym i ∙ s.stops.0,
+      record { ever = s.more; each = s.each; standing = s.standing; each_stands = s.each_stands; spent = s.stops.1 },
+    )
+
+-- the rows of the case and equations after them
+pub added_row : (c : Case) (before after : List Fact) → before ≡ c.facts → AddsEquations before after → (r : Row) → Stands (rows_among after) r → IsItsRow c r
+added_row c before after e a =
+    of_standing (IsItsRow c) (rows_among after)
+    (added_rows (IsItsRow c) before after a (λ k r at. of_fact k (subst (λ l. slice_get l k ≡ Some (row_fact r)) e at)) (λ terms r is. of_equation terms is))
+
+pub stops : (limit : ℕ) (c : Case) (e : LinearStop) (s : Stop) → StopsOnRows limit c e → IsStopOf e s → StopsDeciding limit c s
+stops limit c (linear.Number e) (Number f) m i = inl (subst (λ x. StopsOnRows limit c (linear.Number x)) i m)
 stops limit c (linear.Number e) (Gather p) m i = absurd i
 stops limit c (linear.Number e) (Pivots l) m i = absurd i
 stops limit c (linear.Number e) Memory m i = absurd i
-stops limit c (linear.Pivots k) (Pivots l) m i = subst (λ x. MayStop limit (rows_among c.facts) (linear.Pivots x)) i m
+stops limit c (linear.Pivots k) (Pivots l) m i = spent_on limit c k l m i
 stops limit c (linear.Pivots k) (Number f) m i = absurd i
 stops limit c (linear.Pivots k) (Gather p) m i = absurd i
 stops limit c (linear.Pivots k) Memory m i = absurd i

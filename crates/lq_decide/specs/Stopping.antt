@@ -1,9 +1,12 @@
 -- When deciding a case may stop.
-use Rattle.std.specs.Prelude.{◌≡◌, ◌⊎◌, ℕ, List}
-use Rattle.lq_case.specs.RowState.{MayStop}
+use Rattle.std.specs.Prelude.{◌≡◌, ◌⊎◌, ℕ, List, [], All, Some, length, slice_get}
+use Rattle.lq_case.specs.RowState.{AreDifferences, MayStop}
+use Rattle.lq_combine.specs.Path.{row_fact}
 use Rattle.lq_combine.specs.Proves.{rows_among}
 use Rattle.lq_decide.specs.Case.{Case}
-use Rattle.lq_linear.specs.Contradiction.{Solves}
+use Rattle.lq_equating.specs.Equating.{equation}
+use Rattle.lq_linear.specs.Contradiction.{Solves, Tagged}
+use Rattle.lq_linear.specs.Row.{Row}
 use Rattle.lq_linear.specs.Steps.{valuation_of}
 use Rattle.lq_linear.specs.declared.engine.LinearStop.{LinearStop}
 use Rattle.lq_linear.specs.declared.engine.LinearStop.TheVariants as linear
@@ -14,6 +17,28 @@ use Rattle.lq_point.specs.Evaluation.{IsStepOf}
 use Rattle.lq_pred.specs.Literals.{implication_literals}
 use Rattle.lq_pred.specs.declared.pred.Stop.{Stop}
 use Rattle.lq_pred.specs.declared.pred.Stop.TheVariants.{Number, Gather, Pivots, Memory}
+use Rattle.lq_simplex.specs.Table.{IsSpent}
+
+-- ---- stops of an engine
+
+-- a row of the case: one of its facts, or that two terms are equal, by their numbers
+pub data IsItsRow (c : Case) (r : Row) : Type 0 where
+  of_fact : (k : ℕ) → slice_get c.facts k ≡ Some (row_fact r) → IsItsRow c r
+  of_equation : (terms : ℕ × ℕ) → r ≡ equation terms → IsItsRow c r
+
+-- a stop of an engine on the rows of the case, with this limit on pivots; a tableau was ever handed these alone
+abbrev pub StopsOnRows : ℕ → Case → LinearStop → Type 0
+StopsOnRows limit c stop = MayStop (length c.terms) limit [] (IsItsRow c) (rows_among c.facts) stop
+
+-- a chain of as many pivots as the limit: of the variables of rows of the case, over its terms, under rows of it that stand
+pub record IsSpentOn (limit : ℕ) (c : Case) : Type 0 where
+  pub ever : List Row
+  pub each : All (IsItsRow c) ever
+  pub standing : Tagged
+  pub each_stands : All (λ r. IsItsRow c r.1) standing
+  pub spent : IsSpent (length c.terms) limit standing ever
+
+-- ---- all stops
 
 -- an operation without a form of 128 bits, by which a literal of the implication is evaluated at numbers that solve the rows of the case
 pub record IsPastAtPoint (c : Case) (e : NumberPast) : Type 0 where
@@ -22,12 +47,12 @@ pub record IsPastAtPoint (c : Case) (e : NumberPast) : Type 0 where
   pub solve : Solves (valuation_of numbers) (rows_among c.facts)
   pub step : IsStepOf (implication_literals c.implication) c.terms numbers e
 
--- A stop of an engine on the rows of the case, with this limit on pivots, or of an evaluation at the values that it found. That a literal
--- can't be gathered is none.
+-- A number of an engine on the rows of the case, or of an evaluation at the values that it found; or the limit on pivots, where a row is no
+-- difference row and a chain of pivots spends it. That a literal can't be gathered is none.
 abbrev pub StopsDeciding : ℕ → Case → Stop → Type 0
-StopsDeciding limit c (Number e) = MayStop limit (rows_among c.facts) (linear.Number e) ⊎ IsPastAtPoint c e
+StopsDeciding limit c (Number e) = StopsOnRows limit c (linear.Number e) ⊎ IsPastAtPoint c e
 StopsDeciding limit c (Gather p) = ⊥
-StopsDeciding limit c (Pivots k) = MayStop limit (rows_among c.facts) (linear.Pivots k)
+StopsDeciding limit c (Pivots k) = (AreDifferences (rows_among c.facts) → ⊥) × (k ≡ limit) × IsSpentOn limit c
 StopsDeciding limit c Memory = Unit {0}
 
 -- a stop of an engine is that of a case

@@ -1,8 +1,8 @@
 // A case without a point has a proof tree.
 ghost use Rattle.std.specs.Prelude.{◌≡◌, [], IfErr, IfOk, IfNone, IfSome, length};
-ghost use Rattle.lq_case.specs.PathState.{facts_in};
-ghost use Rattle.lq_case.specs.RowState.{MayStop, terms_of as row_terms};
-ghost use Rattle.lq_combine.specs.Proves.{Proves, rows_among};
+ghost use Rattle.lq_case.specs.PathState.{HasHanded, facts_in};
+ghost use Rattle.lq_case.specs.RowState.{terms_of as row_terms};
+ghost use Rattle.lq_combine.specs.Proves.{Proves};
 ghost use Rattle.lq_combine.specs.Tree.{leaf};
 ghost use Rattle.lq_combine.specs.TreeView.{clash_of, tree_view};
 ghost use Rattle.lq_decide.specs.Case.{path_of};
@@ -11,6 +11,7 @@ ghost use Rattle.lq_decide.specs.Deciding.{IsChainOfEquals};
 ghost use Rattle.lq_equating.specs.Equating.{around, numbering_by};
 ghost use Rattle.lq_equating.specs.Naming.{AllBelow, HasAllArguments, HasAllSides, name_in, objects_of};
 ghost use Rattle.lq_decide.specs.Settled.{IsSettled};
+ghost use Rattle.lq_decide.specs.Stopping.{StopsOnRows};
 ghost use Rattle.lq_linear.specs.declared.engine.LinearStop.TheVariants.{Memory};
 
 use crate::literals::Literals;
@@ -40,6 +41,7 @@ pub(crate) fn refute(
     state: &mut PathState,
 ) -> Result<Option<ProofTree>, LinearStop>
     requires empty { facts_in (name_in (objects_of objects.now)) state.old ≡ [] }
+    requires handed { HasHanded state.old [] }
     requires sides { HasAllSides (objects_of objects.now) (case_of literals.now).facts }
     requires arguments { HasAllArguments (objects_of objects.now) (case_of literals.now).terms }
     requires below { AllBelow (row_terms state.old.rows) (case_of literals.now).facts }
@@ -51,7 +53,7 @@ pub(crate) fn refute(
     ensures settled { IfOk result (λ found. IfNone found (IsSettled (objects_of objects.now)
         (case_of literals.now) state.new)) }
     ensures count { state.new.objects.count ≡ state.old.objects.count }
-    ensures stop { IfErr result (MayStop state.old.rows.pivots (rows_among (case_of literals.now).facts)) }
+    ensures stop { IfErr result (StopsOnRows state.old.rows.pivots (case_of literals.now)) }
 {
     let table = literals.table();
     let _terms = table.len();

@@ -1,6 +1,6 @@
 // The literals of a case are taken as facts of a path.
 ghost use Rattle.std.specs.Prelude.{◌≡◌, [], ◌∷◌, ◌++◌, IfErr, IfOk, IfNone, IfSome, OnOk, length, map};
-ghost use Rattle.lq_case.specs.PathState.{facts_in, objects_in};
+ghost use Rattle.lq_case.specs.PathState.{KeepsHanded, facts_in, objects_in};
 ghost use Rattle.lq_case.specs.RowState.{terms_of};
 ghost use Rattle.lq_combine.specs.Proves.{Clashes, rows_among};
 ghost use Rattle.lq_combine.specs.TreeView.{clash_of};
@@ -42,6 +42,7 @@ fn take_fact(
     ensures more { OnOk result (SaysMore (objects_in state.old) (objects_in state.new)) }
     ensures limits { (terms_of state.new.rows ≡ terms_of state.old.rows)
         × (state.new.rows.pivots ≡ state.old.rows.pivots) × (state.new.objects.count ≡ state.old.objects.count) }
+    ensures handed { KeepsHanded state.old state.new }
     ensures clash { IfOk result (λ clash. IfSome clash (λ p.
         Clashes (facts_in (name_in (objects_of objects.now)) state.new) (clash_of p))) }
     ensures stop { IfErr result (StopsBy (constants (rows_among (facts_in (name_in (objects_of objects.now)) state.old
@@ -66,6 +67,7 @@ pub(crate) fn take_facts(
         (map fact_of facts.now))) }
     ensures limits { (terms_of state.new.rows ≡ terms_of state.old.rows)
         × (state.new.rows.pivots ≡ state.old.rows.pivots) × (state.new.objects.count ≡ state.old.objects.count) }
+    ensures handed { KeepsHanded state.old state.new }
     ensures clash { IfOk result (λ clash. IfSome clash (λ p. Clashes (map fact_of facts.now) (clash_of p))) }
     ensures stop { IfErr result (StopsBy (constants (rows_among (map fact_of facts.now)))) }
 {

@@ -1,11 +1,11 @@
 use Rattle.std.proofs.Common.{◌≡◌, ◌∙◌, ap, length, map, sym, subst}
 use Rattle.std.specs.List.{filter}
-use Rattle.lq_case.specs.RowState.{MayStop}
-use Rattle.lq_combine.specs.Proves.{Proves, rows_among}
+use Rattle.lq_combine.specs.Proves.{Proves}
 use Rattle.lq_combine.specs.TreeView.{tree_view}
 use Rattle.lq_decide.specs.Case.{Case, fact_of, numbering_of, path_of}
 use Rattle.lq_decide.specs.CaseView.{case_of}
 use Rattle.lq_decide.specs.Deciding.{Fits}
+use Rattle.lq_decide.specs.Stopping.{StopsOnRows}
 use Rattle.lq_equating.specs.Equating.{numbering_by}
 use Rattle.lq_equating.specs.Naming.{AllBelow, HasAllArguments, HasAllSides, name_in, objects_of}
 use Rattle.lq_decide.proofs.Holding.{all_below}
@@ -51,4 +51,4 @@ pub returns-clause-stop : goal.returns-clause-stop
 returns-clause-stop c =
     let case = case_of c.args.literals.now in
     let pivots = second c.in-Ok-new.ensures.limits in
-    stops c.args.limit case c.in-Err.stop c.stop_of.result (subst (λ n. MayStop n (rows_among case.facts) c.in-Err.stop) pivots c.in-Err.ensures.stop) c.stop_of.ensures
+    stops c.args.limit case c.in-Err.stop c.stop_of.result (subst (λ n. StopsOnRows n case c.in-Err.stop) pivots c.in-Err.ensures.stop) c.stop_of.ensures

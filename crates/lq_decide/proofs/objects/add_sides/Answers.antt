@@ -12,5 +12,5 @@ returns-in_ok-add-in-Same-clause-has c =
     on_ok c.add-in-Same.result
     (λ e. let k = keeps_new mid new (sum_of c.in-Same.right) e in
     subst (λ f. HasSides new (fact_of f)) (sym c.in-Same.is)
-    (k.0 (sum_of c.in-Same.left) (keeps_new (objects_of c.args.objects.now) mid (sum_of c.in-Same.left) c.in_ok-add-in-Same.ensures).1, k.1))
-    c.add-in-Same.ensures
+    (k.0 (sum_of c.in-Same.left) (keeps_new (objects_of c.args.objects.now) mid (sum_of c.in-Same.left) c.in_ok-add-in-Same.ensures.added).1, k.1))
+    c.add-in-Same.ensures.added

@@ -1,7 +1,9 @@
-use Rattle.std.proofs.Common.{◌≡◌, ◌∙◌, [], map, sym, ap, subst}
+use Rattle.std.proofs.Common.{◌≡◌, ◌∙◌, [], length, map, sym, ap, subst}
 use Rattle.std.proofs.lemmas.Result.{err_from_is_err_and}
 use Rattle.lq_case.specs.PathState.{facts_in, objects_in}
-use Rattle.lq_case.specs.RowState.{MayStop}
+use Rattle.lq_case.specs.RowState.{MayStop, terms_of as row_terms}
+use Rattle.lq_case.specs.Stored.{Stands}
+use Rattle.lq_case.proofs.Handing.{may_stop_as}
 use Rattle.lq_combine.specs.Proves.{Clashes, Proves, by_clash, rows_among}
 use Rattle.lq_combine.specs.Tree.{Tree, Trees, leaf}
 use Rattle.lq_combine.specs.TreeView.{clash_of, tree_step, tree_view, trees_step}
@@ -11,7 +13,9 @@ use Rattle.lq_decide.specs.CaseView.{case_of}
 use Rattle.lq_decide.specs.Deciding.{IsChainOfEquals}
 use Rattle.lq_equating.specs.Equating.{AreEquated, numbering_by}
 use Rattle.lq_equating.specs.Naming.{AllTold, name_in, objects_of}
+use Rattle.lq_decide.specs.Stopping.{IsItsRow}
 use Rattle.lq_decide.proofs.Ends.{chain_of}
+use Rattle.lq_decide.proofs.Stopped.{added_row}
 use Rattle.lq_equating.proofs.Chains.{begun, ended}
 use Rattle.lq_equating.proofs.Equations.{adds_may_stop, may_stop_by}
 use Rattle.lq_equating.proofs.Joining.{second}
@@ -71,7 +75,7 @@ returns-in_err-clash-clause-stop c =
     let facts_are = ap (map fact_of) c.as_slice.ensures ∙ c.facts.ensures in
     let p = err_from_is_err_and c.from_residual.result c.from_residual.ensures.1 in
     let stop = c.in_err-clash.field-0.0 in
-    rw (p.1, p.2) (may_stop_by c.args.state.now.rows.pivots case.facts stop (subst (λ fs. StopsBy (constants (rows_among fs)) stop) facts_are c.in_err-clash.ensures.stop))
+    rw (p.1, p.2) (may_stop_by (length case.terms) c.args.state.now.rows.pivots [] (IsItsRow case) case.facts stop (subst (λ fs. StopsBy (constants (rows_among fs)) stop) facts_are c.in_err-clash.ensures.stop))
 
 pub returns-in_err-joints-clause-stop : goal.returns-in_err-joints-clause-stop
 returns-in_err-joints-clause-stop c =
@@ -81,7 +85,7 @@ returns-in_err-joints-clause-stop c =
     let stands = (rw c.in_default.is at c.in_ok-clash.ensures.stands) ∙ facts_are in
     let p = err_from_is_err_and c.from_residual-in_err-joints.result c.from_residual-in_err-joints.ensures.1 in
     let stop = c.in_err-joints.field-0.0 in
-    rw (p.1, p.2) (may_stop_by c.args.state.now.rows.pivots case.facts stop (subst (λ fs. StopsBy (constants (rows_among fs)) stop) stands c.in_err-joints.ensures.stop))
+    rw (p.1, p.2) (may_stop_by (length case.terms) c.args.state.now.rows.pivots [] (IsItsRow case) case.facts stop (subst (λ fs. StopsBy (constants (rows_among fs)) stop) stands c.in_err-joints.ensures.stop))
 
 pub returns-in_err-clash-2-clause-stop : goal.returns-in_err-clash-2-clause-stop
 returns-in_err-clash-2-clause-stop c =
@@ -94,8 +98,16 @@ returns-in_err-clash-2-clause-stop c =
     let p = err_from_is_err_and c.from_residual-in_err-clash-2.result c.from_residual-in_err-clash-2.ensures.1 in
     let stop = c.in_err-clash-2.field-0.0 in
     let pivots = second c.in_ok-joints.ensures.limits ∙ second c.in_ok-clash.ensures.limits in
-    rw (p.1, p.2) (subst (λ fs. MayStop c.args.state.now.rows.pivots (rows_among fs) stop) stands
-    (adds_may_stop c.args.state.now.rows.pivots before after stop (c.in_ok-joints.ensures.adds name) (subst (λ n. MayStop n (rows_among after) stop) pivots (c.in_err-clash-2.ensures.stop name))))
+    let limit = c.args.state.now.rows.pivots in
+    let terms = c.in_ok-joints.ensures.limits.0 ∙ c.in_ok-clash.ensures.limits.0 ∙ c.requires.terms in
+    let adds = c.in_ok-joints.ensures.adds name in
+    let handed = c.in_ok-joints.ensures.handed [] (c.in_ok-clash.ensures.handed [] c.requires.handed) in
+    let rows = Stands (rows_among after) in
+    rw (p.1, p.2) (subst (λ fs. MayStop (length case.terms) limit [] (IsItsRow case) (rows_among fs) stop) stands
+    (adds_may_stop (length case.terms) limit [] (IsItsRow case) before after stop adds
+    (may_stop_as rows (IsItsRow case) (length case.terms) limit [] (rows_among after) stop (added_row case before after stands adds)
+    (subst (λ m. MayStop m limit [] rows (rows_among after) stop) terms
+    (subst (λ n. MayStop (row_terms c.equate_all.new.state.rows) n [] rows (rows_among after) stop) pivots (c.in_err-clash-2.ensures.stop name [] handed))))))
 
 pub returns-in-None-clause-settled : goal.returns-in-None-clause-settled
 returns-in-None-clause-settled c =

@@ -54,4 +54,11 @@ loop-fact-preserved c =
       terms = e.limits.0 ∙ c.loop-fact.invariant.terms;
       pivots = second e.limits ∙ c.loop-fact.invariant.pivots;
       count = third e.limits ∙ c.loop-fact.invariant.count;
+      handed = λ ever h. e.handed ever (c.loop-fact.invariant.handed ever h);
     }
+
+pub returns-in_err-clash-clause-handed : goal.returns-in_err-clash-clause-handed
+returns-in_err-clash-clause-handed c = λ ever h. c.in_err-clash.ensures.handed ever (c.loop-fact.invariant.handed ever h)
+
+pub returns-in-Some-clause-handed : goal.returns-in-Some-clause-handed
+returns-in-Some-clause-handed c = λ ever h. c.in_ok-clash.ensures.handed ever (c.loop-fact.invariant.handed ever h)

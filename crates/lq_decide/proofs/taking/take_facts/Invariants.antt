@@ -1,5 +1,5 @@
 use Rattle.std.proofs.Common.{◌≡◌, map, take}
-use Rattle.lq_case.specs.PathState.{facts_in, objects_in}
+use Rattle.lq_case.specs.PathState.{KeepsHanded, facts_in, objects_in}
 use Rattle.lq_case.specs.RowState.{terms_of}
 use Rattle.lq_decide.specs.Case.{fact_of}
 use Rattle.lq_equating.specs.Naming.{AllTold, name_in, objects_of}
@@ -12,4 +12,5 @@ invariant-loop-fact l = record {
   terms : terms_of l.state.rows ≡ terms_of l.fn.state.rows;
   pivots : l.state.rows.pivots ≡ l.fn.state.rows.pivots;
   count : l.state.objects.count ≡ l.fn.state.objects.count;
+  handed : KeepsHanded l.fn.state l.state;
 }
