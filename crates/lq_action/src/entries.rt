@@ -1,5 +1,5 @@
 // Actions on the entries of qualifiers and measures.
-ghost use Rattle.std.specs.Prelude.{◌≡◌, ◌∷◌, map, Some, OnOk, IfOk, Err, IsSome, IfErr};
+ghost use Rattle.std.specs.Prelude.{◌≡◌, ◌-◌, ◌∷◌, length, map, take, Some, OnOk, IfOk, Err, IsSome, IfErr};
 ghost use Rattle.lq_tree.specs.MeasureTrees.{equation_view, definitions_view};
 ghost use Rattle.lq_tree.specs.Qualifiers.{qualifiers_view};
 ghost use Rattle.lq_action.specs.Items.{entry_made, add_qualifier, append_equation, add_measure};
@@ -20,6 +20,7 @@ pub fn pop_qualifiers(values: &mut Vec<Value>) -> Result<Vec<Qualifier>, MakeErr
     ensures ok { IfOk result (λ qs. views values.old.items ≡ qualifiers (qualifiers_view qs.items)
         ∷ views values.new.items) }
     ensures misfit { IfErr result (λ _. NoQualifiers (views values.old.items)) }
+    ensures rest { IfErr result (λ _. values.new.items ≡ take (length values.old.items - 1) values.old.items) }
 {
     match values.pop() {
         Some(Value::Qualifiers(row)) => Ok(row),
@@ -43,6 +44,7 @@ pub fn pop_measures(values: &mut Vec<Value>) -> Result<Vec<Measure>, MakeError>
     ensures ok { IfOk result (λ ms. views values.old.items ≡ measures (definitions_view ms.items)
         ∷ views values.new.items) }
     ensures misfit { IfErr result (λ _. NoMeasures (views values.old.items)) }
+    ensures rest { IfErr result (λ _. values.new.items ≡ take (length values.old.items - 1) values.old.items) }
 {
     match values.pop() {
         Some(Value::Measures(row)) => Ok(row),

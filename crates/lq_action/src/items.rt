@@ -1,5 +1,5 @@
 // Actions on the items of a program.
-ghost use Rattle.std.specs.Prelude.{◌≡◌, ◌∷◌, ℕ, map, Some, OnOk, IfOk, Err, IsSome, IfErr};
+ghost use Rattle.std.specs.Prelude.{◌≡◌, ◌-◌, ◌∷◌, ℕ, length, map, take, Some, OnOk, IfOk, Err, IsSome, IfErr};
 ghost use Rattle.lq_tree.specs.Items.{parsed_items, parameter_view, constructor_view};
 ghost use Rattle.lq_action.specs.Items.{item_made, parameter_at, add_let, add_rec, add_type, add_parameter, add_constructor};
 ghost use Rattle.lq_action.specs.Value.{by_name, some_name, items, parameters, constructors};
@@ -21,6 +21,7 @@ pub fn pop_items(values: &mut Vec<Value>) -> Result<Vec<Item<Name>>, MakeError>
     ensures ok { IfOk result (λ is. views values.old.items ≡ items (parsed_items is.items)
         ∷ views values.new.items) }
     ensures misfit { IfErr result (λ _. NoItems (views values.old.items)) }
+    ensures rest { IfErr result (λ _. values.new.items ≡ take (length values.old.items - 1) values.old.items) }
 {
     match values.pop() {
         Some(Value::Items(row)) => Ok(row),
