@@ -2,6 +2,7 @@
 ghost use Rattle.std.specs.Prelude.{◌≡◌, ◌<◌, List, All, OnOk, length, map};
 ghost use Rattle.lq_checks.specs.Basis.{Basis};
 ghost use Rattle.lq_contexts.specs.Growing.{HasMore};
+ghost use Rattle.lq_implications.specs.Growing.{Continues};
 ghost use Rattle.lq_implications.specs.Views.{environment_at, environment_lists, origin_view};
 ghost use Rattle.lq_obligations.specs.Obligation.{Obligation as Asking, all_implications, holds, implications_by, implications_in};
 ghost use Rattle.lq_pred.specs.PredView.{formula_of};
@@ -21,6 +22,7 @@ use lq_substitution::{Part, Parts};
 use std::alloc::{AllocError, Global};
 
 // The one implication of a predicate that is to hold.
+#[tactic(auto, using(lq_implications::specs::Growing::continuing))]
 fn demand(
     alloc: Global,
     list: &mut Implications,
@@ -32,6 +34,7 @@ fn demand(
         → Appends list.old list.new (implications_by P Γ (origin_view obligation.now.place obligation.now.reason)
         (holds (formula_of pred.now)))) }
     ensures environments { environment_lists list.new ≡ environment_lists list.old }
+    ensures continues { Continues list.old list.new }
 {
     let goal = Part::Known(pred.copy(alloc)?);
     list.push(Implication {
@@ -44,6 +47,7 @@ fn demand(
 }
 
 // The implications of what is asked for in one obligation.
+#[tactic(auto, using(lq_implications::specs::Growing::continuing))]
 fn imply(
     alloc: Global,
     list: &mut Implications,
@@ -58,6 +62,7 @@ fn imply(
         → stated P x ≡ stated_view (environment_lists list.old) (types_of (scopes_of sources.now) types.old) obligation.now
         → Appends list.old list.new (implications_in P x)) }
     ensures environments { HasMore (environment_lists list.old) (environment_lists list.new) }
+    ensures continues { Continues list.old list.new }
     ensures grows { Grows types.old types.new }
 {
     match &obligation.asked {
@@ -80,7 +85,8 @@ fn imply(
 }
 
 /// Adds the implications of what is asked for, obligation by obligation: of a predicate one, of two types those of their subtyping. Where
-/// memory is refused, some of them may stand there, but environments and types only grow.
+/// memory is refused, some of them may stand there, behind all that there were; environments and types only grow.
+#[tactic(auto, using(lq_implications::specs::Growing::continuing))]
 pub fn imply_all(
     alloc: Global,
     list: &mut Implications,
@@ -95,6 +101,7 @@ pub fn imply_all(
         → map (stated P) xs ≡ all_stated (environment_lists list.old) (types_of (scopes_of sources.now) types.old) obligations.now
         → Appends list.old list.new (all_implications P xs)) }
     ensures environments { HasMore (environment_lists list.old) (environment_lists list.new) }
+    ensures continues { Continues list.old list.new }
     ensures grows { Grows types.old types.new }
 {
     for obligation in obligations {

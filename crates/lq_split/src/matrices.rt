@@ -1,6 +1,7 @@
 // The implications between the matrices of two types of one datatype.
 ghost use Rattle.std.specs.Prelude.{◌≡◌, ◌<◌, [], ◌∷◌, All, IfOk, OnOk, length};
 ghost use Rattle.lq_contexts.specs.Growing.{HasMore};
+ghost use Rattle.lq_implications.specs.Growing.{Continues};
 ghost use Rattle.lq_implications.specs.Views.{count_of as implication_count, environment_at, environment_lists, implications_of};
 ghost use Rattle.lq_refined.specs.Context.{Context, hypotheses_of};
 ghost use Rattle.lq_refined.specs.Refined.{top, type_at};
@@ -143,6 +144,7 @@ fn with_cell(
 }
 
 // The implications of an entry of the right matrix.
+#[tactic(auto, using(lq_implications::specs::Growing::continuing))]
 fn cell(
     alloc: Global,
     list: &mut Implications,
@@ -160,6 +162,7 @@ fn cell(
         (each (types_of (scopes_of given.now) types.old) left.now.arguments.now)
         (matrix_view left.now.matrix.now) (cell_view cell.now ∷ [])))) }
     ensures environments { HasMore (environment_lists list.old) (environment_lists list.new) }
+    ensures continues { Continues list.old list.new }
     ensures grows { Grows types.old types.new }
 {
     let inner = with_cell(alloc, list, types, given, left, cell, env)?;
@@ -183,7 +186,8 @@ fn cell(
 
 /// Adds the implications by which the entries of a right matrix follow from those of the left one, in their order, each where the fields of
 /// its constructor have their left types and the left argument's parts hold of the value. Where memory is refused, some of them may stand
-/// there, but environments and types only grow.
+/// there, behind all that there were; environments and types only grow.
+#[tactic(auto, using(lq_implications::specs::Growing::continuing))]
 pub fn cells(
     alloc: Global,
     list: &mut Implications,
@@ -201,6 +205,7 @@ pub fn cells(
         (each (types_of (scopes_of given.now) types.old) left.now.arguments.now)
         (matrix_view left.now.matrix.now) (matrix_view right.now)))) }
     ensures environments { HasMore (environment_lists list.old) (environment_lists list.new) }
+    ensures continues { Continues list.old list.new }
     ensures grows { Grows types.old types.new }
 {
     for entry in right.as_slice() {

@@ -1,6 +1,7 @@
 // The implications of a subtyping.
 ghost use Rattle.std.specs.Prelude.{◌≡◌, ◌<◌, ◌++◌, [], All, OnOk, length};
 ghost use Rattle.lq_contexts.specs.Growing.{HasMore};
+ghost use Rattle.lq_implications.specs.Growing.{Continues};
 ghost use Rattle.lq_implications.specs.Views.{environment_at, environment_lists};
 ghost use Rattle.lq_parts.specs.Part.{Parts as PartList};
 ghost use Rattle.lq_refined.specs.Context.{Context};
@@ -25,7 +26,7 @@ use lq_refinements::{Form, Matrix, RefinedTypes};
 use std::alloc::{AllocError, Global};
 
 /// Adds the implications of a subtyping, in their order: that the type of the first number is a subtype of that of the second one in an
-/// environment. Where memory is refused, some of them may stand there, but environments and types only grow.
+/// environment. Where memory is refused, some of them may stand there, behind all that there were; environments and types only grow.
 pub fn split(
     alloc: Global,
     list: &mut Implications,
@@ -44,6 +45,7 @@ pub fn split(
         (split P (origin_of given.now) Γ (refined_at (scopes_of given.now) types.old sides.0)
         (refined_at (scopes_of given.now) types.old sides.1)))) }
     ensures environments { HasMore (environment_lists list.old) (environment_lists list.new) }
+    ensures continues { Continues list.old list.new }
     ensures grows { Grows types.old types.new }
 {
     subtypes(alloc, list, types, given, sides, (env, env))
@@ -51,6 +53,7 @@ pub fn split(
 
 // What is inside the types is compared in the first environment, and their tops in the second one.
 #[cycle(splits)]
+#[tactic(auto, using(lq_implications::specs::Growing::continuing))]
 fn subtypes(
     alloc: Global,
     list: &mut Implications,
@@ -73,6 +76,7 @@ fn subtypes(
         ++ inside P (origin_of given.now) (erased (refined_at (scopes_of given.now) types.old sides.1)) Γ
         (refined_at (scopes_of given.now) types.old sides.0) (refined_at (scopes_of given.now) types.old sides.1)))) }
     ensures environments { HasMore (environment_lists list.old) (environment_lists list.new) }
+    ensures continues { Continues list.old list.new }
     ensures grows { Grows types.old types.new }
 {
     let sides = exposed(alloc, types, given.scopes, sides)?;
@@ -84,6 +88,7 @@ fn subtypes(
 
 // What is inside two types of these forms.
 #[cycle(splits)]
+#[tactic(auto, using(lq_implications::specs::Growing::continuing))]
 fn inside(
     alloc: Global,
     list: &mut Implications,
@@ -104,6 +109,7 @@ fn inside(
         (form_type (types_of (scopes_of given.now) types.old) left.now p)
         (form_type (types_of (scopes_of given.now) types.old) right.now q)))) }
     ensures environments { HasMore (environment_lists list.old) (environment_lists list.new) }
+    ensures continues { Continues list.old list.new }
     ensures grows { Grows types.old types.new }
 {
     match (left, right) {
@@ -140,6 +146,7 @@ fn inside(
 
 // The arguments the other way round, then the results where their name for the argument has the right argument's type.
 #[cycle(splits)]
+#[tactic(auto, using(lq_implications::specs::Growing::continuing))]
 fn functions(
     alloc: Global,
     list: &mut Implications,
@@ -165,6 +172,7 @@ fn functions(
         let r = function (binder_view right.binder) (refined_at S types.old right.argument) (refined_at S types.old right.result) in
         inside P (origin_of given.now) (erased r) Γ l r))) }
     ensures environments { HasMore (environment_lists list.old) (environment_lists list.new) }
+    ensures continues { Continues list.old list.new }
     ensures grows { Grows types.old types.new }
 {
     let arguments = (right.argument, left.argument);
@@ -177,6 +185,7 @@ fn functions(
 // The elements of arrays may be read and written, so both ways. Where that makes no implications they aren't walked twice, since arrays in
 // arrays double that with each level.
 #[cycle(splits)]
+#[tactic(auto, using(lq_implications::specs::Growing::continuing))]
 fn arrays(
     alloc: Global,
     list: &mut Implications,
@@ -197,6 +206,7 @@ fn arrays(
         ++ split P (origin_of given.now) Γ (refined_at (scopes_of given.now) types.old elements.1)
         (refined_at (scopes_of given.now) types.old elements.0)))) }
     ensures environments { HasMore (environment_lists list.old) (environment_lists list.new) }
+    ensures continues { Continues list.old list.new }
     ensures grows { Grows types.old types.new }
 {
     let scopes = given.scopes;
@@ -208,6 +218,7 @@ fn arrays(
 
 // Two types, and the same the other way round.
 #[cycle(splits)]
+#[tactic(auto, using(lq_implications::specs::Growing::continuing))]
 fn both_ways(
     alloc: Global,
     list: &mut Implications,
@@ -228,6 +239,7 @@ fn both_ways(
         ++ split P (origin_of given.now) Γ (refined_at (scopes_of given.now) types.old elements.1)
         (refined_at (scopes_of given.now) types.old elements.0)))) }
     ensures environments { HasMore (environment_lists list.old) (environment_lists list.new) }
+    ensures continues { Continues list.old list.new }
     ensures grows { Grows types.old types.new }
 {
     let (left, right) = elements;
@@ -237,6 +249,7 @@ fn both_ways(
 
 // The arguments of a datatype one after another, then the entries of the right matrix.
 #[cycle(splits)]
+#[tactic(auto, using(lq_implications::specs::Growing::continuing))]
 fn datatypes(
     alloc: Global,
     list: &mut Implications,
@@ -261,6 +274,7 @@ fn datatypes(
         (each (types_of (scopes_of given.now) types.old) left.now.arguments.now)
         (matrix_view left.now.matrix.now) (matrix_view matrix.now)))) }
     ensures environments { HasMore (environment_lists list.old) (environment_lists list.new) }
+    ensures continues { Continues list.old list.new }
     ensures grows { Grows types.old types.new }
 {
     arguments(alloc, list, types, given, left.arguments, right, env)?;
@@ -269,6 +283,7 @@ fn datatypes(
 
 // Types in a row, each with that of its place.
 #[cycle(splits)]
+#[tactic(auto, using(lq_implications::specs::Growing::continuing))]
 fn arguments(
     alloc: Global,
     list: &mut Implications,
@@ -289,6 +304,7 @@ fn arguments(
         (each (types_of (scopes_of given.now) types.old) left.now)
         (each (types_of (scopes_of given.now) types.old) right.now)))) }
     ensures environments { HasMore (environment_lists list.old) (environment_lists list.new) }
+    ensures continues { Continues list.old list.new }
     ensures grows { Grows types.old types.new }
 {
     for at in 0..left.len() {
@@ -300,6 +316,7 @@ fn arguments(
 
 // The components of tuples: their tops where the earlier ones are `#k`, and what is inside them without those.
 #[cycle(splits)]
+#[tactic(auto, using(lq_implications::specs::Growing::continuing))]
 fn components(
     alloc: Global,
     list: &mut Implications,
@@ -320,6 +337,7 @@ fn components(
         (each (types_of (scopes_of given.now) types.old) left.now)
         (each (types_of (scopes_of given.now) types.old) right.now)))) }
     ensures environments { HasMore (environment_lists list.old) (environment_lists list.new) }
+    ensures continues { Continues list.old list.new }
     ensures grows { Grows types.old types.new }
 {
     let scopes = given.scopes;

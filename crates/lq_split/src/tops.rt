@@ -1,5 +1,6 @@
 // The implications between the tops of two types.
 ghost use Rattle.std.specs.Prelude.{◌≡◌, ◌<◌, IfOk, OnOk, length};
+ghost use Rattle.lq_implications.specs.Growing.{Continues};
 ghost use Rattle.lq_implications.specs.Views.{environment_at, environment_lists};
 ghost use Rattle.lq_refined.specs.Context.{Context};
 ghost use Rattle.lq_refinements.specs.Whole.{count_of, refined_at, Grows, IsNode};
@@ -59,6 +60,7 @@ pub(crate) fn tops(
         (tops (setting_of given.now g) (origin_of given.now) Γ (refined_at (scopes_of given.now) types.now sides.0)
         (refined_at (scopes_of given.now) types.now sides.1))) }
     ensures environments { environment_lists list.new ≡ environment_lists list.old }
+    ensures continues { Continues list.old list.new }
 {
     lq_contexts::tops(alloc, list, types, env, sides, given.origin)
 }

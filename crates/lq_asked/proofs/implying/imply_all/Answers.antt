@@ -1,6 +1,7 @@
 use Rattle.std.proofs.Common.{◌<◌, get_or, length, take, refl, sym, ap, subst, ◌∙◌, arith}
 use Rattle.std.proofs.lemmas.List.{take_all}
 use Rattle.std.proofs.lemmas.List.Elements.{All-get_or}
+use Rattle.lq_implications.specs.Growing.{Continues-refl, Continues-trans}
 use Rattle.lq_implications.specs.Views.{count_of as implication_count, environment_lists, implications_of}
 use Rattle.lq_obligations.specs.Obligation.{all_implications, implications_in}
 use Rattle.lq_refinements.specs.Growing.{Extends-refl, Extends-trans}
@@ -16,6 +17,7 @@ pub loop-obligation-init : goal.loop-obligation-init
 loop-obligation-init c = record {
   added = λ P xs o e. appends-none c.args.list.now;
   environments = HasMore-refl (environment_lists c.args.list.now);
+  continues = Continues-refl c.args.list.now;
   grows = Extends-refl c.args.types.now.rows.items;
 }
 
@@ -65,6 +67,7 @@ loop-obligation-preserved c =
           (stated-at P v xs items e i d x c.loop-obligation-test.true ∙ ap v (sym c.obligation-item.is)
           ∙ sym (stated-kept S t0.rows.items t1.rows.items c.loop-obligation.invariant.grows e0 e1 c.loop-obligation.invariant.environments x there))));
       environments = HasMore-trans e0 e1 (environment_lists l2) c.loop-obligation.invariant.environments c.imply.ensures.environments;
+      continues = Continues-trans l0 l1 l2 c.loop-obligation.invariant.continues c.imply.ensures.continues;
       grows = Extends-trans t0.rows.items t1.rows.items t2.rows.items c.loop-obligation.invariant.grows c.imply.ensures.grows;
     }
 

@@ -1,6 +1,7 @@
 use Rattle.std.proofs.Common.{◌≡◌, List, map, take}
 use Rattle.lq_checks.specs.Basis.{Basis}
 use Rattle.lq_contexts.specs.Growing.{HasMore}
+use Rattle.lq_implications.specs.Growing.{Continues}
 use Rattle.lq_implications.specs.Views.{environment_lists}
 use Rattle.lq_obligations.specs.Obligation.{Obligation as Asking}
 use Rattle.lq_obligations.specs.Obligation.{all_implications}
@@ -15,5 +16,6 @@ invariant-loop-obligation l = record {
       → map (stated P) xs ≡ all_stated (environment_lists l.initial.list) (types_of (scopes_of l.sources) l.initial.types) l.obligations
       → Appends l.initial.list l.list (all_implications P (take l.obligation-index xs));
   environments : HasMore (environment_lists l.initial.list) (environment_lists l.list);
+  continues : Continues l.initial.list l.list;
   grows : Grows l.initial.types l.types;
 }

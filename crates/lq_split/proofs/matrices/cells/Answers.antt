@@ -1,5 +1,6 @@
 use Rattle.std.proofs.Common.{◌∷◌, [], map, take, ap, refl, sym, ◌∙◌}
 use Rattle.std.proofs.lemmas.List.{take_all}
+use Rattle.lq_implications.specs.Growing.{Continues-refl, Continues-trans}
 use Rattle.lq_implications.specs.Views.{count_of, environment_lists, implications_of}
 use Rattle.lq_refinements.specs.Forms.{cell_view, each, matrix_view}
 use Rattle.lq_refinements.specs.Growing.{Extends-refl, Extends-trans}
@@ -16,6 +17,7 @@ pub loop-entry-init : goal.loop-entry-init
 loop-entry-init c = record {
   added = λ g Γ k f. appends-none c.args.list.now;
   environments = HasMore-refl (environment_lists c.args.list.now);
+  continues = Continues-refl c.args.list.now;
   grows = Extends-refl c.args.types.now.rows.items;
 }
 
@@ -51,6 +53,7 @@ loop-entry-preserved c =
           (knows-grown S t0.rows.items t1.rows.items given.fields.now g c.loop-entry.invariant.grows c.requires.fields k)
           (f ∙ sym (environment-kept (environment_lists l0) (environment_lists l1) c.args.env c.loop-entry.invariant.environments c.requires.env))));
       environments = HasMore-trans (environment_lists l0) (environment_lists l1) (environment_lists l2) c.loop-entry.invariant.environments c.cell.ensures.environments;
+      continues = Continues-trans l0 l1 l2 c.loop-entry.invariant.continues c.cell.ensures.continues;
       grows = Extends-trans t0.rows.items t1.rows.items t2.rows.items c.loop-entry.invariant.grows c.cell.ensures.grows;
     }
 

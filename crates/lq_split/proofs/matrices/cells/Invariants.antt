@@ -1,5 +1,6 @@
 use Rattle.std.proofs.Common.{map, take}
 use Rattle.lq_contexts.specs.Growing.{HasMore}
+use Rattle.lq_implications.specs.Growing.{Continues}
 use Rattle.lq_implications.specs.Views.{environment_lists}
 use Rattle.lq_refinements.specs.Forms.{cell_view, each, matrix_view}
 use Rattle.lq_refinements.specs.Whole.{types_of, Grows}
@@ -14,5 +15,6 @@ invariant-loop-entry l = record {
       (cells P (origin_of l.given) Γ l.left.name.0 (each (types_of (scopes_of l.given) l.initial.types) l.left.arguments.now)
       (matrix_view l.left.matrix.now) (map cell_view (take l.entry-index l.entry-items))));
   environments : HasMore (environment_lists l.initial.list) (environment_lists l.list);
+  continues : Continues l.initial.list l.list;
   grows : Grows l.initial.types l.types;
 }

@@ -2,6 +2,7 @@ use Rattle.std.proofs.Common.{◌≡◌, suc, ◌+◌, ◌*◌, ◌<◌, ◌++�
 use Rattle.std.proofs.Math.Numerals.{add-one}
 use Rattle.std.proofs.lemmas.List.{take_all}
 use Rattle.std.proofs.lemmas.Result.{on_ok_weaker}
+use Rattle.lq_implications.specs.Growing.{Continues-refl, Continues-same, Continues-trans}
 use Rattle.lq_implications.specs.Views.{count_of as implication_count, environment_lists, implications_of}
 use Rattle.lq_pred.specs.declared.symbol.Symbol.TheVariants.{Position}
 use Rattle.lq_refined.specs.Context.{name, hypotheses_of}
@@ -187,6 +188,15 @@ functions-returns-clause-added t c =
     (a g Θ (knows-grown S t0.rows.items t2.rows.items given.fields.now g both c.requires.fields k) h Θ h)))
     c.subtypes-2.ensures.added
 
+pub functions-returns-clause-continues : goal.functions-returns-clause-continues
+functions-returns-clause-continues t c =
+    let l0 = c.args.list.now in
+    let l1 = c.subtypes.new.list in
+    let l2 = c.results_under.new.list in
+    let l3 = c.subtypes-2.new.list in
+    Continues-trans l0 l1 l3 c.in_ok-subtypes.ensures.continues
+    (Continues-trans l1 l2 l3 (Continues-same l1 l2 c.in_ok-under.ensures.implications c.in_ok-under.ensures.count) c.subtypes-2.ensures.continues)
+
 -- ---- datatypes
 
 pub datatypes-returns-clause-added : goal.datatypes-returns-clause-added
@@ -225,6 +235,7 @@ pub arguments-loop-at-init : goal.arguments-loop-at-init
 arguments-loop-at-init t c = record {
   added = λ g Γ k e. appends-none c.args.list.now;
   environments = HasMore-refl (environment_lists c.args.list.now);
+  continues = Continues-refl c.args.list.now;
   grows = Extends-refl c.args.types.now.rows.items;
 }
 
@@ -265,6 +276,7 @@ arguments-loop-at-preserved t c =
           (c.loop-at.invariant.added g Γ k e) refl refl
           (c.in_ok-subtypes.ensures.added g Γ (knows-grown S t0.rows.items t1.rows.items given.fields.now g grows c.requires.fields k) f Γ f));
       environments = HasMore-trans (environment_lists l0) (environment_lists l1) (environment_lists l2) envs c.in_ok-subtypes.ensures.environments;
+      continues = Continues-trans l0 l1 l2 c.loop-at.invariant.continues c.in_ok-subtypes.ensures.continues;
       grows = Extends-trans t0.rows.items t1.rows.items t2.rows.items grows c.in_ok-subtypes.ensures.grows;
     }
 
@@ -294,6 +306,7 @@ components-loop-at-init t c = record {
   facts = λ Γ e. e;
   there = c.requires.env;
   environments = HasMore-refl (environment_lists c.args.list.now);
+  continues = Continues-refl c.args.list.now;
   grows = Extends-refl c.args.types.now.rows.items;
 }
 
@@ -354,6 +367,8 @@ components-loop-at-preserved t c =
           ∙ sym (environment-kept e1 e2 c.loop-at.outer added c.loop-at.invariant.there));
       there = c.in_ok-outer.ensures.there;
       environments = HasMore-trans e0 e2 e3 (HasMore-trans e0 e1 e2 envs added) c.with_name.ensures.environments;
+      continues = Continues-trans l0 l1 l3 c.loop-at.invariant.continues (Continues-trans l1 l2 l3 c.in_ok-subtypes.ensures.continues
+          (Continues-same l2 l3 c.with_name.ensures.implications c.with_name.ensures.count));
       grows = Extends-trans t0.rows.items t2.rows.items t3.rows.items both c.with_name.ensures.grows;
     }
 
@@ -373,6 +388,15 @@ components-returns-clause-added t c =
     (ap₂ (λ xs ys. components (setting_of given g) (origin_of given) (all_erased (each all ys)) Γ Γ 0 (each all xs) (each all ys))
     (take_all i ls h) (take_all i rs (omega arith)))
     (c.loop-at.invariant.added g Γ k e)
+
+pub components-returns-in_err-outer-clause-continues : goal.components-returns-in_err-outer-clause-continues
+components-returns-in_err-outer-clause-continues t c =
+    let l0 = c.args.list.now in
+    let l1 = c.loop-at.list in
+    let l2 = c.subtypes.new.list in
+    let l3 = c.with_name.new.list in
+    Continues-trans l0 l1 l3 c.loop-at.invariant.continues
+    (Continues-trans l1 l2 l3 c.in_ok-subtypes.ensures.continues (Continues-same l2 l3 c.with_name.ensures.implications c.with_name.ensures.count))
 
 -- ---- what calls ask
 

@@ -1,5 +1,6 @@
 use Rattle.std.proofs.Common.{◌≡◌, ◌+◌, ◌*◌, ◌<◌, [], length, take}
 use Rattle.lq_contexts.specs.Growing.{HasMore}
+use Rattle.lq_implications.specs.Growing.{Continues}
 use Rattle.lq_implications.specs.Views.{environment_at, environment_lists}
 use Rattle.lq_refined.specs.Context.{Context, hypotheses_of}
 use Rattle.lq_refined.specs.Refined.{all_erased, erased}
@@ -45,6 +46,7 @@ invariant-arguments-loop-at l =
       added : Over l.given l.initial.types l.initial.list l.env (λ P Γ. Appends l.initial.list l.list
           (arguments P (origin_of l.given) (all_erased (each all (take l.at l.right))) Γ (each all (take l.at l.left)) (each all (take l.at l.right))));
       environments : HasMore (environment_lists l.initial.list) (environment_lists l.list);
+      continues : Continues l.initial.list l.list;
       grows : Grows l.initial.types l.types;
     }
 
@@ -60,5 +62,6 @@ invariant-components-loop-at l =
           → hypotheses_of S (with_fields 0 (each all (take l.at l.left)) Γ) ≡ environment_at l.list l.outer;
       there : l.outer < length (environment_lists l.list);
       environments : HasMore (environment_lists l.initial.list) (environment_lists l.list);
+      continues : Continues l.initial.list l.list;
       grows : Grows l.initial.types l.types;
     }
