@@ -1,5 +1,6 @@
 // Entries of matrices in types.
 ghost use Rattle.std.specs.Prelude.{◌≡◌, ◌++◌, OnOk, IfOk};
+ghost use Rattle.lq_pretty.specs.Continued.{Continues};
 ghost use Rattle.lq_type_text.specs.Types.{bracketed, entry_text, entry_texts, formulas, formulas_text, if_any, place_text};
 ghost use Rattle.lq_type_text.specs.ShownView.{entries_view, entry_view, preds_view};
 ghost use Rattle.lq_type_text.specs.Views.{writing_view};
@@ -13,24 +14,27 @@ use lq_pred::Preds;
 use std::alloc::AllocError;
 
 // Writes the predicates of an entry.
-#[tactic(auto, using(crate::proofs::Known::formulas_known))]
+#[tactic(auto, using(crate::proofs::Known::formulas_known, lq_pretty::specs::Continued::continuing))]
 fn push_formulas(line: &mut Vec<u8>, writing: &Writing<'_>, preds: &Preds) -> Result<(), AllocError>
-    ensures { OnOk result (line.new.items ≡ line.old.items
+    ensures written { OnOk result (line.new.items ≡ line.old.items
         ++ formulas_text (writing_view writing.now).calling (formulas (preds_view preds.now))) }
+    ensures begins { Continues line.old.items line.new.items }
 {
     let calling = writing.calling();
     push_predicates(line, &calling, preds.as_slice())
 }
 
 // Writes the place of an entry of a datatype's matrix.
+#[tactic(auto, using(lq_pretty::specs::Continued::continuing))]
 fn push_place(
     line: &mut Vec<u8>,
     writing: &Writing<'_>,
     data: Name,
     entry: &Entry,
 ) -> Result<(), AllocError>
-    ensures { OnOk result (line.new.items ≡ line.old.items
+    ensures written { OnOk result (line.new.items ≡ line.old.items
         ++ place_text (writing_view writing.now) data.0 (entry_view entry.now)) }
+    ensures begins { Continues line.old.items line.new.items }
 {
     writing.push_name(line, entry.constructor)?;
     line.extend_from_slice(b" ")?;
@@ -40,14 +44,16 @@ fn push_place(
 }
 
 // Writes an entry of a datatype's matrix.
+#[tactic(auto, using(lq_pretty::specs::Continued::continuing))]
 fn push_entry(
     line: &mut Vec<u8>,
     writing: &Writing<'_>,
     data: Name,
     entry: &Entry,
 ) -> Result<(), AllocError>
-    ensures { OnOk result (line.new.items ≡ line.old.items
+    ensures written { OnOk result (line.new.items ≡ line.old.items
         ++ entry_text (writing_view writing.now) data.0 (entry_view entry.now)) }
+    ensures begins { Continues line.old.items line.new.items }
 {
     push_place(line, writing, data, entry)?;
     line.extend_from_slice(b": ")?;
@@ -55,8 +61,10 @@ fn push_entry(
 }
 
 // Writes what stands before an entry: a bracket before the first one.
+#[tactic(auto, using(lq_pretty::specs::Continued::continuing))]
 fn push_opening(line: &mut Vec<u8>, is_open: bool) -> Result<(), AllocError>
-    ensures { OnOk result (line.new.items ≡ line.old.items ++ opening is_open) }
+    ensures written { OnOk result (line.new.items ≡ line.old.items ++ opening is_open) }
+    ensures begins { Continues line.old.items line.new.items }
 {
     if is_open {
         line.extend_from_slice(b"; ")
@@ -66,6 +74,7 @@ fn push_opening(line: &mut Vec<u8>, is_open: bool) -> Result<(), AllocError>
 }
 
 // Writes the next entry, where it has predicates, and answers whether the bracket is open then.
+#[tactic(auto, using(lq_pretty::specs::Continued::continuing))]
 fn push_next(
     line: &mut Vec<u8>,
     writing: &Writing<'_>,
@@ -77,6 +86,7 @@ fn push_next(
         (entry_text (writing_view writing.now) data.0 (entry_view entry.now)))) }
     ensures text { OnOk result (line.new.items ≡ line.old.items ++ more_entries is_open (if_any (formulas (entry_view entry.now).parts)
         (entry_text (writing_view writing.now) data.0 (entry_view entry.now)))) }
+    ensures begins { Continues line.old.items line.new.items }
 {
     if entry.preds.len() == 0 {
         return Ok(is_open);
@@ -87,14 +97,16 @@ fn push_next(
 }
 
 // Writes the entries that have predicates.
+#[tactic(auto, using(lq_pretty::specs::Continued::continuing))]
 pub(crate) fn push_entries(
     line: &mut Vec<u8>,
     writing: &Writing<'_>,
     data: Name,
     entries: &[Entry],
 ) -> Result<(), AllocError>
-    ensures { OnOk result (line.new.items ≡ line.old.items
+    ensures written { OnOk result (line.new.items ≡ line.old.items
         ++ bracketed (entry_texts (writing_view writing.now) data.0 (entries_view entries.now))) }
+    ensures begins { Continues line.old.items line.new.items }
 {
     let mut is_open = false;
     for entry in entries {

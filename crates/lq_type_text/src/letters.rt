@@ -1,5 +1,6 @@
 // The letters of type variables.
 ghost use Rattle.std.specs.Prelude.{◌≡◌, ◌++◌, OnOk};
+ghost use Rattle.lq_pretty.specs.Continued.{Continues};
 ghost use Rattle.lq_type_text.specs.Letters.{letter_text, place_in, seen_at, seen_in, seen_in_all, variable_text};
 ghost use Rattle.lq_type_text.specs.ShownView.{row_view, shown_view};
 
@@ -57,8 +58,10 @@ fn add_all(seen: &mut Vec<u64>, parts: &[Shown]) -> Result<(), AllocError>
 }
 
 // Writes the letter of the k-th variable, and behind the first 26 how often all letters were used before.
+#[tactic(auto, using(lq_pretty::specs::Continued::continuing))]
 fn push_letter(line: &mut Vec<u8>, at: usize) -> Result<(), AllocError>
-    ensures { OnOk result (line.new.items ≡ line.old.items ++ letter_text at) }
+    ensures written { OnOk result (line.new.items ≡ line.old.items ++ letter_text at) }
+    ensures begins { Continues line.old.items line.new.items }
 {
     line.extend_from_slice(b"'")?;
     line.push(b'a' + (at % 26) as u8)?;
@@ -70,12 +73,14 @@ fn push_letter(line: &mut Vec<u8>, at: usize) -> Result<(), AllocError>
 }
 
 // Writes a variable.
+#[tactic(auto, using(lq_pretty::specs::Continued::continuing))]
 pub(crate) fn push_variable(
     line: &mut Vec<u8>,
     seen: &[u64],
     variable: u64,
 ) -> Result<(), AllocError>
-    ensures { OnOk result (line.new.items ≡ line.old.items ++ variable_text seen.now variable) }
+    ensures written { OnOk result (line.new.items ≡ line.old.items ++ variable_text seen.now variable) }
+    ensures begins { Continues line.old.items line.new.items }
 {
     match place_in(seen, variable) {
         Some(at) => push_letter(line, at),

@@ -1,5 +1,6 @@
 // How types are written.
 ghost use Rattle.std.specs.Prelude.{◌≡◌, ◌++◌, OnOk, codes};
+ghost use Rattle.lq_pretty.specs.Continued.{Continues};
 ghost use Rattle.lq_refinements.specs.Forms.{binder_view};
 ghost use Rattle.lq_type_text.specs.Types.{argument_name, argument_texts, arguments_text, component_texts, form_text, guarded, in_row, lettered_text, type_line, type_text};
 ghost use Rattle.lq_type_text.specs.ShownView.{row_view, shown_view};
@@ -7,7 +8,7 @@ ghost use Rattle.lq_type_text.specs.Views.{writing_view};
 
 use crate::entries::push_entries;
 use crate::letters::{add_letters, push_variable};
-use crate::predicates::{push_predicates, push_separator};
+use crate::predicates::{push_separator, push_top};
 use crate::tree::Shown;
 use crate::writing::Writing;
 use lq_name::Binder;
@@ -16,13 +17,15 @@ use lq_pretty::push_symbol;
 use std::alloc::{AllocError, Global};
 
 // Writes the name of a function's argument, where it has one.
+#[tactic(auto, using(lq_pretty::specs::Continued::continuing))]
 fn push_argument_name(
     line: &mut Vec<u8>,
     writing: &Writing<'_>,
     name: Option<Binder>,
 ) -> Result<(), AllocError>
-    ensures { OnOk result (line.new.items ≡ line.old.items
+    ensures written { OnOk result (line.new.items ≡ line.old.items
         ++ argument_name (writing_view writing.now).calling (binder_view name)) }
+    ensures begins { Continues line.old.items line.new.items }
 {
     match name {
         Some(name) => {
@@ -36,14 +39,16 @@ fn push_argument_name(
 
 // Writes a type in which the variables have letters by their places among these.
 #[cycle(types)]
+#[tactic(auto, using(lq_pretty::specs::Continued::continuing))]
 fn push_lettered(
     line: &mut Vec<u8>,
     writing: &Writing<'_>,
     seen: &[u64],
     shown: &Shown,
 ) -> Result<(), AllocError>
-    ensures { OnOk result (line.new.items ≡ line.old.items
+    ensures written { OnOk result (line.new.items ≡ line.old.items
         ++ lettered_text (writing_view writing.now) seen.now (shown_view shown.now)) }
+    ensures begins { Continues line.old.items line.new.items }
 {
     let top = shown.top();
     if top.len() == 0 {
@@ -51,22 +56,22 @@ fn push_lettered(
     } else {
         line.extend_from_slice(b"{v:")?;
         push_form(line, writing, seen, shown)?;
-        line.extend_from_slice(b" | ")?;
-        push_predicates(line, &writing.calling(), top)?;
-        line.extend_from_slice(b"}")
+        push_top(line, &writing.calling(), top)
     }
 }
 
 // The same, a function in parentheses.
 #[cycle(types)]
+#[tactic(auto, using(lq_pretty::specs::Continued::continuing))]
 fn push_guarded(
     line: &mut Vec<u8>,
     writing: &Writing<'_>,
     seen: &[u64],
     shown: &Shown,
 ) -> Result<(), AllocError>
-    ensures { OnOk result (line.new.items ≡ line.old.items
+    ensures written { OnOk result (line.new.items ≡ line.old.items
         ++ guarded (shown_view shown.now) (lettered_text (writing_view writing.now) seen.now (shown_view shown.now))) }
+    ensures begins { Continues line.old.items line.new.items }
 {
     if shown.is_function() {
         line.extend_from_slice(b"(")?;
@@ -79,14 +84,16 @@ fn push_guarded(
 
 // Writes a type without what is said at its top.
 #[cycle(types)]
+#[tactic(auto, using(lq_pretty::specs::Continued::continuing))]
 fn push_form(
     line: &mut Vec<u8>,
     writing: &Writing<'_>,
     seen: &[u64],
     shown: &Shown,
 ) -> Result<(), AllocError>
-    ensures { OnOk result (line.new.items ≡ line.old.items
+    ensures written { OnOk result (line.new.items ≡ line.old.items
         ++ form_text (writing_view writing.now) seen.now (shown_view shown.now)) }
+    ensures begins { Continues line.old.items line.new.items }
 {
     match shown {
         Shown::Int(_) => line.extend_from_slice(b"int"),
@@ -122,14 +129,16 @@ fn push_form(
 
 // Writes the components of a tuple.
 #[cycle(types)]
+#[tactic(auto, using(lq_pretty::specs::Continued::continuing))]
 fn push_components(
     line: &mut Vec<u8>,
     writing: &Writing<'_>,
     seen: &[u64],
     parts: &[Shown],
 ) -> Result<(), AllocError>
-    ensures { OnOk result (line.new.items ≡ line.old.items
+    ensures written { OnOk result (line.new.items ≡ line.old.items
         ++ in_row (codes " * ") (component_texts (writing_view writing.now) seen.now (row_view parts.now))) }
+    ensures begins { Continues line.old.items line.new.items }
 {
     for (at, part) in parts.iter().enumerate() {
         push_separator(line, b" * ", at)?;
@@ -140,14 +149,16 @@ fn push_components(
 
 // Writes arguments with commas between.
 #[cycle(types)]
+#[tactic(auto, using(lq_pretty::specs::Continued::continuing))]
 fn push_listed(
     line: &mut Vec<u8>,
     writing: &Writing<'_>,
     seen: &[u64],
     arguments: &[Shown],
 ) -> Result<(), AllocError>
-    ensures { OnOk result (line.new.items ≡ line.old.items
+    ensures written { OnOk result (line.new.items ≡ line.old.items
         ++ in_row (codes ", ") (argument_texts (writing_view writing.now) seen.now (row_view arguments.now))) }
+    ensures begins { Continues line.old.items line.new.items }
 {
     for (at, each) in arguments.iter().enumerate() {
         push_separator(line, b", ", at)?;
@@ -158,14 +169,16 @@ fn push_listed(
 
 // Writes several arguments before the name of a datatype.
 #[cycle(types)]
+#[tactic(auto, using(lq_pretty::specs::Continued::continuing))]
 fn push_several(
     line: &mut Vec<u8>,
     writing: &Writing<'_>,
     seen: &[u64],
     arguments: &[Shown],
 ) -> Result<(), AllocError>
-    ensures { OnOk result (line.new.items ≡ line.old.items ++ (codes "("
+    ensures written { OnOk result (line.new.items ≡ line.old.items ++ (codes "("
         ++ in_row (codes ", ") (argument_texts (writing_view writing.now) seen.now (row_view arguments.now)) ++ codes ") ")) }
+    ensures begins { Continues line.old.items line.new.items }
 {
     line.extend_from_slice(b"(")?;
     push_listed(line, writing, seen, arguments)?;
@@ -174,14 +187,16 @@ fn push_several(
 
 // Writes the arguments before the name of a datatype.
 #[cycle(types)]
+#[tactic(auto, using(lq_pretty::specs::Continued::continuing))]
 fn push_arguments(
     line: &mut Vec<u8>,
     writing: &Writing<'_>,
     seen: &[u64],
     arguments: &[Shown],
 ) -> Result<(), AllocError>
-    ensures { OnOk result (line.new.items ≡ line.old.items
+    ensures written { OnOk result (line.new.items ≡ line.old.items
         ++ arguments_text (argument_texts (writing_view writing.now) seen.now (row_view arguments.now))) }
+    ensures begins { Continues line.old.items line.new.items }
 {
     match arguments {
         [] => Ok(()),
@@ -203,14 +218,16 @@ fn push_arguments(
 /// - Behind the name of a datatype stand the entries of its matrix that have predicates, as ` [C 2 'a: P && Q; D 1 'b: R]`: the constructor, the
 ///   field counted from 1, the datatype's own name of the parameter, and what holds of it there.
 /// - Type variables have letters by their first appearance in the text: `'a` to `'z`, then `'a1` to `'z1` and so on.
+#[tactic(auto, using(lq_pretty::specs::Continued::continuing))]
 pub fn push_type(
     alloc: Global,
     line: &mut Vec<u8>,
     writing: &Writing<'_>,
     shown: &Shown,
 ) -> Result<(), AllocError>
-    ensures { OnOk result (line.new.items ≡ line.old.items
+    ensures written { OnOk result (line.new.items ≡ line.old.items
         ++ type_text (writing_view writing.now) (shown_view shown.now)) }
+    ensures begins { Continues line.old.items line.new.items }
 {
     let mut seen = Vec::new(alloc);
     add_letters(&mut seen, shown)?;
@@ -218,6 +235,7 @@ pub fn push_type(
 }
 
 /// Writes a name with its type as a line behind the bytes.
+#[tactic(auto, using(lq_pretty::specs::Continued::continuing))]
 pub fn push_line(
     alloc: Global,
     line: &mut Vec<u8>,
@@ -225,8 +243,9 @@ pub fn push_line(
     name: &[u8],
     shown: &Shown,
 ) -> Result<(), AllocError>
-    ensures { OnOk result (line.new.items ≡ line.old.items
+    ensures written { OnOk result (line.new.items ≡ line.old.items
         ++ type_line (writing_view writing.now) name.now (shown_view shown.now)) }
+    ensures begins { Continues line.old.items line.new.items }
 {
     line.extend_from_slice(name)?;
     line.extend_from_slice(b" : ")?;

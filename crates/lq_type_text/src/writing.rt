@@ -2,6 +2,7 @@
 ghost use Rattle.std.specs.Prelude.{◌≡◌, ◌++◌, OnOk, decimal, slice_get};
 ghost use Rattle.std.specs.Option.{option_map};
 ghost use Rattle.lq_pretty.specs.Calling.{name_text};
+ghost use Rattle.lq_pretty.specs.Continued.{Continues};
 ghost use Rattle.lq_pretty.specs.Views.{calling_view, IsTold};
 ghost use Rattle.lq_type_text.specs.Types.{parameter_text};
 ghost use Rattle.lq_type_text.specs.Views.{parameters_view, writing_view};
@@ -52,22 +53,26 @@ impl Writing<'_> {
     }
 
     // Writes a name.
+    #[tactic(auto, using(lq_pretty::specs::Continued::continuing))]
     pub(crate) fn push_name(&self, line: &mut Vec<u8>, name: Name) -> Result<(), AllocError>
-        ensures { OnOk result (line.new.items ≡ line.old.items
+        ensures written { OnOk result (line.new.items ≡ line.old.items
             ++ name_text (writing_view self.now).calling.names name.0) }
+        ensures begins { Continues line.old.items line.new.items }
     {
         line.extend_from_slice(self.text(name).as_bytes())
     }
 
     // Writes the name of a datatype's parameter.
+    #[tactic(auto, using(lq_pretty::specs::Continued::continuing))]
     pub(crate) fn push_parameter(
         &self,
         line: &mut Vec<u8>,
         data: Name,
         at: u32,
     ) -> Result<(), AllocError>
-        ensures { OnOk result (line.new.items ≡ line.old.items
+        ensures written { OnOk result (line.new.items ≡ line.old.items
             ++ parameter_text (writing_view self.now) data.0 at) }
+        ensures begins { Continues line.old.items line.new.items }
     {
         match self.parameters.name(data, at) {
             Some(name) => self.push_name(line, name),
@@ -86,8 +91,10 @@ impl Parameters {
 }
 
 // Writes a count.
+#[tactic(auto, using(lq_pretty::specs::Continued::continuing))]
 pub(crate) fn push_count(line: &mut Vec<u8>, n: u64) -> Result<(), AllocError>
-    ensures { OnOk result (line.new.items ≡ line.old.items ++ decimal n) }
+    ensures written { OnOk result (line.new.items ≡ line.old.items ++ decimal n) }
+    ensures begins { Continues line.old.items line.new.items }
 {
     let mut number = Buffer::new();
     line.extend_from_slice(number.format(n).as_bytes())?;

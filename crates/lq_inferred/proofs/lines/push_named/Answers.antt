@@ -7,5 +7,5 @@ use Rattle.lq_inferred.proofs.lines.push_named.Goals as goal
 pub returns-clause-text : goal.returns-clause-text
 returns-clause-text c =
     let W = writing_view c.args.solution.now.writing.now in
-    c.in_ok-push_line.ensures
+    c.in_ok-push_line.ensures.written
     ∙ ap₂ (λ (n : List ℕ) (t : Refined). c.args.line.now.items ++ type_line W n t) (c.as_bytes-text.ensures.value ∙ c.text_of.ensures) c.in_ok-tree.ensures.shown

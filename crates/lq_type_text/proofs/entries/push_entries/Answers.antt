@@ -1,4 +1,5 @@
 use Rattle.std.proofs.Common.{◌≡◌, ◌+◌, ◌++◌, false, map, take, sym, ap, ◌∙◌, append_assoc}
+use Rattle.lq_pretty.specs.Continued.{Continues-trans}
 use Rattle.lq_type_text.proofs.EntryRows.{entry_texts-push, is_open_behind-append, more_entries-append}
 use Rattle.lq_type_text.proofs.Rows.{map-more}
 use Rattle.lq_type_text.specs.Rows.{is_open_behind, more_entries}
@@ -26,4 +27,6 @@ loop-entry-preserved c =
           ∙ ap (λ b. (c.args.line.now.items ++ more_entries false ts) ++ more_entries b next) c.loop-entry.invariant.is_open
           ∙ append_assoc c.args.line.now.items (more_entries false ts) (more_entries (is_open_behind false ts) next)
           ∙ ap (λ l. c.args.line.now.items ++ l) (sym (more_entries-append false ts next) ∙ ap (more_entries false) (sym all));
+      begins = Continues-trans c.args.line.now.items c.loop-entry.line.items c.push_next.new.line.items c.loop-entry.invariant.begins
+          c.in_ok-is_open.ensures.begins;
     }

@@ -1,4 +1,5 @@
 use Rattle.std.proofs.Common.{◌≡◌, ◌++◌, false, take}
+use Rattle.lq_pretty.specs.Continued.{Continues}
 use Rattle.lq_type_text.specs.Rows.{is_open_behind, more_entries}
 use Rattle.lq_type_text.specs.ShownView.{entries_view}
 use Rattle.lq_type_text.specs.Types.{entry_texts}
@@ -11,4 +12,5 @@ invariant-loop-entry l =
       is_open : l.is_open ≡ is_open_behind false (entry_texts (writing_view l.writing) l.data.0 (entries_view (take l.entry-index l.entries)));
       text : l.line.items
           ≡ l.initial.line.items ++ more_entries false (entry_texts (writing_view l.writing) l.data.0 (entries_view (take l.entry-index l.entries)));
+      begins : Continues l.initial.line.items l.line.items;
     }

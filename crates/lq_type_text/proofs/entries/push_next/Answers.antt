@@ -15,4 +15,4 @@ pub returns-clause-text : goal.returns-clause-text
 returns-clause-text c =
     more_said c.args.is_open (pred_items c.args.entry.now.preds) (entry_text (writing_view c.args.writing.now) c.args.data.0 (entry_view c.args.entry.now))
     c.args.line.now.items c.push_opening.new.line.items c.push_entry.new.line.items (λ e. c.if-len-eq0.false (c.len.ensures ∙ e))
-    c.in_ok-push_opening.ensures c.in_ok-push_entry.ensures
+    c.in_ok-push_opening.ensures.written c.in_ok-push_entry.ensures.written

@@ -1,6 +1,7 @@
 use Rattle.std.proofs.Common.{◌+◌, codes, map, take, sym, ap, ◌∙◌}
 use Rattle.std.proofs.lemmas.List.{length-map, map_push}
 use Rattle.lq_pred.specs.PredView.{formula_of}
+use Rattle.lq_pretty.specs.Continued.{Continues-trans}
 use Rattle.lq_pretty.specs.Views.{calling_view}
 use Rattle.lq_type_text.proofs.Rows.{length-more, map-more, row-more}
 use Rattle.lq_type_text.specs.Types.{conjunct_text}
@@ -13,7 +14,12 @@ loop-at-preserved c =
     let i = c.loop-at.at in
     let pred = c.index-preds-at.result in
     let before = map formula_of (take i preds) in
-    row-more (codes " && ") c.args.line.now.items c.loop-at.line.items c.push_separator.new.line.items c.push_conjunct.new.line.items (f (formula_of pred)) (map f before)
-    (map f (map formula_of (take (i + 1) preds))) i c.loop-at.invariant (length-more formula_of preds i c.loop-at-test.true ∙ sym (length-map before f))
-    c.in_ok-push_separator.ensures c.in_ok-push_conjunct.ensures
-    (ap (map f) (map-more formula_of preds i pred c.loop-at-test.true c.index-preds-at.is) ∙ map_push f before (formula_of pred))
+    record {
+      text = row-more (codes " && ") c.args.line.now.items c.loop-at.line.items c.push_separator.new.line.items c.push_conjunct.new.line.items (f (formula_of pred)) (map f before)
+          (map f (map formula_of (take (i + 1) preds))) i c.loop-at.invariant.text (length-more formula_of preds i c.loop-at-test.true ∙ sym (length-map before f))
+          c.in_ok-push_separator.ensures.written c.in_ok-push_conjunct.ensures.written
+          (ap (map f) (map-more formula_of preds i pred c.loop-at-test.true c.index-preds-at.is) ∙ map_push f before (formula_of pred));
+      begins = Continues-trans c.args.line.now.items c.loop-at.line.items c.push_conjunct.new.line.items c.loop-at.invariant.begins
+          (Continues-trans c.loop-at.line.items c.push_separator.new.line.items c.push_conjunct.new.line.items c.in_ok-push_separator.ensures.begins
+          c.in_ok-push_conjunct.ensures.begins);
+    }

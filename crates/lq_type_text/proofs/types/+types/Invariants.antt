@@ -1,4 +1,5 @@
 use Rattle.std.proofs.Common.{◌≡◌, ◌++◌, codes, take}
+use Rattle.lq_pretty.specs.Continued.{Continues}
 use Rattle.lq_type_text.specs.ShownView.{row_view}
 use Rattle.lq_type_text.specs.Types.{argument_texts, component_texts, in_row}
 use Rattle.lq_type_text.specs.Views.{writing_view}
@@ -6,8 +7,14 @@ use Rattle.lq_type_text.proofs.types.+types.Given as goal
 
 abbrev pub invariant-push_components-loop-at : goal.invariant-push_components-loop-at
 invariant-push_components-loop-at l =
-    l.line.items ≡ l.initial.line.items ++ in_row (codes " * ") (component_texts (writing_view l.writing) l.seen (row_view (take l.at l.parts)))
+    record {
+      text : l.line.items ≡ l.initial.line.items ++ in_row (codes " * ") (component_texts (writing_view l.writing) l.seen (row_view (take l.at l.parts)));
+      begins : Continues l.initial.line.items l.line.items;
+    }
 
 abbrev pub invariant-push_listed-loop-at : goal.invariant-push_listed-loop-at
 invariant-push_listed-loop-at l =
-    l.line.items ≡ l.initial.line.items ++ in_row (codes ", ") (argument_texts (writing_view l.writing) l.seen (row_view (take l.at l.arguments)))
+    record {
+      text : l.line.items ≡ l.initial.line.items ++ in_row (codes ", ") (argument_texts (writing_view l.writing) l.seen (row_view (take l.at l.arguments)));
+      begins : Continues l.initial.line.items l.line.items;
+    }
