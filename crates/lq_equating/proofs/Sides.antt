@@ -1,5 +1,5 @@
 -- Objects that are there, as more come.
-use Rattle.std.proofs.Common.{Result, Ok, Err, IfErr, OnOk, ◌≡◌, ℕ, zero, suc, ◌+◌, ◌<◌, List, [], ◌∷◌, ◌++◌, Bool, true, false, Some, if◌then◌else◌, length, map, take, get_or, slice_get, refl, sym, ap, subst, ◌∙◌, arith}
+use Rattle.std.proofs.Common.{Result, Ok, Err, IfErr, OnErr, OnOk, ◌≡◌, ℕ, zero, suc, ◌+◌, ◌<◌, List, [], ◌∷◌, ◌++◌, Bool, true, false, Some, if◌then◌else◌, length, map, take, get_or, slice_get, refl, sym, ap, subst, ◌∙◌, arith}
 use Rattle.std.proofs.lemmas.List.{map-append, take_more}
 use Rattle.lq_combine.specs.Path.{Fact, row_fact, flag_fact, objects_fact, never}
 use Rattle.lq_pred.specs.Numbering.{has_term-append, has_term-with_term}
@@ -22,6 +22,13 @@ keeps_same old new e = subst (Keeps old) (sym e) (λ t h. h)
 
 pub keeps_then : (a b c : List Sum) → Keeps a b → Keeps b c → Keeps a c
 keeps_then a b c f g = λ t h. g t (f t h)
+
+-- whether there was memory for it or not
+pub keeps_either : {T E : Type 0} (r : Result T E) (old new : List Sum) (a : Sum) → OnOk r (new ≡ with_term old a) → OnErr r (new ≡ old) → Keeps old new
+keeps_either (Ok x) old new a e f = (keeps_new old new a e).0
+keeps_either (Err x) old new a e f = keeps_same old new f
+
+pub ruleset keeping = (keeps_same, keeps_then)
 
 pub sides_keep : (old new : List Sum) (f : Fact) → Keeps old new → HasSides old f → HasSides new f
 sides_keep old new (objects_fact a b one) k h = (k a h.0, k b h.1)

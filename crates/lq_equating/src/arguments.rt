@@ -10,7 +10,7 @@ use std::alloc::{AllocError, Global};
 
 /// Adds the object of which a term is the length or a measure.
 fn add_argument(alloc: Global, term: &Term, objects: &mut ObjectTable) -> Result<(), AllocError>
-    ensures keeps { OnOk result (Keeps (objects_of objects.old) (objects_of objects.new)) }
+    ensures keeps { Keeps (objects_of objects.old) (objects_of objects.new) }
     ensures has { OnOk result (HasArgument (objects_of objects.new) (sum_of term.now)) }
 {
     match term {
@@ -20,12 +20,13 @@ fn add_argument(alloc: Global, term: &Term, objects: &mut ObjectTable) -> Result
 }
 
 /// Adds the objects of which terms are lengths or measures.
+#[tactic(auto, using(crate::proofs::Sides::keeping))]
 pub fn add_arguments(
     alloc: Global,
     table: &TermTable,
     objects: &mut ObjectTable,
 ) -> Result<(), AllocError>
-    ensures keeps { OnOk result (Keeps (objects_of objects.old) (objects_of objects.new)) }
+    ensures keeps { Keeps (objects_of objects.old) (objects_of objects.new) }
     ensures has { OnOk result (HasAllArguments (objects_of objects.new) (terms_of table.now)) }
 {
     for at in 0..table.len() {

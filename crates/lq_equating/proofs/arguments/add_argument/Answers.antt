@@ -1,6 +1,6 @@
 use Rattle.std.proofs.Common.{◌∙◌, sym, ap, subst, inl, inr}
 use Rattle.lq_equating.specs.Naming.{HasArgument, objects_of}
-use Rattle.lq_equating.proofs.Sides.{keeps_new, on_ok}
+use Rattle.lq_equating.proofs.Sides.{keeps_either, keeps_new, on_ok}
 use Rattle.lq_pred.specs.Table.{with_term}
 use Rattle.lq_pred.specs.TermView.{sum_of}
 use Rattle.lq_equating.proofs.arguments.add_argument.Goals as goal
@@ -15,3 +15,7 @@ returns-in-Length-clause-has c =
       | inr p ↦ subst (λ t. HasArgument (objects_of c.add.new.self) (sum_of t)) (sym p.1) h
     ])
     c.add.ensures.added
+
+pub returns-in-Length-clause-keeps : goal.returns-in-Length-clause-keeps
+returns-in-Length-clause-keeps c =
+    keeps_either c.add.result (objects_of c.args.objects.now) (objects_of c.add.new.self) (sum_of c.deref.result.now) c.add.ensures.added c.add.ensures.refused
