@@ -5,4 +5,8 @@ pub mod Views
 pub mod Defined
 pub mod Growing
 pub mod Laws
+pub mod Numbered
+pub mod Standing
+pub mod There
 pub mod Walking
+pub mod Wanted

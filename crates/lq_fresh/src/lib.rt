@@ -1,15 +1,21 @@
-//! Fresh templates in tables: a refined type with unknowns for a simple type, with the scopes and shapes of its unknowns.
+//! Templates in tables: refined types with unknowns for simple types, with the scopes and shapes of the unknowns, those of a program's points.
 #![tactic(auto)]
 
 mod defined;
+mod empty;
 mod fields;
 mod laws;
 mod matrix;
+mod plain;
+mod points;
+mod scopes;
 mod simple;
 mod templates;
 mod walk;
 
 pub use fields::{Constructor, Datatypes, Field};
 pub use laws::{cells_are_of_shapes, constructors_differ};
-pub use simple::{Given, shapes_at};
+pub use points::{PointTemplates, make};
+pub use scopes::unknown_scopes;
+pub use simple::Given;
 pub use templates::Templates;

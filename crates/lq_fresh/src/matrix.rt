@@ -244,10 +244,10 @@ impl Templates {
         Ok(())
     }
 
-    /// The matrix of a template of a datatype with these constructors, where its arguments have these shapes. Its unknowns come behind those
-    /// that there are.
+    // The matrix of a template of a datatype with these constructors, where its arguments have these shapes. Its unknowns come behind those
+    // that there are.
     #[inline(never)]
-    pub fn matrix_of(
+    pub(crate) fn matrix_of(
         &mut self,
         alloc: Global,
         datatype: Name,

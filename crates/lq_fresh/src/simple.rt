@@ -22,7 +22,7 @@ pub struct Given<'a> {
     pub datatypes: &'a Datatypes,
 }
 
-/// The shape of a type, where predicates speak of it.
+// The shape of a type, where predicates speak of it.
 pub(crate) fn shape_at(types: &TypeTable, at: u32) -> Option<Shape>
     requires { at < length (types_of types.now) }
     ensures { shape_if result ≡ shape_of (type_at (types_of types.now) at) }
@@ -40,9 +40,9 @@ pub(crate) fn shape_at(types: &TypeTable, at: u32) -> Option<Shape>
     }
 }
 
-/// The shapes of types, in their order.
+// The shapes of types, in their order.
 #[inline(never)]
-pub fn shapes_at(
+pub(crate) fn shapes_at(
     alloc: Global,
     types: &TypeTable,
     parts: &[u32],
@@ -57,7 +57,7 @@ pub fn shapes_at(
     Ok(made)
 }
 
-/// The name of a function's argument, where there are names of arguments left and this one has one.
+// The name of a function's argument, where there are names of arguments left and this one has one.
 pub(crate) fn first_name(names: &[Option<Binder>]) -> Option<Binder>
     ensures { binder_view result ≡ first_name (map binder_view names.now) }
 {
@@ -67,7 +67,7 @@ pub(crate) fn first_name(names: &[Option<Binder>]) -> Option<Binder>
     }
 }
 
-/// The names of the arguments behind the first one.
+// The names of the arguments behind the first one.
 pub(crate) fn later_names(names: &[Option<Binder>]) -> &[Option<Binder>]
     ensures { map binder_view result.now ≡ later_names (map binder_view names.now) }
 {

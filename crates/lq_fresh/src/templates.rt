@@ -30,21 +30,6 @@ impl Templates {
     ghost use Rattle.lq_fresh.specs.Growing.{top_parts, top_unknowns};
     ghost use Rattle.lq_fresh.specs.Views.{all_types, scope_at, scopes_of, shape_if, unknowns_of, IsMade};
 
-    /// No types, no unknowns, and the empty scope alone.
-    pub fn new(alloc: Global) -> Result<Templates, AllocError>
-        ensures types { IfOk result (λ t. count_of t.types ≡ 0) }
-        ensures scopes { IfOk result (λ t. scopes_of t ≡ [] ∷ []) }
-        ensures unknowns { IfOk result (λ t. unknowns_of t ≡ []) }
-    {
-        Ok(Templates {
-            types: RefinedTypes::new(alloc),
-            unknowns: Unknowns {
-                scopes: Scopes::new(alloc)?,
-                unknowns: Vec::new(alloc),
-            },
-        })
-    }
-
     /// No types and no unknowns, over scopes that there are.
     pub fn over(alloc: Global, scopes: Scopes) -> Templates
         ensures types { count_of result.types ≡ 0 }
@@ -82,8 +67,8 @@ impl Templates {
         (self.types, self.unknowns)
     }
 
-    /// The number of a scope with one symbol more, where predicates speak of its shape.
-    pub fn with_symbol(
+    // The number of a scope with one symbol more, where predicates speak of its shape.
+    pub(crate) fn with_symbol(
         &mut self,
         scope: u64,
         symbol: Symbol,
@@ -104,8 +89,8 @@ impl Templates {
         }
     }
 
-    /// One unknown more, and its number.
-    pub fn add_unknown(&mut self, scope: u64, shape: Shape) -> Result<u64, AllocError>
+    // One unknown more, and its number.
+    pub(crate) fn add_unknown(&mut self, scope: u64, shape: Shape) -> Result<u64, AllocError>
         requires { scope < length (scopes_of self.old) }
         ensures number { IfOk result (λ n. n ≡ length (unknowns_of self.old)) }
         ensures made { OnOk result (IsMade self.old self.new ((scope_at self.old scope, shape_view shape) ∷ [])) }
@@ -116,8 +101,8 @@ impl Templates {
         Ok(number)
     }
 
-    /// The type of this form with these parts at its top.
-    pub fn push(&mut self, form: Form, top: Parts) -> Result<usize, AllocError>
+    // The type of this form with these parts at its top.
+    pub(crate) fn push(&mut self, form: Form, top: Parts) -> Result<usize, AllocError>
         requires { All (λ p. p < count_of self.old.types) (form_rows form) }
         ensures refined { IfOk result (λ r. (scopes : ScopeLists) → refined_at scopes self.new.types r
             ≡ form_type (all_types scopes self.old) form (parts_view top)) }
@@ -128,9 +113,9 @@ impl Templates {
         Ok(row)
     }
 
-    /// The type of this form, with an unknown at its top where predicates speak of the shape.
+    // The type of this form, with an unknown at its top where predicates speak of the shape.
     #[inline(never)]
-    pub fn topped(
+    pub(crate) fn topped(
         &mut self,
         alloc: Global,
         form: Form,

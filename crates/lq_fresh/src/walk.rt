@@ -69,10 +69,10 @@ impl Templates {
         Ok(row)
     }
 
-    /// The form of the template of a type, whose unknowns come behind those that there are.
+    // The form of the template of a type, whose unknowns come behind those that there are.
     #[cycle(walk)]
     #[inline(never)]
-    pub fn form(
+    pub(crate) fn form(
         &mut self,
         alloc: Global,
         given: &Given<'_>,
@@ -167,10 +167,10 @@ impl Templates {
         Ok(Form::Data(name, arguments, matrix))
     }
 
-    /// The templates of types, each alone, as those of a datatype's arguments. Their unknowns come behind those that there are.
+    // The templates of types, each alone, as those of a datatype's arguments. Their unknowns come behind those that there are.
     #[cycle(walk)]
     #[inline(never)]
-    pub fn arguments(
+    pub(crate) fn arguments(
         &mut self,
         alloc: Global,
         given: &Given<'_>,
@@ -218,9 +218,9 @@ impl Templates {
         Ok(made)
     }
 
-    /// The fresh template of a type of the table in a scope, with these names of its arguments where it is a function that is written as such.
-    /// Its unknowns come behind those that there are.
-    pub fn fresh(
+    // The fresh template of a type of the table in a scope, with these names of its arguments where it is a function that is written as such.
+    // Its unknowns come behind those that there are.
+    pub(crate) fn fresh(
         &mut self,
         alloc: Global,
         given: &Given<'_>,

@@ -13,8 +13,8 @@ use Rattle.lq_fresh.specs.declared.templates.Templates.{Templates}
 use Rattle.lq_instances.specs.Scopes.{scope_in}
 use Rattle.lq_instances.specs.Views.{unknowns_view}
 use Rattle.lq_instances.specs.declared.unknowns.Unknowns.{Unknowns}
-use Rattle.lq_made.specs.Standing.{rows_at, rows_at-below, types_at-rows}
-use Rattle.lq_made.specs.Wanted.{rows_types, AreRows, Rows}
+use Rattle.lq_fresh.specs.Standing.{rows_at, rows_at-below, types_at-rows}
+use Rattle.lq_fresh.specs.Wanted.{rows_types, AreRows, Rows}
 use Rattle.lq_parts.specs.Part.{Scopes}
 use Rattle.lq_points.specs.Annotation.{Annotation}
 use Rattle.lq_points.specs.Templates.{scopes_of, templates_at}

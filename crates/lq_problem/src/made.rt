@@ -3,7 +3,7 @@ ghost use Rattle.std.specs.Prelude.{◌≡◌, IfOk};
 ghost use Rattle.lq_annotated.specs.Whole as annotated;
 ghost use Rattle.lq_fresh.specs.Defined.{ConstructorsDiffer};
 ghost use Rattle.lq_fresh.specs.Views.{unknowns_of};
-ghost use Rattle.lq_made.specs.Wanted.{rows_types, AreRows};
+ghost use Rattle.lq_fresh.specs.Wanted.{rows_types, AreRows};
 ghost use Rattle.lq_normalize.specs.Made.{normal_view};
 ghost use Rattle.lq_notes.specs.Noted.{annotation_of};
 ghost use Rattle.lq_parts.specs.Part.{Scopes as ScopeLists};
@@ -13,9 +13,8 @@ ghost use Rattle.lq_points.specs.Templates.{Datatypes as Defined, templates_from
 ghost use Rattle.lq_scoped.specs.Signature.{signature_in};
 ghost use Rattle.lq_fresh.specs.Defined.{ordered_in};
 
-use lq_fresh::{Datatypes, Given, Templates};
+use lq_fresh::{Datatypes, Given, Templates, make};
 use lq_instances::Scopes;
-use lq_made::make;
 use lq_normalize::NormalProgram;
 use lq_notes::Noted;
 use lq_pointed::{Item, Point};
@@ -53,19 +52,19 @@ pub fn templates_of(
     ensures there { IfOk result (λ m. AreRows m.templates m.rows.items) }
 {
     let notes = noted.notes();
-    let mut scopes = Scopes::new(alloc)?;
-    let reading = read(alloc, normal.definitions(), &notes, &mut scopes)?;
+    let scopes = Scopes::new(alloc)?;
+    let reading = read(alloc, normal.definitions(), &notes, scopes)?;
     let datatypes = Datatypes::new(alloc, noted.program().annotated().scoped().datatypes())?;
     let given = Given {
         types: notes.types,
         datatypes: &datatypes,
     };
-    let mut templates = Templates::over(alloc, scopes);
-    let rows = make(alloc, &mut templates, &given, &reading.points)?;
+    let templates = Templates::over(alloc, reading.scopes);
+    let made = make(alloc, templates, &given, &reading.points)?;
     Ok(Made {
         program: reading.items,
         points: reading.points,
-        templates,
-        rows,
+        templates: made.templates,
+        rows: made.rows,
     })
 }

@@ -23,13 +23,13 @@ use lq_pointed::{Item, Operation, Point};
 use lq_tree::{Pat, PatNode};
 use lq_visible::{Bound, Notes};
 use std::alloc::{AllocError, Global};
-use std::mem;
 
-/// A program as the typing rules have it, with its points in the order of the text.
+/// A program as the typing rules have it, with its points in the order of the text, and the scopes of which these speak.
 #[derive(Drop)]
 pub struct Reading {
     pub items: Vec<Item>,
     pub points: Vec<Point>,
+    pub scopes: Scopes,
 }
 
 impl State {
@@ -147,36 +147,31 @@ impl State {
     }
 }
 
-/// Reads a normal program as the typing rules have it, with its points. The scopes of the points are put behind those of the table.
+/// Reads a normal program as the typing rules have it, with its points. The scopes of the points come behind these.
 pub fn read(
     alloc: Global,
     definitions: &[Definition],
     notes: &Notes<'_>,
-    scopes: &mut Scopes,
+    scopes: Scopes,
 ) -> Result<Reading, AllocError>
     requires { IsRight notes.now }
     ensures program { IfOk result (λ r. made.program_view r.items.items
         ≡ (program_of (annotation_view notes.now) (definitions_view definitions.now)).read) }
-    ensures points { IfOk result (λ r. points_view (scopes_view scopes.new) (types_in notes.now) r.points.items
+    ensures points { IfOk result (λ r. points_view (scopes_view r.scopes) (types_in notes.now) r.points.items
         ≡ (program_of (annotation_view notes.now) (definitions_view definitions.now)).points) }
-    ensures there { IfOk result (λ r. All (IsThere (length (scopes_view scopes.new)) (length (types_in notes.now))) r.points.items) }
-    ensures grown { OnOk result (Longer (scopes_view scopes.old) (scopes_view scopes.new)) }
+    ensures there { IfOk result (λ r. All (IsThere (length (scopes_view r.scopes)) (length (types_in notes.now))) r.points.items) }
+    ensures grown { IfOk result (λ r. Longer (scopes_view scopes) (scopes_view r.scopes)) }
 {
-    let nothing = Scopes::new(alloc)?;
     let mut state = State {
         alloc,
-        scopes: mem::replace(scopes, nothing),
+        scopes,
         bound: Bound::new(alloc),
         points: Vec::new(alloc),
     };
-    let result = state.items(notes, definitions);
-    let State {
-        alloc: _,
-        scopes: grown,
-        bound: _,
-        points,
-    } = state;
-    *scopes = grown;
-    let items = result?;
-    Ok(Reading { items, points })
+    let items = state.items(notes, definitions)?;
+    Ok(Reading {
+        items,
+        points: state.points,
+        scopes: state.scopes,
+    })
 }

@@ -20,11 +20,11 @@ returns-clause-templates c D constructors ordered scopes =
     described c.in_ok-datatypes.datatypes D ds (annotated.program_of m.program.annotated).datatypes same c.requires.differ c.in_ok-datatypes.ensures constructors
     ordered in
     let points =
-    points_same (scopes_of c.over-templates.result) (scopes_view c.read.new.scopes) (types_in c.notes-notes.result) c.deref.result.now
+    points_same (scopes_of c.over-templates.result) (scopes_view c.in_ok-reading.reading.scopes) (types_in c.notes-notes.result) c.deref.result.now
     c.in_ok-reading.reading.points.items (annotation_view c.notes-notes.result) (annotation_of m) (definitions_view c.definitions.result.now)
     (normal_view c.args.normal.now).items c.over-templates.ensures.scopes c.deref.ensures.value c.in_ok-reading.ensures.points c.notes-notes.ensures.view
     c.definitions.ensures in
-    c.in_ok-rows.ensures.refined D describes scopes ∙ ap₂ (λ us ps. templates_from D (length us) ps) c.over-templates.ensures.unknowns points
+    c.in_ok-made.ensures.refined D describes scopes ∙ ap₂ (λ us ps. templates_from D (length us) ps) c.over-templates.ensures.unknowns points
 
 pub returns-clause-unknowns : goal.returns-clause-unknowns
 returns-clause-unknowns c D constructors ordered =
@@ -35,9 +35,9 @@ returns-clause-unknowns c D constructors ordered =
     described c.in_ok-datatypes.datatypes D ds (annotated.program_of m.program.annotated).datatypes same c.requires.differ c.in_ok-datatypes.ensures constructors
     ordered in
     let points =
-    points_same (scopes_of c.over-templates.result) (scopes_view c.read.new.scopes) (types_in c.notes-notes.result) c.deref.result.now
+    points_same (scopes_of c.over-templates.result) (scopes_view c.in_ok-reading.reading.scopes) (types_in c.notes-notes.result) c.deref.result.now
     c.in_ok-reading.reading.points.items (annotation_view c.notes-notes.result) (annotation_of m) (definitions_view c.definitions.result.now)
     (normal_view c.args.normal.now).items c.over-templates.ensures.scopes c.deref.ensures.value c.in_ok-reading.ensures.points c.notes-notes.ensures.view
     c.definitions.ensures in
-    let made = c.in_ok-rows.ensures.made D describes in
+    let made = c.in_ok-made.ensures.made D describes in
     made.unknowns ∙ ap₂ (λ us ps. us ++ unknowns_from D (length us) ps) c.over-templates.ensures.unknowns points

@@ -13,4 +13,4 @@ returns-clause-program c =
     let is = definitions_view c.args.definitions.now in
     sym (items_onto-all c.in_ok-items.items.items)
     ∙ (ap (λ (r : Read t.Program). r.read) (sym c.in_ok-items.ensures.is)
-    ∙ ap₂ (λ k Δ. (program_from n k Δ is).read) (ap length c.new-3.ensures.items) c.new-2.ensures.seen)
+    ∙ ap₂ (λ k Δ. (program_from n k Δ is).read) (ap length c.new-2.ensures.items) c.new.ensures.seen)

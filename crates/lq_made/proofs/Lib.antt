@@ -1,4 +1,0 @@
-mod Alone
-mod Plains
-mod Following
-mod Numbering

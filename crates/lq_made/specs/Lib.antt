@@ -1,5 +1,0 @@
--- The templates of points: definitions.
-pub mod Numbered
-pub mod Standing
-pub mod There
-pub mod Wanted
