@@ -44,11 +44,11 @@ pub fn judge_counted(
     ensures safe { IfOk result (λ j. IsSafe (bytes_of program.now measures.now quals.now) j.judgement) }
 {
     accepted_are_safe();
-    let mut posed = match pose_texts(alloc, program, measures, quals) {
+    let posed = match pose_texts(alloc, program, measures, quals) {
         Ok(posed) => posed,
         Err(refusing) => return Err(refusal_of(alloc, refusing)),
     };
-    let judged = verdict_on(alloc, &mut posed, limit)?;
+    let judged = verdict_on(alloc, posed, limit)?;
     Ok(judged)
 }
 

@@ -180,14 +180,15 @@ fn judgement_by(
     }
 }
 
-/// The judgement on what was posed, and how much was solved for it. A check of the prover takes at most `limit` pivots.
-pub fn verdict_on(alloc: Global, posed: &mut PosedTexts, limit: u64) -> Result<Judged, AllocError>
-    requires { IsPosed posed.old }
-    ensures { IfOk result (λ j. (t : Typed) → IsPosedView posed.old t → IsVerdictOn limit t j.judgement × HasCounts t j.counts) }
+/// The judgement on what was posed, and how much was solved for it. A check of the prover takes at most `limit` pivots. What was posed is used
+/// up.
+pub fn verdict_on(alloc: Global, mut posed: PosedTexts, limit: u64) -> Result<Judged, AllocError>
+    requires { IsPosed posed }
+    ensures { IfOk result (λ j. (t : Typed) → IsPosedView posed t → IsVerdictOn limit t j.judgement × HasCounts t j.counts) }
 {
     let counts = counts_of(&posed.problem);
     let problem = &posed.problem;
     let solved = solve(alloc, &problem.implications, &problem.instances, limit);
-    let judgement = judgement_by(alloc, posed, &solved)?;
+    let judgement = judgement_by(alloc, &mut posed, &solved)?;
     Ok(Judged { counts, judgement })
 }

@@ -7,7 +7,7 @@ use Rattle.lq_verdict.proofs.verdict.verdict_on.Goals as goal
 
 pub judgement_by-requires-clause-solved : goal.judgement_by-requires-clause-solved
 judgement_by-requires-clause-solved c =
-    let m = c.args.posed.now in (
+    let m = c.args.posed in (
       c.args.limit,
       solution_is c.args.limit (instances_in m.problem.instances) (constraints_of m.problem.implications) c.solve-solved.result
           c.solve-solved.ensures.solved c.solve-solved.ensures.gathered c.solve-solved.ensures.stop,
@@ -16,7 +16,7 @@ judgement_by-requires-clause-solved c =
 pub returns : goal.returns
 returns c =
     λ t view.
-    let m = c.args.posed.now in
+    let m = c.args.posed in
     let counts = c.counts_of-counts.ensures in
     let solution = solution_is c.args.limit (instances_in m.problem.instances) (constraints_of m.problem.implications) c.solve-solved.result
     c.solve-solved.ensures.solved c.solve-solved.ensures.gathered c.solve-solved.ensures.stop in (
