@@ -31,7 +31,7 @@ use lq_combine::proved_implications_are_valid;
 use lq_linear::LinearStop;
 use lq_literals::{first_past, flags, objects, sources_have_the_literals};
 use lq_pred::{Closed, Nnf, Stop, TermTable, rows_say_what_comparisons_say};
-use lq_search::{Givens, SearchPath, all_pairs, search_with};
+use lq_search::{Givens, SearchPath, Searched, all_pairs, search_reading};
 use std::alloc::{AllocError, Global};
 
 /// The stop of an engine.
@@ -65,7 +65,7 @@ fn prove_path<'a>(
     implication: &Closed,
     reading: &'a Nnf,
     givens: &Givens<'a>,
-    path: &mut SearchPath<'a>,
+    path: SearchPath<'a>,
 ) -> Result<Answer, Stop>
     requires gathers { CanBeGathered (implication_of implication.now) }
     requires terms { (scope_of givens.now).terms ≡ terms_in (implication_of implication.now) }
@@ -73,25 +73,29 @@ fn prove_path<'a>(
     requires within { IsWithin (scope_of givens.now) (nnf_view reading.now) }
     requires given { AreGiven (scope_of givens.now) givens.now.pairs.now }
     requires all { AreAllPairs (scope_of givens.now).terms givens.now.pairs.now }
-    requires ready { IsReadyFor (nnf_view reading.now) (scope_of givens.now) givens.now.pairs.now path.old }
-    requires nothing { path_of (scope_of givens.now) path.old ≡ nothing }
-    requires handed { HasHanded path.old.state [] }
+    requires ready { IsReadyFor (nnf_view reading.now) (scope_of givens.now) givens.now.pairs.now path }
+    requires nothing { path_of (scope_of givens.now) path ≡ nothing }
+    requires handed { HasHanded path.state [] }
     requires ordered { AreOrdered givens.now.pairs.now }
-    requires sizes { most_on (scope_of givens.now) path.old ≤ sizes (pair_literals (scope_of givens.now).terms) }
+    requires sizes { most_on (scope_of givens.now) path ≤ sizes (pair_literals (scope_of givens.now).terms) }
     ensures tree { IfOk result (λ answer. IfValid answer (λ t. ProvesImplication (implication_of implication.now)
         (tree_view t))) }
     ensures point { IfOk result (λ answer. IfFails answer (λ p. IsCounterexample (implication_of implication.now)
         (as_point p))) }
     ensures readable { IfOk result (λ answer. IfFails answer (IsReadable (implication_of implication.now))) }
-    ensures stop { IfErr result (StopsProving path.old.state.rows.pivots (implication_of implication.now)) }
+    ensures stop { IfErr result (StopsProving path.entry.state.rows.pivots (implication_of implication.now)) }
 {
-    match search_with(alloc, givens, path, reading) {
-        Ok(Some(tree)) => Ok(Answer::Valid(tree)),
-        Ok(None) => match point_of(alloc, implication, reading, givens, path) {
+    let searched = match search_reading(alloc, givens, path, reading) {
+        Ok(searched) => searched,
+        Err(stop) => return Err(stop_of(stop)),
+    };
+    let Searched { tree, path: met } = searched;
+    match tree {
+        Some(tree) => Ok(Answer::Valid(tree)),
+        None => match point_of(alloc, implication, reading, givens, &met) {
             Ok(point) => Ok(Answer::Fails(point)),
             Err(stop) => Err(stop),
         },
-        Err(stop) => Err(stop_of(stop)),
     }
 }
 
@@ -121,32 +125,31 @@ fn prove_given<'a>(
     let Ok(state) = state_of(alloc, givens, limit) else {
         return Err(Stop::Memory);
     };
-    let Ok(mut path) = SearchPath::new(alloc, state, givens.pairs) else {
+    let Ok(path) = SearchPath::new(alloc, state, givens.pairs) else {
         return Err(Stop::Memory);
     };
-    prove_path(alloc, implication, reading, givens, &mut path)
+    prove_path(alloc, implication, reading, givens, path)
 }
 
 /// Whether an implication is valid, by the reading of its hypotheses and its negated goal: all of them in order, whose rows are over the
-/// terms of the implication. Both tables have these terms, and keep them.
+/// terms of the implication. Both tables have these terms; the second one is used up.
 pub fn prove(
     alloc: Global,
     implication: &Closed,
     reading: &Nnf,
     table: &TermTable,
-    copied: &mut TermTable,
+    copied: TermTable,
     limit: u64,
 ) -> Result<Answer, Stop>
     requires gathers { CanBeGathered (implication_of implication.now) }
     requires terms { terms_of table.now ≡ terms_in (implication_of implication.now) }
-    requires copied { terms_of copied.old ≡ terms_in (implication_of implication.now) }
+    requires copied { terms_of copied ≡ terms_in (implication_of implication.now) }
     requires opening { IsOpeningReading (terms_of table.now) (implication_of implication.now) (nnf_view reading.now) }
     ensures tree { IfOk result (λ answer. IfValid answer (λ t. ProvesImplication (implication_of implication.now)
         (tree_view t))) }
     ensures point { IfOk result (λ answer. IfFails answer (λ p. IsCounterexample (implication_of implication.now)
         (as_point p))) }
     ensures readable { IfOk result (λ answer. IfFails answer (IsReadable (implication_of implication.now))) }
-    ensures copied { OnOk result (terms_of copied.new ≡ terms_in (implication_of implication.now)) }
     ensures stop { IfErr result (StopsProving limit (implication_of implication.now)) }
     ensures small { IfErr result (λ stop. IsSmallDifference (implication_of implication.now) → StopsSmall stop) }
 {
@@ -193,7 +196,7 @@ fn prove_gathered(alloc: Global, implication: &Closed, limit: u64) -> Result<Ans
     let Ok(reading) = opening_reading(alloc, implication, &mut copied) else {
         return Err(Stop::Memory);
     };
-    prove(alloc, implication, &reading, &table, &mut copied, limit)
+    prove(alloc, implication, &reading, &table, copied, limit)
 }
 
 /// Whether an implication is valid: with a tree that proves it, or with a point that meets its hypotheses and its negated goal. Where a

@@ -24,5 +24,5 @@ pub use opening::first_open;
 pub use pair::Pair;
 pub use pairs::all_pairs;
 pub use search_path::SearchPath;
-pub use searching::{search, search_with};
+pub use searching::{Searched, search_reading};
 pub use sparing::without_reading;

@@ -96,16 +96,15 @@ fn add_pairs_with(
 }
 
 /// All pairs of applications of one of `*`, `/` and `mod` among the terms. The rows of their ways are over the terms, which the table
-/// has too.
+/// has too; the table is used up.
 pub fn all_pairs(
     alloc: Global,
     terms: &TermTable,
-    table: &mut TermTable,
+    mut table: TermTable,
 ) -> Result<Vec<Pair>, AllocError>
     requires arguments { HasAllArguments (terms_of terms.now) (terms_of terms.now) }
     requires fits { All CanGather (pair_literals (terms_of terms.now)) }
-    requires table { terms_of table.old ≡ terms_of terms.now }
-    ensures same { OnOk result (terms_of table.new ≡ terms_of terms.now) }
+    requires table { terms_of table ≡ terms_of terms.now }
     ensures pairs { IfOk result (λ pairs. AreAllPairs (terms_of terms.now) pairs.items) }
     ensures ordered { IfOk result (λ pairs. AreOrdered pairs.items) }
     ensures sizes { IfOk result (λ pairs. most_of_each (ways_of pairs.items) ≤ sizes (pair_literals (terms_of terms.now))) }
@@ -113,7 +112,14 @@ pub fn all_pairs(
     let places = applications(alloc, terms)?;
     let mut pairs = Vec::new(alloc);
     for right in 0..places.len() {
-        add_pairs_with(alloc, terms, places.as_slice(), right, table, &mut pairs)?;
+        add_pairs_with(
+            alloc,
+            terms,
+            places.as_slice(),
+            right,
+            &mut table,
+            &mut pairs,
+        )?;
     }
     Ok(pairs)
 }

@@ -26,10 +26,10 @@ use lq_linear::LinearStop;
 use lq_pred::{Nnf, Nnfs};
 use std::alloc::{AllocError, Global};
 
-/// A tree that proves a path, which is then as before. Where there is none, nothing is left to split: of each choice and of each pair a
-/// member was taken or is met, and values are known.
+// A tree that proves a path, which is then as before. Where there is none, nothing is left to split: of each choice and of each pair a
+// member was taken or is met, and values are known.
 #[cycle(search)]
-pub fn search<'a>(
+fn search<'a>(
     alloc: Global,
     givens: &Givens<'a>,
     path: &mut SearchPath<'a>,
@@ -237,9 +237,9 @@ fn refute_with<'a>(
     }
 }
 
-/// Takes a reading and searches. Where a tree is found, the path may have more facts and choices than before.
+// Takes a reading and searches. Where a tree is found, the path may have more facts and choices than before.
 #[cycle(search)]
-pub fn search_with<'a>(
+fn search_with<'a>(
     alloc: Global,
     givens: &Givens<'a>,
     path: &mut SearchPath<'a>,
@@ -269,4 +269,34 @@ pub fn search_with<'a>(
         return Ok(Some(leaf));
     }
     search(alloc, givens, path)
+}
+
+/// What a search comes to: a tree that proves the path, where there is one, and the path behind the search.
+#[derive(Drop)]
+pub struct Searched<'a> {
+    pub tree: Option<ProofTree>,
+    pub path: SearchPath<'a>,
+}
+
+/// Searches a path on which a reading is taken. Where there is no tree, nothing is left to split: of each choice and of each pair a member was
+/// taken or is met, and values are known. Where the search stops, nothing of the path is left.
+pub fn search_reading<'a>(
+    alloc: Global,
+    givens: &Givens<'a>,
+    mut path: SearchPath<'a>,
+    reading: &'a Nnf,
+) -> Result<Searched<'a>, LinearStop>
+    requires given { AreGiven (scope_of givens.now) givens.now.pairs.now }
+    requires within { IsWithin (scope_of givens.now) (nnf_view reading.now) }
+    requires ready { IsReadyFor (nnf_view reading.now) (scope_of givens.now) givens.now.pairs.now path }
+    ensures tree { IfOk result (λ s. IfSome s.tree (λ t. Proves (numbering_by (scope_of givens.now).terms)
+        (taken (path_of (scope_of givens.now) path.entry) (nnf_view reading.now)) (tree_view t))) }
+    ensures met { IfOk result (λ s. IfNone s.tree (EndsMet (scope_of givens.now) givens.now.pairs.now
+        (taken (path_of (scope_of givens.now) path.entry) (nnf_view reading.now)) s.path)) }
+    ensures reached { IfOk result (λ s. IfNone s.tree (ReachesFrom (nnf_view reading.now) (scope_of givens.now)
+        givens.now.pairs.now path.entry s.path)) }
+    ensures stop { IfErr result (StopsFrom (nnf_view reading.now) (scope_of givens.now) givens.now.pairs.now path.entry) }
+{
+    let tree = search_with(alloc, givens, &mut path, reading)?;
+    Ok(Searched { tree, path })
 }

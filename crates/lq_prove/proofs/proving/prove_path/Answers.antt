@@ -12,22 +12,22 @@ use Rattle.lq_search.specs.SearchPath.{EndsMet, facts_of, scope_of, ways_of}
 use Rattle.lq_search.specs.Sizes.{most, row_size}
 use Rattle.lq_search.specs.Stopping.{MayReach, StopsSearch, most_on}
 use Rattle.lq_prove.proofs.Ending.{proves_implication}
-use Rattle.lq_prove.proofs.Stopped.{begins, its_facts, search_stops}
+use Rattle.lq_prove.proofs.Stopped.{begins, its_facts, point_stops, search_stops}
 use Rattle.lq_prove.proofs.proving.prove_path.Goals as goal
 
 pub point_of-requires-clause-met : goal.point_of-requires-clause-met
 point_of-requires-clause-met c =
     let s = scope_of c.args.givens.now in
     let r = nnf_view c.args.reading.now in
-    subst (λ p. EndsMet s c.args.givens.now.pairs.now (taken p r) c.search_with.new.path) c.requires.nothing (rw c.in-Ok-None.field-0-is at c.in-Ok-None.ensures.met)
+    subst (λ p. EndsMet s c.args.givens.now.pairs.now (taken p r) c.in-Ok.searched.path) c.requires.nothing (rw c.in-None.is at c.in-Ok.ensures.met)
 
-pub returns-in-Ok-Some-clause-tree : goal.returns-in-Ok-Some-clause-tree
-returns-in-Ok-Some-clause-tree c =
+pub returns-in-Some-clause-tree : goal.returns-in-Some-clause-tree
+returns-in-Some-clause-tree c =
     let s = scope_of c.args.givens.now in
     let i = implication_of c.args.implication.now in
     let r = nnf_view c.args.reading.now in
-    proves_implication s.terms i r (tree_view c.in-Ok-Some.tree) c.requires.terms c.requires.opening
-    (subst (λ p. Proves (numbering_by s.terms) (taken p r) (tree_view c.in-Ok-Some.tree)) c.requires.nothing (rw c.in-Ok-Some.field-0-is at c.in-Ok-Some.ensures.tree))
+    proves_implication s.terms i r (tree_view c.in-Some.tree) c.requires.terms c.requires.opening
+    (subst (λ p. Proves (numbering_by s.terms) (taken p r) (tree_view c.in-Some.tree)) c.requires.nothing (rw c.in-Some.is at c.in-Ok.ensures.tree))
 
 pub point_of-requires-clause-facts : goal.point_of-requires-clause-facts
 point_of-requires-clause-facts c =
@@ -35,12 +35,12 @@ point_of-requires-clause-facts c =
     let i = implication_of c.args.implication.now in
     let r = nnf_view c.args.reading.now in
     let pairs = c.args.givens.now.pairs.now in
-    let n = most_on s c.args.path.now in
+    let n = most_on s c.args.path in
     let preds = pred_items c.args.implication.now.hypotheses in
     let le = subst (λ ts. n ≤ sizes (all_pairs ts)) c.requires.terms c.requires.sizes in
-    let facts = facts_of s c.search_with.new.path in
+    let facts = facts_of s c.in-Ok.searched.path in
     its_facts i preds r pairs n facts (begins s.terms i preds r pairs c.requires.terms refl c.requires.opening c.requires.given.each c.requires.ordered) le
-    (subst (λ p. MayReach (taken p r) (ways_of pairs) (n + most row_size r) facts) c.requires.nothing (rw c.in-Ok-None.field-0-is at c.in-Ok-None.ensures.reached))
+    (subst (λ p. MayReach (taken p r) (ways_of pairs) (n + most row_size r) facts) c.requires.nothing (rw c.in-None.is at c.in-Ok.ensures.reached))
 
 pub returns-in-Err-clause-stop : goal.returns-in-Err-clause-stop
 returns-in-Err-clause-stop c =
@@ -48,11 +48,16 @@ returns-in-Err-clause-stop c =
     let i = implication_of c.args.implication.now in
     let r = nnf_view c.args.reading.now in
     let pairs = c.args.givens.now.pairs.now in
-    let limit = c.args.path.now.state.rows.pivots in
-    let n = most_on s c.args.path.now in
+    let limit = c.args.path.state.rows.pivots in
+    let n = most_on s c.args.path in
     let preds = pred_items c.args.implication.now.hypotheses in
     let le = subst (λ ts. n ≤ sizes (all_pairs ts)) c.requires.terms c.requires.sizes in
-    let terms = row_terms c.args.path.now.state.rows in
+    let terms = row_terms c.args.path.state.rows in
     search_stops terms limit i preds r pairs n c.in-Err.stop c.stop_of.result (c.requires.ready.terms_are ∙ ap length c.requires.terms) c.requires.gathers
     (begins s.terms i preds r pairs c.requires.terms refl c.requires.opening c.requires.given.each c.requires.ordered) le c.stop_of.ensures
     (subst (λ p. StopsSearch terms limit [] (taken p r) (ways_of pairs) (n + most row_size r) c.in-Err.stop) c.requires.nothing (c.in-Err.ensures.stop [] c.requires.handed))
+
+pub returns-clause-stop : goal.returns-clause-stop
+returns-clause-stop c =
+    point_stops c.args.path.state.rows.pivots (implication_of c.args.implication.now) c.in-Err-point_of.stop c.requires.gathers
+    c.in-Err-point_of.ensures.stop

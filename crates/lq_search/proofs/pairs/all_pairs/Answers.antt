@@ -1,7 +1,16 @@
-use Rattle.std.proofs.Common.{◌≤◌, length, subst, arith}
+use Rattle.std.proofs.Common.{◌≤◌, length, sym, subst, arith}
+use Rattle.std.proofs.Math.Numerals.{add-one}
 use Rattle.lq_pred.specs.TableView.{terms_of}
+use Rattle.lq_search.specs.Pairs.{ArePairsUpTo}
 use Rattle.lq_search.proofs.Along.{upto_end, upto_ordered, upto_sizes}
 use Rattle.lq_search.proofs.pairs.all_pairs.Goals as goal
+
+pub loop-right-preserved : goal.loop-right-preserved
+loop-right-preserved c = (
+  c.in_ok-add_pairs_with.ensures.same,
+  subst (λ k. ArePairsUpTo (terms_of c.args.terms.now) k c.add_pairs_with.new.pairs.items) (sym (add-one c.loop-right.right))
+      (c.in_ok-add_pairs_with.ensures.pairs c.loop-right.invariant.1),
+)
 
 pub returns-clause-pairs : goal.returns-clause-pairs
 returns-clause-pairs c =
