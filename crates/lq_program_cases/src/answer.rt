@@ -11,6 +11,12 @@ fn run(alloc: Global, setting: &mut Setting) -> Result<Option<String>, AllocErro
     Ok(Some(whole.run(alloc)?))
 }
 
+// Runs on prefixes with what was set, which begins anew.
+fn prefixes(alloc: Global, setting: &mut Setting) -> Result<Option<String>, AllocError> {
+    let whole = mem::replace(setting, Setting::new(alloc));
+    Ok(Some(whole.prefixes(alloc)?))
+}
+
 /// The answer to a line that has one.
 pub(crate) fn answer(
     alloc: Global,
@@ -28,6 +34,7 @@ pub(crate) fn answer(
             setting.add_file(String::from_str(alloc, "p.ml")?, text)?;
             return run(alloc, setting);
         }
+        Some(Line::Prefixes) => return prefixes(alloc, setting),
         Some(Line::Calm(text)) => return Ok(Some(calm(alloc, text)?)),
         Some(Line::Refusal(refused)) => return Ok(Some(refused_text(alloc, &refused)?)),
         None => return Ok(Some(String::from_str(alloc, "not in the notation")?)),

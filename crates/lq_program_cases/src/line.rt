@@ -25,6 +25,8 @@ pub(crate) enum Line {
     Check(Vec<u8>),
     /// `calm TEXT`: a run with this text as `p.ml` over a folder and a sink that never fail.
     Calm(Vec<u8>),
+    /// `prefixes`: runs on the proper prefixes of `p.ml`, with what was set since the last one.
+    Prefixes,
     /// `refusal at program 1 2 3` and the other forms: the line on a refusal.
     Refusal(Refused),
 }
@@ -123,6 +125,7 @@ pub(crate) fn line_of(alloc: Global, line: &str) -> Result<Option<Line>, AllocEr
         ("sink", "fails") => Some(Line::SinkFails(numbers)),
         ("run", "") => Some(Line::Run),
         ("check", "") => Some(Line::Check(joined(alloc, &row.pieces)?)),
+        ("prefixes", "") => Some(Line::Prefixes),
         ("calm", "") => Some(Line::Calm(joined(alloc, &row.pieces)?)),
         _ => None,
     })
