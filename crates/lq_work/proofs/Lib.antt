@@ -1,0 +1,13 @@
+pub mod Scaled
+pub mod Common
+pub mod Fits
+pub mod Scene
+pub mod Over
+pub mod Summing
+pub mod Forming
+pub mod Exchanging
+pub mod Moving
+pub mod Rows
+pub mod Values
+pub mod Laws
+pub mod Example

@@ -1,0 +1,24 @@
+-- Work at a configuration of small sizes: the second one of the chain of two terms and the row "minus the first minus the second plus 1
+-- is at most 0". The first term is 1 there, the second 0, and their sum 1.
+use Rattle.std.specs.Prelude.{pos}
+use Rattle.lq_math.specs.Rational.{whole}
+use Rattle.lq_num.specs.declared.past.NumOp.TheVariants.{Add, Sub, Mul, Div, Neg}
+use Rattle.lq_linear.specs.Row.{sum_at}
+use Rattle.lq_pivots.specs.Configurations.{IsConfiguration}
+use Rattle.lq_pivots.specs.Example.{variables, row, rows, after}
+use Rattle.lq_work.specs.Sizes.{AreSmall}
+use Rattle.lq_work.specs.Work.{IsReading, IsForming, IsExchanging, IsMoving, IsSharing, IsLevel, IsWholeLevel}
+
+-- one operation of each kind: the constant is negated, the first term's value is taken once, 1 is divided by the entry of the first term
+-- at the sum, the second value is taken from the first, 1 is divided by the row's divisor, the constant is added to the row's sum, at these
+-- values and at 0
+pub record SomeWork : Type 0 where
+  pub small : AreSmall rows variables
+  pub configuration : IsConfiguration variables rows after
+  pub reading : IsReading rows Neg (whole (pos 1)) (whole (pos 1))
+  pub forming : IsForming variables after Mul (whole (pos 1)) (whole (pos 1))
+  pub exchanging : IsExchanging variables after Div (whole (pos 1)) (whole (pos 1))
+  pub moving : IsMoving variables rows after Sub (whole (pos 1)) (whole (pos 0))
+  pub sharing : IsSharing variables rows after Div (whole (pos 1)) (whole (pos 1))
+  pub level : IsLevel rows after Add (sum_at after.value row.parts) (whole (pos 1))
+  pub whole_level : IsWholeLevel variables rows Add (sum_at (λ t. whole (pos 0)) row.parts) (whole (pos 1))

@@ -1,0 +1,5 @@
+pub mod Needs
+pub mod Sizes
+pub mod Work
+pub mod Laws
+pub mod Example

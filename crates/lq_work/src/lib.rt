@@ -1,0 +1,67 @@
+//! The work of a tableau at a configuration, as operations on fractions, and how large the numbers are that it needs.
+#![tactic(auto)]
+
+ghost use Rattle.lq_work.specs.Example.{SomeWork};
+ghost use Rattle.lq_work.specs.Laws.{SmallFit, ValuesAreQuotients, WorkIsSmall, WorkFits};
+ghost use Rattle.lq_work.specs.Laws.{ReadingIsSmall, FormingIsSmall, ExchangingIsSmall, MovingIsSmall};
+ghost use Rattle.lq_work.specs.Laws.{SharingIsSmall, LevelIsSmall, WholeLevelIsSmall};
+
+/// One whole number, not 0, makes each entry whole, and times the least common multiple of the rows' divisors each value.
+pub fn values_are_quotients()
+    ensures { ValuesAreQuotients }
+{}
+
+/// What is done to read a row needs numerators and denominators of at most 2^40.
+pub fn reading_is_small()
+    ensures { ReadingIsSmall }
+{}
+
+/// What is done to add a form needs numerators of at most 2^80 and denominators of at most 2^40.
+pub fn forming_is_small()
+    ensures { FormingIsSmall }
+{}
+
+/// What is done to exchange two variables needs numerators of at most 2^81 and denominators of at most 2^80.
+pub fn exchanging_is_small()
+    ensures { ExchangingIsSmall }
+{}
+
+/// What is done to move a variable to a bound needs numerators of at most 2^82 and denominators of at most 2^80.
+pub fn moving_is_small()
+    ensures { MovingIsSmall }
+{}
+
+/// What is done to find the multipliers of a conflict needs numerators and denominators of at most 2^40.
+pub fn sharing_is_small()
+    ensures { SharingIsSmall }
+{}
+
+/// What is done to evaluate a row at a configuration needs numerators of at most 2^80 + 2^40 and denominators of at most 2^40.
+pub fn levels_are_small()
+    ensures { LevelIsSmall }
+{}
+
+/// What is done to evaluate a row at whole numbers needs numerators of at most 2^103 + 2^40, over 1.
+pub fn whole_levels_are_small()
+    ensures { WholeLevelIsSmall }
+{}
+
+/// No work needs a numerator of 2^104 or more, or a denominator above 2^80.
+pub fn work_is_small()
+    ensures { WorkIsSmall }
+{}
+
+/// An operation that needs no number of 2^127 or more isn't past 128 bits.
+pub fn small_needs_fit()
+    ensures { SmallFit }
+{}
+
+/// No work is past 128 bits.
+pub fn work_fits()
+    ensures { WorkFits }
+{}
+
+/// There is work at a configuration of small sizes.
+pub fn some_work_is_small()
+    ensures { SomeWork }
+{}
