@@ -14,7 +14,7 @@ use Rattle.lq_cramer.proofs.Example.{is_configuration}
 use Rattle.lq_work.specs.Sizes.{IsDivisor, AreSized}
 use Rattle.lq_linear.specs.Steps.{IsStep}
 use Rattle.lq_work.specs.Work.{IsReading, IsEntry, IsSumming, IsForming, IsExchanging, IsPlace, IsMoving, IsSharing, AreWhole}
-use Rattle.lq_work.specs.Example.{SomeWork}
+use Rattle.lq_work.specs.Example.{SomeWork, SomeForm}
 
 one_row : (r : Row) → Contains rows r → row ≡ r
 one_row r there = by there.0 there.1 there.2
@@ -84,4 +84,11 @@ some_work = record {
   sharing = IsSharing.quotient row 1 (whole (pos 1)) there is_divisor (inl refl);
   level = record { row = row; there = there; step = IsStep.constant_sum };
   whole_level = record { row = row; there = there; values = λ t. whole (pos 0); whole_values = zeros; step = IsStep.constant_sum };
+}
+
+pub some_form : SomeForm
+some_form = record {
+  first = record { terms_in = omega arith; named = are_variables.named };
+  below = (omega arith, (omega arith, tt));
+  configuration = is_configuration;
 }

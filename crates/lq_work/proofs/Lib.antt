@@ -9,5 +9,6 @@ pub mod Exchanging
 pub mod Moving
 pub mod Rows
 pub mod Values
+pub mod Extension
 pub mod Laws
 pub mod Example

@@ -1,6 +1,9 @@
--- Work at a configuration of small sizes: the second one of the chain of two terms and the row "minus the first minus the second plus 1
--- is at most 0". The first term is 1 there, the second 0, and their sum 1.
-use Rattle.std.specs.Prelude.{pos}
+-- Work at a configuration of small sizes, and a form to add: the second configuration of the chain of two terms and the row "minus the
+-- first minus the second plus 1 is at most 0". The first term is 1 there, the second 0, and their sum 1.
+use Rattle.std.specs.Prelude.{pos, negsuc, [], ◌∷◌}
+use Rattle.lq_linear.specs.Difference.{TermsBelow}
+use Rattle.lq_linear.specs.Forms.{Parts}
+use Rattle.lq_work.specs.Extension.{TermsFirst}
 use Rattle.lq_math.specs.Rational.{whole}
 use Rattle.lq_num.specs.declared.past.NumOp.TheVariants.{Add, Sub, Mul, Div, Neg}
 use Rattle.lq_linear.specs.Row.{sum_at}
@@ -22,3 +25,13 @@ pub record SomeWork : Type 0 where
   pub sharing : IsSharing variables rows after Div (whole (pos 1)) (whole (pos 1))
   pub level : IsLevel rows after Add (sum_at after.value row.parts) (whole (pos 1))
   pub whole_level : IsWholeLevel variables rows Add (sum_at (λ t. whole (pos 0)) row.parts) (whole (pos 1))
+
+-- the first term minus the second
+abbrev pub further : Parts
+further = (0, pos 1) ∷ (1, negsuc 0) ∷ []
+
+-- a form to add
+pub record SomeForm : Type 0 where
+  pub first : TermsFirst variables
+  pub below : TermsBelow variables.terms further
+  pub configuration : IsConfiguration variables rows after

@@ -1,5 +1,6 @@
 pub mod Needs
 pub mod Sizes
 pub mod Work
+pub mod Extension
 pub mod Laws
 pub mod Example

@@ -1,7 +1,8 @@
 //! The work of a tableau at a configuration, as operations on fractions, and how large the numbers are that it needs.
 #![tactic(auto)]
 
-ghost use Rattle.lq_work.specs.Example.{SomeWork};
+ghost use Rattle.lq_work.specs.Example.{SomeWork, SomeForm};
+ghost use Rattle.lq_work.specs.Extension.{FormsCanBeAdded};
 ghost use Rattle.lq_work.specs.Laws.{SmallFit, ValuesAreQuotients, WorkIsSmall, WorkFits};
 ghost use Rattle.lq_work.specs.Laws.{ReadingIsSmall, FormingIsSmall, ExchangingIsSmall, MovingIsSmall};
 ghost use Rattle.lq_work.specs.Laws.{SharingIsSmall, LevelIsSmall, WholeLevelIsSmall};
@@ -64,4 +65,14 @@ pub fn work_fits()
 /// There is work at a configuration of small sizes.
 pub fn some_work_is_small()
     ensures { SomeWork }
+{}
+
+/// A configuration with one more form, which has its terms' entries and values summed, is one of these variables.
+pub fn forms_can_be_added()
+    ensures { FormsCanBeAdded }
+{}
+
+/// There is a form that can be added.
+pub fn some_form_can_be_added()
+    ensures { SomeForm }
 {}
