@@ -4,6 +4,7 @@
 
 mod askable;
 mod case;
+mod chains;
 mod engines;
 mod error;
 mod evidence;

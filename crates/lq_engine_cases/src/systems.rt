@@ -1,11 +1,12 @@
 // Cases of rows: `system ROWS`, `pivots LIMIT ROWS`, `values ROWS`, `multipliers ROWS`, `again ROWS then ROWS then ROWS`,
-// `generated SEED COUNT`.
+// `generated SEED COUNT`, `generated SEED COUNT limits`.
 ghost use Rattle.std.specs.Prelude.{◌≡◌, ◌≢◌, ◌<◌, [], length};
 ghost use Rattle.lq_linear.specs.Answers.{Stopped};
 ghost use Rattle.lq_linear.specs.Contradiction.{Tagged};
 ghost use Rattle.lq_linear.specs.Row.{Row};
 ghost use Rattle.lq_engine_cases.specs.Rows.{AreByPlace, IsAsked};
 
+use crate::chains::bounded;
 use crate::engines::{ROWS, outcome_of, take_rows};
 use crate::error::{CaseError, given};
 use crate::evidence::Outcome;
@@ -34,7 +35,11 @@ fn push_outcome(out: &mut String, outcome: &Outcome) -> Result<(), AllocError> {
 }
 
 /// The outcome of the tableau.
-fn by_tableau(alloc: Global, limit: u64, rows: &[RowCase]) -> Result<Outcome, CaseError> {
+pub(crate) fn by_tableau(
+    alloc: Global,
+    limit: u64,
+    rows: &[RowCase],
+) -> Result<Outcome, CaseError> {
     let mut tableau = Tableau::new(alloc, TERMS, limit)?;
     given(outcome_of(alloc, &mut tableau, rows, false)?)
 }
@@ -257,7 +262,7 @@ pub(crate) fn multiplied(alloc: Global, words: &[&str]) -> Result<String, CaseEr
 }
 
 /// The next number of a sequence.
-fn next_seed(seed: u64) -> u64 {
+pub(crate) fn next_seed(seed: u64) -> u64 {
     seed.wrapping_mul(6364136223846793005)
         .wrapping_add(1442695040888963407)
 }
@@ -267,14 +272,19 @@ fn small(seed: u64) -> i128 {
     (seed % 9) as i128 - 4
 }
 
-/// A generated row: over three terms, or over the first one alone, with sizes of at most 4.
-fn generated_row(alloc: Global, bits: u64, several: bool) -> Result<RowCase, CaseError> {
+/// A generated row over the terms from one number on and below another, of the first three, with sizes of at most 4.
+pub(crate) fn generated_row(
+    alloc: Global,
+    bits: u64,
+    from: u64,
+    end: u64,
+) -> Result<RowCase, CaseError> {
     let mut parts = Vec::new(alloc);
     let coefficients = [small(bits), small(bits / 9), small(bits / 81)];
-    let count = if several { 3 } else { 1 };
-    for (term, coefficient) in coefficients.iter().take(count).enumerate() {
-        if *coefficient != 0 {
-            parts.push((term as u64, *coefficient))?;
+    for (term, coefficient) in coefficients.iter().enumerate() {
+        let term = term as u64;
+        if from <= term && term < end && *coefficient != 0 {
+            parts.push((term, *coefficient))?;
         }
     }
     Ok(RowCase {
@@ -289,7 +299,8 @@ fn generated_rows(alloc: Global, seed: &mut u64) -> Result<Vec<RowCase>, CaseErr
     let mut rows = Vec::new(alloc);
     for at in 0..5 {
         *seed = next_seed(*seed);
-        rows.push(generated_row(alloc, *seed >> 20, at < 3)?)?;
+        let end = if at < 3 { 3 } else { 1 };
+        rows.push(generated_row(alloc, *seed >> 20, 0, end)?)?;
     }
     Ok(rows)
 }
@@ -315,10 +326,19 @@ fn decided(alloc: Global, first: u64, count: u32) -> Result<u32, CaseError> {
     Ok(decided)
 }
 
-/// How many of the generated systems are decided.
+/// How many of the generated systems are decided, or keep to the number of configurations of a chain at each limit.
 pub(crate) fn generated(alloc: Global, words: &[&str]) -> Result<String, CaseError> {
     let seed = given(given(words.first())?.parse::<u64>().ok())?;
     let count = given(given(words.get(1))?.parse::<u32>().ok())?;
-    let decided = decided(alloc, seed, count)?;
-    Ok(format!(in alloc; "{decided} decided")?)
+    match words.get(2) {
+        None => {
+            let decided = decided(alloc, seed, count)?;
+            Ok(format!(in alloc; "{decided} decided")?)
+        }
+        Some(word) if *word == "limits" => {
+            let bounded = bounded(alloc, seed, count)?;
+            Ok(format!(in alloc; "{bounded} within their bounds")?)
+        }
+        Some(_) => Err(CaseError::NotACase),
+    }
 }
