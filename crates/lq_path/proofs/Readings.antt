@@ -1,6 +1,6 @@
 -- Readings of the code in a row, one at a time.
-use Rattle.std.proofs.Common.{◌≡◌, ℕ, zero, suc, ◌+◌, ◌<◌, List, [], ◌∷◌, ◌++◌, length, map, take, drop, get_or, subst, refl, sym, ap, ◌∙◌, arith, rules, inl, inr}
-use Rattle.std.proofs.lemmas.List.{take_more, take-append-drop}
+use Rattle.std.proofs.Common.{◌≡◌, ℕ, zero, suc, ◌+◌, ◌<◌, List, [], ◌∷◌, ◌++◌, length, map, take, drop, get_or, subst, refl, sym, ap, ◌∙◌, arith, rules, inl, inr, below_more}
+use Rattle.std.proofs.lemmas.List.{get_or_default, take_more, take-append-drop}
 use Rattle.lq_linear.specs.Row.{Row, Valuation}
 use Rattle.lq_combine.specs.Path.{Path, taken, each_taken}
 use Rattle.lq_combine.specs.Tree.{Tree}
@@ -12,6 +12,7 @@ use Rattle.lq_pred.specs.Sum.{Sum}
 use Rattle.lq_pred.specs.declared.nnf.Nnf.{Nnf}
 use Rattle.lq_pred.specs.declared.nnf.Nnfs.{Nnfs}
 use Rattle.lq_pred.specs.declared.nnf.Nnf.{the_lemmas}
+use Rattle.lq_path.specs.Meeting.{IsPastIn, IsPastInAny}
 use Rattle.lq_path.specs.Readings.{IsOver, AreOver}
 use Rattle.lq_path.specs.SearchPath.{Begins, IsLeafOf}
 use Rattle.lq_path.proofs.Leaves.{ClashesStay, each_taken_begins, leaf_stays}
@@ -76,3 +77,28 @@ pub some_met : (v : Valuation) (p : Point) (items : List Nnf) (k : ℕ) (d : Nnf
 some_met v p [] k d w h = absurd (omega (arith, w))
 some_met v p (n ∷ items) zero d w h = inl h
 some_met v p (n ∷ items) (suc k) d w h = inr (some_met v p items k d (omega (arith, w)) h)
+
+-- ---- where it isn't known whether they are met
+
+pub past_at : (v : Valuation) (items : List Nnf) (k : ℕ) (d : Nnf) → k < length items → IsPastIn v (nnf_view (get_or items k d)) → IsPastInAny v (row_of items)
+past_at v [] k d w h = absurd (omega (arith, w))
+past_at v (n ∷ items) zero d w h = inl h
+past_at v (n ∷ items) (suc k) d w h = inr (past_at v items k d (omega (arith, w)) h)
+
+pub met_at : (v : Valuation) (p : Point) (items : List Nnf) (k : ℕ) (d : Nnf) → k < length items → MeetsAllRows v p (row_of items) → MeetsRows v p (nnf_view (get_or items k d))
+met_at v p [] k d w h = absurd (omega (arith, w))
+met_at v p (n ∷ items) zero d w h = h.0
+met_at v p (n ∷ items) (suc k) d w h = met_at v p items k d (omega (arith, w)) h.1
+
+pub some_past : (v : Valuation) (p : Point) (items : List Nnf) → ((k : ℕ) → k < length items → (d : Nnf) → MeetsRows v p (nnf_view (get_or items k d)) → IsPastIn v (nnf_view (get_or items k d)))
+    → MeetsAnyRow v p (row_of items) → IsPastInAny v (row_of items)
+some_past v p [] h m = absurd m
+some_past v p (n ∷ items) h (inl m) = inl (h 0 (omega arith) n m)
+some_past v p (n ∷ items) h (inr m) = inr (some_past v p items (λ k w d. h (suc k) (omega (arith, w)) d) m)
+
+pub past_next : (v : Valuation) (p : Point) (items : List Nnf) (i : ℕ) (n : Nnf) → i < length items → n ≡ get_or items i n
+    → ((k : ℕ) → k < i → (d : Nnf) → MeetsRows v p (nnf_view (get_or items k d)) → IsPastIn v (nnf_view (get_or items k d)))
+    → (MeetsRows v p (nnf_view n) → IsPastIn v (nnf_view n)) → (k : ℕ) → k < i + 1 → (d : Nnf) → MeetsRows v p (nnf_view (get_or items k d)) → IsPastIn v (nnf_view (get_or items k d))
+past_next v p items i n inside is before here =
+    below_more (λ k. (d : Nnf) → MeetsRows v p (nnf_view (get_or items k d)) → IsPastIn v (nnf_view (get_or items k d))) i before
+    (λ d. subst (λ x. MeetsRows v p (nnf_view x) → IsPastIn v (nnf_view x)) (is ∙ get_or_default items i n d inside) here)

@@ -1,10 +1,16 @@
 -- Points at the flags and objects of a path.
-use Rattle.std.specs.Prelude.{◌≡◌, ◌↔◌, ℕ, Bool, false, List, Option, Some, None, slice_get}
+use Rattle.std.specs.Prelude.{◌≡◌, ◌↔◌, ◌⊎◌, ℕ, Bool, false, List, Option, Some, None, slice_get}
 use Rattle.lq_case.specs.Flags.{find_given}
 use Rattle.lq_case.specs.PathState.{PathState, objects_in}
 use Rattle.lq_case.specs.declared.flags.Given.{Given}
+use Rattle.lq_linear.specs.Row.{Row, Valuation}
+use Rattle.lq_linear.specs.Steps.{IsStep}
+use Rattle.lq_num.specs.Past.{IsPast}
+use Rattle.lq_num.specs.Value.{value_of}
+use Rattle.lq_num.specs.declared.past.NumberPast.{NumberPast}
 use Rattle.lq_objects.specs.Joined.{AreOne}
 use Rattle.lq_pred.specs.Points.{Point}
+use Rattle.lq_pred.specs.Reading.{Reading, yes, no, row, flag_is, objects_are, all_of, any_of, Readings, none, more}
 use Rattle.lq_pred.specs.Sum.{Sum}
 use Rattle.lq_pred.specs.declared.symbol.Symbol.{Symbol}
 
@@ -17,3 +23,26 @@ given_value None = false
 pub record IsAt (objects : List Sum) (s : PathState) (p : Point) : Type 0 where
   pub flags : (x : Symbol) → p.holds x ≡ given_value (find_given s.flags x)
   pub classes : (i j : ℕ) (a b : Sum) → slice_get objects i ≡ Some a → slice_get objects j ≡ Some b → (p.class_of a ≡ p.class_of b) ↔ AreOne (objects_in s) i j
+
+-- ---- where it isn't known whether a reading is met
+
+-- an operation past 128 bits by which the level of the row is formed
+pub record IsRowPast (v : Valuation) (r : Row) : Type 0 where
+  pub error : NumberPast
+  pub past : IsPast error
+  pub step : IsStep v r error.op (value_of error.left) (value_of error.right)
+
+-- so it is of a row in the reading
+abbrev mutual
+  pub IsPastIn : Valuation → Reading Row → Type 0
+  IsPastIn v yes = ⊥
+  IsPastIn v no = ⊥
+  IsPastIn v (row r) = IsRowPast v r
+  IsPastIn v (flag_is x sign) = ⊥
+  IsPastIn v (objects_are a b sign) = ⊥
+  IsPastIn v (all_of rs) = IsPastInAny v rs
+  IsPastIn v (any_of rs) = IsPastInAny v rs
+
+  pub IsPastInAny : Valuation → Readings Row → Type 0
+  IsPastInAny v none = ⊥
+  IsPastInAny v (more r rs) = IsPastIn v r ⊎ IsPastInAny v rs

@@ -1,6 +1,7 @@
 -- What is split, and what a split adds.
 use Rattle.std.specs.Prelude.{◌≡◌, ◌⊎◌, ℕ, true, false, List, Some, slice_get}
 use Rattle.lq_linear.specs.Row.{Valuation}
+use Rattle.lq_path.specs.Meeting.{IsPastInAny}
 use Rattle.lq_path.specs.declared.choice.Choice.{Choice}
 use Rattle.lq_pred.specs.NnfView.{nnfs_view}
 use Rattle.lq_pred.specs.Points.{Point}
@@ -20,3 +21,9 @@ pub record IsOpen (choices : List Choice) (at : ℕ) : Type 0 where
   pub choice : Choice
   pub here : slice_get choices at ≡ Some choice
   pub open_still : choice.is_done ≡ false
+
+-- the choice at an index, of which no reading is met; one that is met may be hidden by an operation past 128 bits
+pub record IsUnmet (v : Valuation) (p : Point) (choices : List Choice) (at : ℕ) : Type 0 where
+  pub choice : Choice
+  pub here : slice_get choices at ≡ Some choice
+  pub unmet : MeetsAnyRow v p (nnfs_view choice.members.now) → IsPastInAny v (nnfs_view choice.members.now)

@@ -1,12 +1,13 @@
 // What is still to be split.
-ghost use Rattle.std.specs.Prelude.{◌≡◌, All, IfNone, IfSome, IsTrue, false, length, map, true};
+ghost use Rattle.std.specs.Prelude.{◌≡◌, All, IfNone, IfSome, IsTrue, false, length, map, take, true};
 ghost use Rattle.lq_case.specs.RowState.{is_solved, row_point, terms_of};
-ghost use Rattle.lq_path.specs.Meeting.{IsAt};
+ghost use Rattle.lq_path.specs.Meeting.{IsAt, IsPastInAny};
 ghost use Rattle.lq_path.specs.Readings.{AreOver};
 ghost use Rattle.lq_pred.specs.NnfView.{nnfs_view};
 ghost use Rattle.lq_pred.specs.Points.{Point};
+ghost use Rattle.lq_pred.specs.RowMeaning.{MeetsAnyRow};
 ghost use Rattle.lq_pred.specs.TermView.{sum_of};
-ghost use Rattle.lq_search.specs.Splits.{IsDoneOrMet, IsOpen};
+ghost use Rattle.lq_search.specs.Splits.{IsDoneOrMet, IsOpen, IsUnmet};
 
 use indexmap::IndexSet;
 use lq_case::PathState;
@@ -21,6 +22,9 @@ fn is_settled(state: &PathState, objects: &IndexSet<Term>, choice: &Choice<'_>) 
     ensures open { result ≡ false → choice.now.is_done ≡ false }
     ensures settled { (p : Point) → IsAt (map sum_of objects.now.keys) state.now p → IsTrue result
         → IsDoneOrMet (row_point state.now.rows) p choice.now }
+    ensures unknown { (p : Point) → IsAt (map sum_of objects.now.keys) state.now p → result ≡ false
+        → MeetsAnyRow (row_point state.now.rows) p (nnfs_view choice.now.members.now)
+        → IsPastInAny (row_point state.now.rows) (nnfs_view choice.now.members.now) }
 {
     choice.is_done || meets_any(state, objects, choice.members)
 }
@@ -36,6 +40,10 @@ pub fn first_open(
         choices.now }
     requires count { state.now.objects.count ≡ length objects.now.keys }
     ensures some { IfSome result (IsOpen choices.now) }
+    ensures unmet { IfSome result (λ at. (p : Point) → IsAt (map sum_of objects.now.keys) state.now p
+        → IsUnmet (row_point state.now.rows) p choices.now at) }
+    ensures first { IfSome result (λ at. (p : Point) → IsAt (map sum_of objects.now.keys) state.now p
+        → All (IsDoneOrMet (row_point state.now.rows) p) (take at choices.now)) }
     ensures none { IfNone result ((p : Point) → IsAt (map sum_of objects.now.keys) state.now p
         → All (IsDoneOrMet (row_point state.now.rows) p) choices.now) }
 {

@@ -5,7 +5,7 @@ use Rattle.lq_pred.specs.Points.{Point}
 use Rattle.lq_pred.specs.RowMeaning.{MeetsRows}
 use Rattle.lq_pred.specs.TermView.{sum_of}
 use Rattle.lq_pred.specs.declared.nnf.Nnf.{Nnf}
-use Rattle.lq_path.specs.Meeting.{IsAt}
+use Rattle.lq_path.specs.Meeting.{IsAt, IsPastIn}
 use Rattle.lq_path.proofs.Readings.{size, size_each}
 use Rattle.lq_path.proofs.meeting.+meets.Given as goal
 
@@ -21,3 +21,8 @@ decreases-meets_any l = size_each (nnfs_view l.any.now)
 abbrev pub invariant-meets_all-loop-reading : goal.invariant-meets_all-loop-reading
 invariant-meets_all-loop-reading l =
     (p : Point) → IsAt (map sum_of l.objects.keys) l.state p → (k : ℕ) → k < l.reading-index → (d : Nnf) → MeetsRows (row_point l.state.rows) p (nnf_view (get_or l.reading-items k d))
+
+abbrev pub invariant-meets_any-loop-reading : goal.invariant-meets_any-loop-reading
+invariant-meets_any-loop-reading l =
+    (p : Point) → IsAt (map sum_of l.objects.keys) l.state p → (k : ℕ) → k < l.reading-index → (d : Nnf) → MeetsRows (row_point l.state.rows) p (nnf_view (get_or l.reading-items k d))
+    → IsPastIn (row_point l.state.rows) (nnf_view (get_or l.reading-items k d))

@@ -13,6 +13,17 @@ returns-then-not-is_settled-clause-some c =
       open_still = c.is_settled.ensures.open c.if-not-is_settled.true;
     }
 
+pub returns-then-not-is_settled-clause-unmet : goal.returns-then-not-is_settled-clause-unmet
+returns-then-not-is_settled-clause-unmet c = λ p at.
+    let choice = c.index-choices-at.result in record {
+      choice = choice;
+      here = slice_get-get_or c.args.choices.now c.loop-at.at choice c.loop-at-test.true ∙ ap Some (sym c.index-choices-at.is);
+      unmet = c.is_settled.ensures.unknown p at c.if-not-is_settled.true;
+    }
+
+pub returns-then-not-is_settled-clause-first : goal.returns-then-not-is_settled-clause-first
+returns-then-not-is_settled-clause-first c = λ p at. c.loop-at.invariant p at
+
 pub returns-clause-none : goal.returns-clause-none
 returns-clause-none c = λ p at.
     let choices = c.args.choices.now in
