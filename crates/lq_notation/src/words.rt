@@ -42,6 +42,9 @@ fn measure(word: &str) -> Option<Name> {
 }
 
 impl Stacks {
+    ghost use Rattle.std.specs.Prelude.{OnErr};
+    ghost use Rattle.lq_notation.specs.Left.{IsLeft};
+
     pub fn new(alloc: Global) -> Stacks {
         Stacks {
             alloc,
@@ -51,35 +54,53 @@ impl Stacks {
     }
 
     /// The term that was read last.
-    pub fn term(&mut self) -> Result<Term, WordError> {
+    #[tactic(auto, using(crate::specs::Left::leaving))]
+    pub fn term(&mut self) -> Result<Term, WordError>
+        ensures left { IsLeft self.old self.new }
+    {
         self.terms.pop().ok_or(WordError::Misplaced)
     }
 
     /// The predicate that was read last.
-    pub fn pred(&mut self) -> Result<Pred, WordError> {
+    #[tactic(auto, using(crate::specs::Left::leaving))]
+    pub fn pred(&mut self) -> Result<Pred, WordError>
+        ensures left { IsLeft self.old self.new }
+    {
         self.preds.pop().ok_or(WordError::Misplaced)
     }
 
     /// The name that was read last.
-    pub fn name(&mut self) -> Result<Symbol, WordError> {
+    #[tactic(auto, using(crate::specs::Left::leaving))]
+    pub fn name(&mut self) -> Result<Symbol, WordError>
+        ensures left { IsLeft self.old self.new }
+    {
         match self.term()? {
             Term::Var(symbol) => Ok(symbol),
             _ => Err(WordError::Misplaced),
         }
     }
 
-    fn boxed_term(&mut self) -> Result<Box<Term>, WordError> {
+    #[tactic(auto, using(crate::specs::Left::leaving))]
+    fn boxed_term(&mut self) -> Result<Box<Term>, WordError>
+        ensures left { IsLeft self.old self.new }
+    {
         let term = self.term()?;
         Ok(Box::new(self.alloc, term)?)
     }
 
-    fn boxed_pred(&mut self) -> Result<Box<Pred>, WordError> {
+    #[tactic(auto, using(crate::specs::Left::leaving))]
+    fn boxed_pred(&mut self) -> Result<Box<Pred>, WordError>
+        ensures left { IsLeft self.old self.new }
+    {
         let pred = self.pred()?;
         Ok(Box::new(self.alloc, pred)?)
     }
 
     // The term of an operator on the terms that were read last.
-    fn applied(&mut self, word: &str) -> Result<Term, WordError> {
+    #[tactic(auto, using(crate::specs::Left::leaving))]
+    fn applied(&mut self, word: &str) -> Result<Term, WordError>
+        ensures left { IsLeft self.old self.new }
+    {
         if word == "neg" {
             return Ok(Term::Neg(self.boxed_term()?));
         }
@@ -102,7 +123,10 @@ impl Stacks {
     }
 
     // The predicate of a word, if the word is one.
-    fn asserted(&mut self, word: &str) -> Result<Option<Pred>, WordError> {
+    #[tactic(auto, using(crate::specs::Left::leaving))]
+    fn asserted(&mut self, word: &str) -> Result<Option<Pred>, WordError>
+        ensures left { IsLeft self.old self.new }
+    {
         if let Some(op) = comparison(word) {
             let right = self.term()?;
             let left = self.term()?;
@@ -123,7 +147,10 @@ impl Stacks {
         }
     }
 
-    fn connected(&mut self, word: &str) -> Result<Pred, WordError> {
+    #[tactic(auto, using(crate::specs::Left::leaving))]
+    fn connected(&mut self, word: &str) -> Result<Pred, WordError>
+        ensures left { IsLeft self.old self.new }
+    {
         let right = self.boxed_pred()?;
         let left = self.boxed_pred()?;
         match word {
@@ -133,8 +160,11 @@ impl Stacks {
         }
     }
 
-    /// Takes a word of a term or of a predicate.
-    pub fn take(&mut self, word: &str) -> Result<(), WordError> {
+    /// Takes a word of a term or of a predicate. Where it is refused, what stood last may be gone.
+    #[tactic(auto, using(crate::specs::Left::leaving))]
+    pub fn take(&mut self, word: &str) -> Result<(), WordError>
+        ensures left { OnErr result (IsLeft self.old self.new) }
+    {
         if let Some(pred) = self.asserted(word)? {
             self.preds.push(pred)?;
             return Ok(());

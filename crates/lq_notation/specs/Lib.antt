@@ -1,0 +1,2 @@
+-- What is left of stacks.
+pub mod Left
