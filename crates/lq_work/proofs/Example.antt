@@ -23,13 +23,13 @@ one_row r there = by there.0 there.1 there.2
     by zero l e = e
     by (suc i) l e = absurd (omega arith)
 
-apart : ¬ (negsuc 0 ≡ pos 0)
+pub apart : ¬ (negsuc 0 ≡ pos 0)
 apart e = absurd (cc)
 
-abbrev Nonzero : ℕ × ℤ → Type 0
+abbrev pub Nonzero : ℕ × ℤ → Type 0
 Nonzero part = part.1 ≢ pos 0
 
-row_is : IsRow row × TermsBelow 2 row.parts
+pub row_is : IsRow row × TermsBelow 2 row.parts
 row_is = (
   record {
     ascending = (omega arith, (omega arith, tt));
@@ -38,7 +38,7 @@ row_is = (
   (omega arith, (omega arith, tt)),
 )
 
-divisor_one : (g : ℕ) → IsDivisor row.parts g → g ∣ 1
+pub divisor_one : (g : ℕ) → IsDivisor row.parts g → g ∣ 1
 divisor_one g is = is.divides.0
 
 abbrev sized : AreSized rows variables

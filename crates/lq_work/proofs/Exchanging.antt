@@ -1,23 +1,19 @@
--- Exchanges, multipliers and rows at values need small numbers.
-use Rattle.std.proofs.Common.{◌≡◌, ℕ, ℤ, pos, ◌+◌, ◌*◌, ◌<◌, ◌≤◌, inl, inr, arith, refl, sym, ap, subst, ◌∙◌, List, [], ◌∷◌, unsigned_abs}
+-- Exchanges and multipliers need small numbers.
+use Rattle.std.proofs.Common.{◌≡◌, ℕ, ℤ, pos, ◌+◌, ◌*◌, ◌<◌, ◌≤◌, inl, inr, arith, sym, ap, subst, ◌∙◌, List, unsigned_abs}
 use Rattle.std.proofs.Math.IntN.{◌*ℤ◌}
-use Rattle.std.proofs.lemmas.Int.{ints}
 use Rattle.lq_math.specs.Rational.{ℚ, whole, ◌*ℚ◌, neg_ℚ}
 use Rattle.lq_math.specs.RationalQuotient.{◌/ℚ◌, /ℚ_is}
-use Rattle.lq_math.specs.Solver.{var, con, ◌⊗◌, solve}
 use Rattle.lq_num.specs.declared.past.NumOp.{NumOp}
-use Rattle.lq_linear.specs.Row.{Row, Valuation}
-use Rattle.lq_linear.specs.Steps.{IsStep}
+use Rattle.lq_linear.specs.Row.{Row}
 use Rattle.lq_pivots.specs.Rows.{Variables}
 use Rattle.lq_pivots.specs.Configurations.{Configuration}
 use Rattle.lq_cramer.specs.Sizes.{WithinWhole}
-use Rattle.lq_cramer.proofs.Sizes.{mul_at_most, within_same, within_more, within_product}
+use Rattle.lq_cramer.proofs.Sizes.{mul_at_most, within_same, within_more}
 use Rattle.lq_work.specs.Needs.{Needs}
-use Rattle.lq_work.specs.Work.{IsEntry, IsOneOrEntry, IsQuotient, IsSignedQuotient, IsExchanging, IsSharing, IsLevel}
+use Rattle.lq_work.specs.Work.{IsEntry, IsOneOrEntry, IsQuotient, IsSignedQuotient, IsExchanging, IsSharing}
 use Rattle.lq_work.proofs.Scene.{Scene, at_least}
-use Rattle.lq_work.proofs.Over.{lowest_by, sum_by, difference_by, within_whole, size_product, apart_product, by_product, within_times, within_cross, within_turned, within_negated, number_apart, quotient_is}
-use Rattle.lq_work.proofs.Summing.{Sums, product_needs, member_needs, constant_needs}
-use Rattle.lq_work.proofs.Forming.{products_of, positive_apart, whole_apart, entry_within, one_or_entry_within, denominator_apart, denominator_size}
+use Rattle.lq_work.proofs.Over.{lowest_by, sum_by, difference_by, size_product, apart_product, by_product, within_times, within_cross, within_turned, within_negated, number_apart, quotient_is}
+use Rattle.lq_work.proofs.Forming.{products_of, positive_apart, whole_apart, entry_within, one_or_entry_within}
 
 -- a number that a whole number makes whole, both of size at most that of the entries
 pub record IsOver (entry : ℕ) (x : ℚ) : Type 0 where
@@ -157,70 +153,3 @@ sharing_is_small vs rows c most s _ _ _ (IsSharing.negation row g x q there is o
     (within_negated most q (pos g *ℤ s.denominator)
     (subst (λ t. WithinWhole most (t *ℚ whole (pos g *ℤ s.denominator))) (sym same)
     (within_more s.entry most (x /ℚ whole (pos g) *ℚ whole (pos g *ℤ s.denominator)) p.entry (share_over vs rows c most s g x d.0 one))))
-
--- ---- rows at values
-stepping_is_small : (v : Valuation) (row : Row) (q : ℤ) (a b n numer denom k : ℕ) → Sums v q a b n numer denom row.parts
-    → WithinWhole k (whole row.constant *ℚ whole q) → (op : NumOp) (x y : ℚ) → IsStep v row op x y → Needs (numer + k) denom op x y
-stepping_is_small v row q a b n numer denom k s w _ _ _ (IsStep.member_product i t z at) = product_needs v q a b n (numer + k) denom row.parts i t z (more s) at
-  where
-    more : Sums v q a b n numer denom row.parts → Sums v q a b n (numer + k) denom row.parts
-    more s = let l = s.limit in record { values = s.values; apart = s.apart; small = s.small; parts_are = s.parts_are; limit = omega arith }
-stepping_is_small v row q a b n numer denom k s w _ _ _ (IsStep.member_sum i t z at) = member_needs v q a b n (numer + k) denom row.parts i t z (more s) at
-  where
-    more : Sums v q a b n numer denom row.parts → Sums v q a b n (numer + k) denom row.parts
-    more s = let l = s.limit in record { values = s.values; apart = s.apart; small = s.small; parts_are = s.parts_are; limit = omega arith }
-stepping_is_small v row q a b n numer denom k s w _ _ _ IsStep.constant_sum = constant_needs v q a b n numer denom k row.parts row.constant s w
-
-row_sums : (vs : Variables) (rows : List Row) (c : Configuration) (most : ℕ) (s : Scene vs rows c most) (row : Row) → Rattle.std.specs.List.Contains rows row
-    → Sums c.value (s.denominator *ℤ pos s.divisor) (s.coefficient * s.divisor) most vs.terms (most * most) most row.parts
-row_sums vs rows c most s row there =
-    let p = products_of vs rows c most s in
-    let terms = s.terms_in in
-    record {
-      values = λ t o. s.values t (omega arith);
-      apart = denominator_apart vs rows c most s;
-      small = denominator_size vs rows c most s;
-      parts_are = s.rows_are row there;
-      limit =
-          let h : vs.terms * (s.coefficient * s.divisor) * most ≤ most * most = mul_at_most (vs.terms * (s.coefficient * s.divisor)) most most most p.row (omega arith) in
-          omega arith;
-    }
-
-pub level_is_small : (vs : Variables) (rows : List Row) (c : Configuration) (most : ℕ) → Scene vs rows c most → (op : NumOp) (x y : ℚ)
-    → IsLevel rows c op x y → Needs (most * most + most) most op x y
-level_is_small vs rows c most s op x y is =
-    let p = products_of vs rows c most s in
-    let bound = p.bound in
-    let size = s.constants is.row is.there in
-    let e = s.denominator *ℤ pos s.divisor in
-    stepping_is_small c.value is.row e (s.coefficient * s.divisor) most vs.terms (most * most) most most (row_sums vs rows c most s is.row is.there)
-    (within_more (s.constant * (s.entry * s.divisor)) most (whole is.row.constant *ℚ whole e) (omega arith)
-    (within_product s.constant (s.entry * s.divisor) (whole is.row.constant) (whole e) (within_whole s.constant is.row.constant size)
-    (within_whole (s.entry * s.divisor) e (size_product s.entry s.divisor s.denominator (pos s.divisor) s.within (omega arith)))))
-    op x y is.step
-
-one_apart : ¬ (pos 1 ≡ pos 0)
-one_apart e = absurd (omega (arith, ints))
-
-times_one : (x : ℚ) → x *ℚ whole (pos 1) ≡ x
-times_one x = solve (x ∷ []) (var 0 ⊗ con (pos 1)) (var 0) refl
-
-pub whole_level_is_small : (vs : Variables) (rows : List Row) (c : Configuration) (most high : ℕ) (s : Scene vs rows c most) (row : Row) (v : Valuation)
-    → Rattle.std.specs.List.Contains rows row → ((t : ℕ) → t < vs.terms → WithinWhole (high * s.constant) (v t)) → (op : NumOp) (x y : ℚ)
-    → IsStep v row op x y → Needs (high * most + most) 1 op x y
-whole_level_is_small vs rows c most high s row v there values op x y step =
-    let p = products_of vs rows c most s in
-    let size = s.constants row there in
-    let constant = p.constant in
-    let h : high * (vs.terms * (s.coefficient * (s.divisor * s.constant))) ≤ high * most =
-    Rattle.std.proofs.Math.Nat.mul-le-mul_left high p.row_constant in
-    stepping_is_small v row (pos 1) (s.coefficient * s.divisor) (high * s.constant) vs.terms (high * most) 1 most
-    (record {
-      values = λ t o. within_same (high * s.constant) (v t *ℚ whole (pos 1)) (v t) (times_one (v t)) (values t o);
-      apart = one_apart;
-      small = omega arith;
-      parts_are = s.rows_are row there;
-      limit = omega arith;
-    })
-    (within_same most (whole row.constant *ℚ whole (pos 1)) (whole row.constant) (times_one (whole row.constant)) (within_whole most row.constant (omega arith)))
-    op x y step

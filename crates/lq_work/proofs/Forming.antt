@@ -14,12 +14,15 @@ use Rattle.lq_cramer.specs.Sizes.{WithinWhole}
 use Rattle.lq_cramer.proofs.Sizes.{mul_at_most, within_same, within_neg}
 use Rattle.lq_work.specs.Needs.{Needs}
 use Rattle.lq_work.specs.Work.{entry_of, IsReading, IsEntry, IsOneOrEntry, IsSumming, IsForming}
-use Rattle.lq_work.proofs.Scene.{Scene, Products, products}
+use Rattle.lq_work.proofs.Scene.{Listed, Scene, Products, products}
 use Rattle.lq_work.proofs.Over.{lowest_by, lowest_whole, within_whole, size_product, apart_product}
 use Rattle.lq_work.proofs.Summing.{Sums, member_at, product_needs, member_needs}
 
+abbrev pub products_in : (vs : Variables) (rows : List Row) (most : ℕ) → (s : Listed vs rows most) → Products vs.terms s.coefficient s.entry s.constant s.divisor most
+products_in vs rows most s = products vs.terms s.coefficient s.entry s.constant s.divisor most s.numbers
+
 abbrev pub products_of : (vs : Variables) (rows : List Row) (c : Configuration) (most : ℕ) → (s : Scene vs rows c most) → Products vs.terms s.coefficient s.entry s.constant s.divisor most
-products_of vs rows c most s = products vs.terms s.coefficient s.entry s.constant s.divisor most s.numbers
+products_of vs rows c most s = products_in vs rows most s.listed
 
 pub positive_apart : (g : ℕ) → 0 < g → ¬ (pos g ≡ pos 0)
 positive_apart g l e = absurd (omega (arith, ints))
@@ -28,17 +31,17 @@ pub whole_apart : (g : ℕ) → 0 < g → ¬ (whole (pos g) ≡ whole (pos 0))
 whole_apart g l e = positive_apart g l (whole_once (pos g) (pos 0) e)
 
 -- ---- rows
-pub reading_is_small : (vs : Variables) (rows : List Row) (c : Configuration) (most : ℕ) → Scene vs rows c most → (op : NumOp) (x y : ℚ)
+pub reading_is_small : (vs : Variables) (rows : List Row) (most : ℕ) → Listed vs rows most → (op : NumOp) (x y : ℚ)
     → IsReading rows op x y → Needs most most op x y
-reading_is_small vs rows c most s _ _ _ (IsReading.negated_constant row there) =
-    let p = products_of vs rows c most s in
+reading_is_small vs rows most s _ _ _ (IsReading.negated_constant row there) =
+    let p = products_in vs rows most s in
     let one = s.numbers.divisor in
     let divisor = p.divisor in
     let size = s.constants row there in
     let constant = p.constant in
     lowest_whole most most (neg_ℚ (whole row.constant)) (omega arith) (within_neg most (whole row.constant) (within_whole most row.constant (omega arith)))
-reading_is_small vs rows c most s _ _ _ (IsReading.negated_coefficient row k term z there at) =
-    let p = products_of vs rows c most s in
+reading_is_small vs rows most s _ _ _ (IsReading.negated_coefficient row k term z there at) =
+    let p = products_in vs rows most s in
     let one = s.numbers.divisor in
     let divisor = p.divisor in
     let parts = s.rows_are row there in
@@ -46,8 +49,8 @@ reading_is_small vs rows c most s _ _ _ (IsReading.negated_coefficient row k ter
     let l = m.1 in
     let h = p.part in
     lowest_whole most most (neg_ℚ (whole z)) (omega arith) (within_neg most (whole z) (within_whole most z (omega arith)))
-reading_is_small vs rows c most s _ _ _ (IsReading.bound row g z there is either) =
-    let p = products_of vs rows c most s in
+reading_is_small vs rows most s _ _ _ (IsReading.bound row g z there is either) =
+    let p = products_in vs rows most s in
     let d = s.divisors row g there is in
     let l = d.1 in
     let divisor = p.divisor in
@@ -58,9 +61,9 @@ reading_is_small vs rows c most s _ _ _ (IsReading.bound row g z there is either
     (within_whole most z (sized either)))
   where
     sized : (z ≡ row.constant) ⊎ (z ≡ neg_ℤ row.constant) → unsigned_abs z ≤ most
-    sized (inl e) = let p = products_of vs rows c most s in let size = s.constants row there in let constant = p.constant in subst (λ t. unsigned_abs t ≤ most) (sym e) (omega arith)
+    sized (inl e) = let p = products_in vs rows most s in let size = s.constants row there in let constant = p.constant in subst (λ t. unsigned_abs t ≤ most) (sym e) (omega arith)
     sized (inr e) =
-        let p = products_of vs rows c most s in
+        let p = products_in vs rows most s in
         let size = s.constants row there in
         let constant = p.constant in
         let same : unsigned_abs (neg_ℤ row.constant) ≤ unsigned_abs row.constant = omega (arith, ints) in

@@ -10,25 +10,35 @@ use Rattle.lq_pivots.specs.Configurations.{Configuration, IsConfiguration}
 use Rattle.lq_cramer.specs.Sizes.{WithinWhole}
 use Rattle.lq_cramer.proofs.Sizes.{within_same}
 use Rattle.lq_work.specs.Needs.{LowestWithin, TogetherWithin, Needs}
-use Rattle.lq_work.specs.Sizes.{AreSmall}
-use Rattle.lq_work.specs.Work.{IsWork}
+use Rattle.lq_work.specs.Sizes.{largest_constant, AreSmall}
+use Rattle.lq_work.specs.Work.{IsWholeLevel, IsWork}
 use Rattle.lq_work.specs.Laws.{ReadingIsSmall, FormingIsSmall, ExchangingIsSmall, MovingIsSmall, SharingIsSmall, LevelIsSmall, WholeLevelIsSmall, WorkIsSmall, WorkFits}
+use Rattle.lq_work.specs.Part.{ReadingsFit, WholeLevelsFit}
 use Rattle.lq_work.proofs.Fits.{small_fit}
-use Rattle.lq_work.proofs.Scene.{Scene}
+use Rattle.lq_work.proofs.Scene.{Listed, Scene}
 use Rattle.lq_work.proofs.Over.{within_whole}
 use Rattle.lq_work.proofs.Forming.{reading_is_small, forming_is_small}
-use Rattle.lq_work.proofs.Exchanging.{exchanging_is_small, sharing_is_small, level_is_small, whole_level_is_small}
+use Rattle.lq_work.proofs.Exchanging.{exchanging_is_small, sharing_is_small}
+use Rattle.lq_work.proofs.Levels.{level_is_small, whole_level_is_small}
 use Rattle.lq_work.proofs.Moving.{moving_is_small}
-use Rattle.lq_work.proofs.Values.{scene_of}
+use Rattle.lq_work.proofs.Values.{listed_of, scene_of}
 
-abbrev most : ℕ
+abbrev pub most : ℕ
 most = 2 ^ 40
 
-small_scene : (vs : Variables) (rows : List Row) (c : Configuration) → AreSmall rows vs → IsConfiguration vs rows c → Scene vs rows c most
+pub small_scene : (vs : Variables) (rows : List Row) (c : Configuration) → AreSmall rows vs → IsConfiguration vs rows c → Scene vs rows c most
 small_scene vs rows c small is = scene_of vs rows c most small.sized small.small is
 
+pub small_rows : (vs : Variables) (rows : List Row) → AreSmall rows vs → Listed vs rows most
+small_rows vs rows small = listed_of vs rows most small.sized small.small
+
 pub reading : ReadingIsSmall
-reading vs rows c op x y small is work = reading_is_small vs rows c most (small_scene vs rows c small is) op x y work
+reading vs rows c op x y small is work = reading_is_small vs rows most (small_rows vs rows small) op x y work
+
+pub readings_fit : ReadingsFit
+readings_fit vs rows e small work =
+    small_fit most most e (omega arith) (omega arith)
+    (reading_is_small vs rows most (small_rows vs rows small) e.op (value_of e.left) (value_of e.right) work)
 
 pub forming : FormingIsSmall
 forming vs rows c op x y small is work = forming_is_small vs rows c most (small_scene vs rows c small is) op x y work
@@ -45,16 +55,24 @@ sharing vs rows c op x y small is work = sharing_is_small vs rows c most (small_
 pub level : LevelIsSmall
 level vs rows c op x y small is work = level_is_small vs rows c most (small_scene vs rows c small is) op x y work
 
-pub whole_level : WholeLevelIsSmall
-whole_level vs rows c op x y small is work =
-    let s = small_scene vs rows c small is in
-    whole_level_is_small vs rows c most (2 ^ 63) s work.row work.values work.there
+-- whatever the configuration
+whole_needs : (vs : Variables) (rows : List Row) (op : NumOp) (x y : ℚ) → AreSmall rows vs → IsWholeLevel vs rows op x y → Needs (2 ^ 103 + 2 ^ 40) 1 op x y
+whole_needs vs rows op x y small work =
+    let s = small_rows vs rows small in
+    let high : ℕ = 2 ^ 63 * largest_constant rows in
+    whole_level_is_small vs rows most (2 ^ 63) s work.row work.values work.there
     (λ t l.
     let below = work.whole_values.below t l in
     subst (λ k. WithinWhole (2 ^ 63 * k) (work.values t)) (sym s.constant_is)
-    (within_same (2 ^ 63 * Rattle.lq_work.specs.Sizes.largest_constant rows) (work.values t) (whole (work.whole_values.at t)) (work.whole_values.is t l)
-    (within_whole (2 ^ 63 * Rattle.lq_work.specs.Sizes.largest_constant rows) (work.whole_values.at t) (omega arith))))
+    (within_same high (work.values t) (whole (work.whole_values.at t)) (work.whole_values.is t l) (within_whole high (work.whole_values.at t) (omega arith))))
     op x y work.step
+
+pub whole_level : WholeLevelIsSmall
+whole_level vs rows c op x y small is work = whole_needs vs rows op x y small work
+
+pub whole_levels_fit : WholeLevelsFit
+whole_levels_fit vs rows e small work =
+    small_fit (2 ^ 103 + 2 ^ 40) 1 e (omega arith) (omega arith) (whole_needs vs rows e.op (value_of e.left) (value_of e.right) small work)
 
 -- ---- all kinds
 lowest_more : (n d m k : ℕ) (x : ℚ) → n ≤ m → d ≤ k → LowestWithin n d x → LowestWithin m k x

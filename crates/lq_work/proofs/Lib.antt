@@ -6,9 +6,14 @@ pub mod Over
 pub mod Summing
 pub mod Forming
 pub mod Exchanging
+pub mod Levels
 pub mod Moving
 pub mod Rows
 pub mod Values
 pub mod Extension
 pub mod Laws
+pub mod Normal
+pub mod Part
+pub mod OnPart
 pub mod Example
+pub mod PartExample

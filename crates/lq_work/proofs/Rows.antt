@@ -132,7 +132,7 @@ pub divisor_exists : (parts : Parts) → (g : ℕ) × IsDivisor parts g
 divisor_exists [] = (1, refl)
 divisor_exists (part ∷ parts) = greatest_exists (part ∷ parts)
 
-times_divides : (f : ℤ) (parts : Parts) → DividesAll (unsigned_abs f) (times f parts)
+pub times_divides : (f : ℤ) (parts : Parts) → DividesAll (unsigned_abs f) (times f parts)
 times_divides f [] = tt
 times_divides f (part ∷ parts) =
     (subst (λ t. unsigned_abs f ∣ t) (sym (unsigned_abs-mul f part.1)) (dvd-mul_right (unsigned_abs f) (unsigned_abs part.1)), times_divides f parts)

@@ -30,18 +30,24 @@ pub record AreParts (n c : ℕ) (parts : Parts) : Type 0 where
   pub within : AllWithin c parts
   pub short : length parts ≤ n
 
-pub record Scene (vs : Variables) (rows : List Row) (c : Configuration) (most : ℕ) : Type 0 where
+-- what the sizes say of the rows alone
+pub record Listed (vs : Variables) (rows : List Row) (most : ℕ) : Type 0 where
   pub coefficient : ℕ
   pub entry : ℕ
   pub constant : ℕ
   pub divisor : ℕ
   pub constant_is : constant ≡ largest_constant rows
   pub numbers : Numbers vs.terms coefficient entry constant divisor most
-  pub terms_in : vs.terms ≤ size vs
-  pub forms : (k : ℕ) → k < size vs → AreParts vs.terms coefficient (form vs k)
   pub rows_are : (row : Row) → Contains rows row → AreParts vs.terms (coefficient * divisor) row.parts
   pub constants : (row : Row) → Contains rows row → unsigned_abs row.constant ≤ constant
   pub divisors : (row : Row) (g : ℕ) → Contains rows row → IsDivisor row.parts g → (0 < g) × (g ≤ divisor)
+
+-- and of a configuration of these rows
+pub record Scene (vs : Variables) (rows : List Row) (c : Configuration) (most : ℕ) : Type 0 where
+  pub listed : Listed vs rows most
+  pub open listed use *
+  pub terms_in : vs.terms ≤ size vs
+  pub forms : (k : ℕ) → k < size vs → AreParts vs.terms coefficient (form vs k)
   pub bounds : (side : Side) (k : ℕ) (x : ℚ) → Gives vs rows side k x → WithinWhole (constant * divisor) (x *ℚ whole (pos divisor))
   pub denominator : ℤ
   pub some : ¬ (denominator ≡ pos 0)

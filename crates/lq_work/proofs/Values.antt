@@ -26,7 +26,7 @@ use Rattle.lq_work.specs.Sizes.{largest_part, largest_coefficient, largest_const
 use Rattle.lq_work.specs.Work.{entry_of}
 use Rattle.lq_work.specs.Laws.{ValuesAreQuotients}
 use Rattle.lq_work.proofs.Scaled.{part_within, some_times}
-use Rattle.lq_work.proofs.Scene.{Numbers, AreParts, Scene, at_least}
+use Rattle.lq_work.proofs.Scene.{Numbers, AreParts, Listed, Scene, at_least}
 use Rattle.lq_work.proofs.Over.{within_whole, by_product, within_before}
 use Rattle.lq_work.proofs.Rows.{all_within, coefficient_most, coefficient_least, constant_most, constant_some, contains_at, ascends_length, names_once, form_ascends, form_below, times_within, divisor_exists, factor_divides, times_of}
 
@@ -56,7 +56,7 @@ form_parts vs rows sized k l =
     let short = ascends_length 0 vs.terms (form vs k) is.ascends is.below (omega arith) in
     record { below = is.below; within = all_within (largest_coefficient vs.forms) (form vs k) (coefficient_most vs.forms k); short = omega arith }
 
-coefficient_some : (vs : Variables) (rows : List Row) (sized : AreSized rows vs) → 1 ≤ largest_coefficient vs.forms
+pub coefficient_some : (vs : Variables) (rows : List Row) (sized : AreSized rows vs) → 1 ≤ largest_coefficient vs.forms
 coefficient_some vs rows sized =
     let some = sized.some in
     let first : largest_part (form vs 0) ≡ 1 = ap largest_part (sized.variables.named 0 (omega arith)) in
@@ -104,7 +104,7 @@ entry_at_least vs rows sized = by (cases_lt vs.terms (size vs))
         omega arith
 
 -- ---- rows
-divisor_most : (a m : ℕ) → 0 < m → a ∣ m → a ≤ m
+pub divisor_most : (a m : ℕ) → 0 < m → a ∣ m → a ≤ m
 divisor_most a m some h =
     let u : m / a * a ≡ m = div-mul_cancel a h in
     part_within (m / a) a m (some_times (m / a) a m some (sym u)) (sym u)
@@ -247,30 +247,36 @@ numbers_of vs rows most sized small = record {
   all = limit_small vs.terms (size vs) (entry_limit vs) (largest_constant rows) sized.multiple most sized.variables.terms_in small;
 }
 
+pub listed_of : (vs : Variables) (rows : List Row) (most : ℕ) (sized : AreSized rows vs) → value_limit vs rows * sized.multiple ≤ most → Listed vs rows most
+listed_of vs rows most sized small = record {
+  coefficient = largest_coefficient vs.forms;
+  entry = entry_limit vs;
+  constant = largest_constant rows;
+  divisor = sized.multiple;
+  constant_is = refl;
+  numbers = numbers_of vs rows most sized small;
+  rows_are = row_parts vs rows sized;
+  constants = constant_most rows;
+  divisors = λ row g there is. divisors_positive rows sized.multiple g sized.least.positive (sized.least.multiple row g there is);
+}
+
 pub scene_of : (vs : Variables) (rows : List Row) (c : Configuration) (most : ℕ) (sized : AreSized rows vs) → value_limit vs rows * sized.multiple ≤ most
     → IsConfiguration vs rows c → Scene vs rows c most
+unfolding listed_of
 scene_of vs rows c most sized small is =
     let h = denominator_of vs rows c sized is in
-    let numbers = numbers_of vs rows most sized small in
     record {
-      coefficient = largest_coefficient vs.forms;
-      entry = entry_limit vs;
-      constant = largest_constant rows;
-      divisor = sized.multiple;
-      constant_is = refl;
-      numbers = numbers;
+      listed = listed_of vs rows most sized small;
       terms_in = sized.variables.terms_in;
       forms = form_parts vs rows sized;
-      rows_are = row_parts vs rows sized;
-      constants = constant_most rows;
-      divisors = λ row g there is. divisors_positive rows sized.multiple g sized.least.positive (sized.least.multiple row g there is);
       bounds = bound_within vs rows sized;
       denominator = h.denominator;
       some = h.some;
       within = h.within;
       entries = entry_of_within vs c (entry_limit vs) h;
       values = λ k l.
-          within_more (vs.terms * (entry_limit vs * (largest_constant rows * sized.multiple))) most (c.value k *ℚ whole (h.denominator *ℤ pos sized.multiple)) numbers.all
+          within_more (vs.terms * (entry_limit vs * (largest_constant rows * sized.multiple))) most (c.value k *ℚ whole (h.denominator *ℤ pos sized.multiple))
+          (numbers_of vs rows most sized small).all
           (any_value vs rows c sized is h k l);
     }
 

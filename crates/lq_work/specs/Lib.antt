@@ -3,4 +3,5 @@ pub mod Sizes
 pub mod Work
 pub mod Extension
 pub mod Laws
+pub mod Part
 pub mod Example

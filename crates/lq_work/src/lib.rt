@@ -1,11 +1,12 @@
 //! The work of a tableau at a configuration, as operations on fractions, and how large the numbers are that it needs.
 #![tactic(auto)]
 
-ghost use Rattle.lq_work.specs.Example.{SomeWork, SomeForm};
+ghost use Rattle.lq_work.specs.Example.{SomeWork, SomeForm, SomePart};
 ghost use Rattle.lq_work.specs.Extension.{FormsCanBeAdded};
 ghost use Rattle.lq_work.specs.Laws.{SmallFit, ValuesAreQuotients, WorkIsSmall, WorkFits};
 ghost use Rattle.lq_work.specs.Laws.{ReadingIsSmall, FormingIsSmall, ExchangingIsSmall, MovingIsSmall};
 ghost use Rattle.lq_work.specs.Laws.{SharingIsSmall, LevelIsSmall, WholeLevelIsSmall};
+ghost use Rattle.lq_work.specs.Part.{PartsAreSmall, WorkOnPartsFits, LevelsAgree, ReadingsFit, WholeLevelsFit, SmallSumsAreSmall};
 
 /// One whole number, not 0, makes each entry whole, and times the least common multiple of the rows' divisors each value.
 pub fn values_are_quotients()
@@ -75,4 +76,39 @@ pub fn forms_can_be_added()
 /// There is a form that can be added.
 pub fn some_form_can_be_added()
     ensures { SomeForm }
+{}
+
+/// Some of the rows have small sizes where all of them have.
+pub fn parts_are_small()
+    ensures { PartsAreSmall }
+{}
+
+/// Nothing that is done at a configuration of some of the rows is past 128 bits, nor any of all rows at its values or at whole ones.
+pub fn work_on_parts_fits()
+    ensures { WorkOnPartsFits }
+{}
+
+/// A row is evaluated alike at values that are the same at the terms.
+pub fn levels_agree()
+    ensures { LevelsAgree }
+{}
+
+/// Nothing that is done to read a row is past 128 bits.
+pub fn readings_fit()
+    ensures { ReadingsFit }
+{}
+
+/// Nothing that is done to evaluate a row at whole numbers is past 128 bits.
+pub fn whole_levels_fit()
+    ensures { WholeLevelsFit }
+{}
+
+/// Constants of fewer than 2^63 of the rows sum to less than 2^103.
+pub fn small_sums_are_small()
+    ensures { SmallSumsAreSmall }
+{}
+
+/// There is a part of rows of small sizes that is not all of them.
+pub fn some_part_is_small()
+    ensures { SomePart }
 {}
