@@ -88,10 +88,11 @@ old_form forms form k h = get_or_append_left forms (form ∷ []) [] k h
 new_form : (forms : List Parts) (form : Parts) → form_at (forms ++ form ∷ []) (length forms) ≡ form
 new_form forms form = get_or_push forms form [] (length forms) refl
 
-appear_new : (rows : List Row) (terms : ℕ) (forms : List Parts) (form : Parts) (more : Row) (b : Option Bound) → ((k : ℕ) → k < length forms → IsNormal (form_at forms k)) → IsNormal form
-    → AreMultiples more.parts form → ((k : ℕ) → k < length forms → form_at forms k ≢ form) → ReadsBy (forms ++ form ∷ []) more b
+pub appear_new : (rows : List Row) (terms : ℕ) (forms : List Parts) (form : Parts) (more : Row) → ((k : ℕ) → k < length forms → IsNormal (form_at forms k)) → IsNormal form
+    → AreMultiples more.parts form → ((k : ℕ) → k < length forms → form_at forms k ≢ form)
+    → ((more.parts ≡ []) ⊎ ((k : ℕ) × (k < length (forms ++ form ∷ [])) × AreMultiples more.parts (form_at (forms ++ form ∷ []) k)))
     → AreFormsOf rows terms forms → AreFormsOf (rows ++ more ∷ []) terms (forms ++ form ∷ [])
-appear_new rows terms forms form more b normal fresh multiple absent reads a = record {
+appear_new rows terms forms form more normal fresh multiple absent has a = record {
   first = λ k l h. elim (last_or_before k (length forms) (below k h)) [
     | inl less ↦ let f = old k l less in (f.0, first_on_more k less f.0 f.1)
     | inr e ↦ (length rows, subst (λ m. IsFirst (rows ++ more ∷ []) (form_at (forms ++ form ∷ []) m) (length rows)) (sym e) last)
@@ -109,7 +110,7 @@ appear_new rows terms forms form more b normal fresh multiple absent reads a = r
             (subst (λ m. IsFirst (rows ++ more ∷ []) (form_at (forms ++ form ∷ []) m) (length rows)) (sym here) last) in
             let w = first_within rows (form_at forms j) f0.0 f0.1 in omega arith
       ];
-  covers = λ i row h. covered rows more (forms ++ form ∷ []) i row (λ r g. grown r (a.covers i r g)) (read_covers (forms ++ form ∷ []) more b reads) h (within_push rows more row i h);
+  covers = λ i row h. covered rows more (forms ++ form ∷ []) i row (λ r g. grown r (a.covers i r g)) has h (within_push rows more row i h);
 }
   where
     below : (k : ℕ) → k < length (forms ++ form ∷ []) → k < length forms + 1
@@ -146,7 +147,7 @@ pub appear_row : (rows : List Row) (terms : ℕ) (old new : List Parts) (more : 
 appear_row rows terms old new more b (inl same) reads a = appear_same rows terms new more b reads (subst (AreFormsOf rows terms) (sym same) a)
 appear_row rows terms old new more b (inr g) reads a =
     subst (AreFormsOf (rows ++ more ∷ []) terms) (sym g.1)
-    (appear_new rows terms old g.0 more b (λ k h. (g.4 k h).0) g.2 g.3 (λ k h. (g.4 k h).1) (subst (λ f. ReadsBy f more b) g.1 reads) a)
+    (appear_new rows terms old g.0 more (λ k h. (g.4 k h).0) g.2 g.3 (λ k h. (g.4 k h).1) (read_covers (old ++ g.0 ∷ []) more b (subst (λ f. ReadsBy f more b) g.1 reads)) a)
 
 pub appear_none : (terms : ℕ) (forms : List Parts) → length forms ≡ terms → AreFormsOf [] terms forms
 appear_none terms forms e = record {

@@ -128,16 +128,20 @@ contains_at (r ∷ rows) zero s h = let q : r ≡ s = cc in (0, omega arith, ap 
 contains_at (r ∷ rows) (suc i) s h = let c = contains_at rows i s h in (suc c.0, (let l = c.1 in omega arith), c.2)
 
 -- ---- limits as bounds that rows give, and back
+-- the variable is there, and the row that gives the limit bounds it by that value
+pub limit_bounds : (s : System) (rows : List Standing) (side : Side) (k : ℕ) (l : Limit) → AllRead s.forms rows → (g : IsLimit rows side k l)
+    → (k < length s.forms) × Bounds (form_at s.forms k) g.standing.row side (bound_value l)
+limit_bounds s rows side k l read g =
+    let r = limit_read rows s.forms side k l read g in (
+      subst (λ j. j < length s.forms) g.bounds r.inside,
+      subst (λ j. Bounds (form_at s.forms j) g.standing.row side (bound_value l)) g.bounds (reads_bounds s.forms g.standing.row l.bound side r g.on),
+    )
+
 pub limit_gives : (s : System) (rows : List Standing) (side : Side) (k : ℕ) (l : Limit) → AllRead s.forms rows → IsLimit rows side k l
     → Gives (variables_of s) (rows_of rows) side k (bound_value l)
 limit_gives s rows side k l read g =
-    let r = limit_read rows s.forms side k l read g in
-    record {
-      row = g.standing.row;
-      there = contains_at rows l.row g.standing g.stands;
-      inside = subst (λ j. j < length s.forms) g.bounds r.inside;
-      bounds = subst (λ j. Bounds (form_at s.forms j) g.standing.row side (bound_value l)) g.bounds (reads_bounds s.forms g.standing.row l.bound side r g.on);
-    }
+    let b = limit_bounds s rows side k l read g in
+    record { row = g.standing.row; there = contains_at rows l.row g.standing g.stands; inside = b.0; bounds = b.1 }
 
 -- the bound that a row gives is no tighter than the limit
 pub gives_covered : (s : System) (rows : List Standing) (limits : Limits) (side : Side) (k : ℕ) (x : ℚ) → AreForms s.terms s.forms → AllRead s.forms rows

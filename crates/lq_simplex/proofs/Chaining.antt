@@ -1,5 +1,5 @@
 -- Chains of pivots, turn by turn.
-use Rattle.std.proofs.Common.{◌≡◌, ◌≢◌, ℕ, suc, ◌<◌, ◌≤◌, ◌⊎◌, inl, inr, arith, refl, sym, ap, ap₂, subst, ◌∙◌, ◌==◌, if◌then◌else◌, List}
+use Rattle.std.proofs.Common.{◌≡◌, ◌≢◌, ℕ, suc, ◌<◌, ◌≤◌, ◌⊎◌, inl, inr, arith, refl, sym, ap, ap₂, subst, ◌∙◌, ◌==◌, if◌then◌else◌, List, Some, slice_get}
 use Rattle.lq_linear.specs.Row.{Row}
 use Rattle.lq_linear.specs.Contradiction.{Tagged}
 use Rattle.lq_linear.specs.Forms.{Parts}
@@ -11,19 +11,23 @@ use Rattle.lq_simplex.specs.declared.limits.Broken.{Broken}
 use Rattle.lq_simplex.specs.declared.line.Entry.{Entry}
 use Rattle.lq_simplex.specs.declared.error.TableauError.{TableauError}
 use Rattle.lq_simplex.specs.declared.error.TableauError.TheVariants.{Past, Spent, Memory}
-use Rattle.lq_simplex.specs.Lines.{IsTableauError}
 use Rattle.lq_simplex.specs.Systems.{System, IsSystem}
 use Rattle.lq_simplex.specs.Standing.{standing_of, AllRead}
 use Rattle.lq_simplex.specs.Bounds.{Limits, interval_at, AreTightest}
 use Rattle.lq_simplex.specs.Appearing.{AreFormsOf}
 use Rattle.lq_simplex.specs.Configurations.{AllAmong, Rests, Settles}
-use Rattle.lq_simplex.specs.Table.{FailsBy, HasCause}
+use Rattle.lq_work.specs.Work.{IsOneOrEntry}
+use Rattle.lq_num.specs.Value.{value_of}
+use Rattle.lq_simplex.specs.Operations.{StopsIn, IsExplained}
+use Rattle.lq_simplex.specs.Working.{IsWorkOver}
+use Rattle.lq_simplex.specs.Table.{FailsBy, HasCause, HasWork}
 use Rattle.lq_simplex.proofs.Combinations.{eqb_by, eq_or}
 use Rattle.lq_simplex.proofs.Resting.{rests_settled}
 use Rattle.lq_simplex.proofs.Bounding.{variables_of, rows_of}
 use Rattle.lq_simplex.proofs.Configuring.{configuration_of, is_configuration}
 use Rattle.lq_simplex.proofs.Naming.{are_variables}
 use Rattle.lq_simplex.proofs.Turning.{IsTurn, turn_pivots}
+use Rattle.lq_simplex.proofs.Working.{explained_work}
 
 -- a chain of so many pivots ends at this configuration
 pub record Reaches (vs : Variables) (ever standing : List Row) (count : ℕ) (last : Configuration) : Type 0 where
@@ -104,13 +108,15 @@ turns_cause old s rows limit n i e turns ever forms among rests =
       pivots = subst (λ k. IsChain (variables_of old) ever (rows_of rows) k r.chain) e r.is;
     }
 
-pub error_fails : (terms limit : ℕ) (standing : Tagged) (ever : List Row) (error : TableauError) → IsTableauError error → FailsBy terms limit standing ever error
-error_fails terms limit standing ever (Past e) h = h
-error_fails terms limit standing ever Spent h = absurd h
-error_fails terms limit standing ever Memory h = tt
+pub work_fails : (terms limit : ℕ) (standing : Tagged) (ever : List Row) (error : TableauError) → StopsIn (IsWorkOver terms ever) error → FailsBy terms limit standing ever error
+work_fails terms limit standing ever (Past e) h = h
+work_fails terms limit standing ever Spent h = absurd h
+work_fails terms limit standing ever Memory h = tt
 
-pub error_cause : (s : System) (rows : List Standing) (limit : ℕ) (error : TableauError) → IsTableauError error → HasCause s rows limit error
-error_cause s rows limit error h ever forms among rests = error_fails s.terms limit (standing_of rows) ever error h
+pub work_cause : (s : System) (rows : List Standing) (limits : Limits) (limit : ℕ) (error : TableauError) → AllRead s.forms rows → AreTightest rows (interval_at limits)
+    → HasWork s limits error → HasCause s rows limit error
+work_cause s rows limits limit error read tight work ever forms among rests =
+    work_fails s.terms limit (standing_of rows) ever error (work ever rows read tight.given forms among rests)
 
 -- the cause of an error from a system that settled is one from the system before
 pub settled_cause : (old s : System) (rows : List Standing) (limits : Limits) (limit : ℕ) (error : TableauError) → AllRead old.forms rows → AreTightest rows (interval_at limits)
@@ -119,3 +125,13 @@ settled_cause old s rows limits limit error read tight terms forms settles cause
     subst (λ k. FailsBy k limit (standing_of rows) ever error) terms
     (cause ever (subst (λ k. AreFormsOf ever k s.forms) (sym terms) (subst (AreFormsOf ever old.terms) (sym forms) are)) among
     (rests_settled ever rows limits old s read tight.given forms settles among rests))
+
+-- the multipliers of a conflict, at a system that settled
+pub explained_cause : (old s : System) (rows : List Standing) (limits : Limits) (limit : ℕ) (line : List Entry) (error : TableauError) → AllRead old.forms rows
+    → AreTightest rows (interval_at limits) → s.terms ≡ old.terms → s.forms ≡ old.forms → Settles limits old s → IsSystem s
+    → ((k : ℕ) (f : Entry) → slice_get line k ≡ Some f → IsOneOrEntry (variables_of s) (configuration_of s) (value_of f.factor))
+    → StopsIn (IsExplained rows line) error → HasCause old rows limit error
+explained_cause old s rows limits limit line error read tight terms forms settles i entries stop =
+    settled_cause old s rows limits limit error read tight terms forms settles
+    (λ ever are among rests. work_fails s.terms limit (standing_of rows) ever error
+    (explained_work s rows line ever error i (subst (λ (fs : List Parts). AllRead fs rows) (sym forms) read) entries stop are among rests))

@@ -77,7 +77,7 @@ data Place (k n : ℕ) : Type 0 where
 place : (k n : ℕ) → Place k n
 place k n = elim (cases_lt k n) [ inl l ↦ old l | inr m ↦ elim (cases_lt n k) [ inl l ↦ past l | inr p ↦ last (omega arith) ] ]
 
-further_forms : (terms : ℕ) (forms : List Parts) (form : Parts) → AreForms terms forms → TermsBelow terms form → IsNormal form
+pub further_forms : (terms : ℕ) (forms : List Parts) (form : Parts) → AreForms terms forms → TermsBelow terms form → IsNormal form
     → ((k : ℕ) → k < length forms → form_at forms k ≢ form) → AreForms terms (forms ++ form ∷ [])
 further_forms terms forms form a b n absent = record {
   terms_in = let e = length_push forms form in let h = a.terms_in in omega arith;

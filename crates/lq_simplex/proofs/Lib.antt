@@ -1,4 +1,5 @@
 pub mod Keeping
+pub mod Operations
 pub mod Appearing
 pub mod Combinations
 pub mod Merging
@@ -19,5 +20,7 @@ pub mod Bounding
 pub mod Configuring
 pub mod Naming
 pub mod Turning
+pub mod Working
+pub mod Extending
 pub mod Chaining
 pub mod Determined

@@ -8,4 +8,6 @@ pub mod History
 pub mod Conflicts
 pub mod Configurations
 pub mod Appearing
+pub mod Operations
+pub mod Working
 pub mod Table

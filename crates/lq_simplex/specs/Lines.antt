@@ -2,12 +2,9 @@
 use Rattle.std.specs.Prelude.{◌≡◌, ◌==◌, if◌then◌else◌, ℕ, zero, suc, pos, ◌≤◌, ◌<◌, Bool, false, List, [], ◌∷◌, ◌++◌, Option, Some, None, length, ◌≢◌, ◌+◌, slice_get}
 use Rattle.lq_math.specs.Rational.{ℚ, whole, ◌+ℚ◌, ◌*ℚ◌}
 use Rattle.lq_num.specs.declared.frac.Frac.{Frac}
-use Rattle.lq_num.specs.Past.{IsPast}
 use Rattle.lq_num.specs.Value.{value_of}
 use Rattle.lq_linear.specs.Row.{Valuation}
 use Rattle.lq_simplex.specs.declared.line.Entry.{Entry}
-use Rattle.lq_simplex.specs.declared.error.TableauError.{TableauError}
-use Rattle.lq_simplex.specs.declared.error.TableauError.TheVariants.{Past, Spent, Memory}
 
 abbrev pub combine : Valuation → List Entry → ℚ
 combine x [] = whole (pos 0)
@@ -59,9 +56,3 @@ VariablesBelow n (e ∷ es) = (e.variable < n) × VariablesBelow n es
 pub data IsPut (old : List Entry) (variable : ℕ) (factor : Frac) (new : List Entry) : Type 0 where
   added : ¬ (value_of factor ≡ whole (pos 0)) → new ≡ old ++ (record { variable = variable; factor = factor }) ∷ [] → IsPut old variable factor new
   left_out : value_of factor ≡ whole (pos 0) → new ≡ old → IsPut old variable factor new
-
--- an operation on two fractions that has no result within 128 bits, or want of memory
-abbrev pub IsTableauError : TableauError → Type 0
-IsTableauError (Past e) = IsPast e
-IsTableauError Spent = ⊥
-IsTableauError Memory = Unit {0}

@@ -1,8 +1,7 @@
 -- What a tableau is seen as, and what always holds of one.
-use Rattle.std.specs.Prelude.{◌≡◌, ℕ, List, [], ◌∷◌, length}
+use Rattle.std.specs.Prelude.{◌≡◌, ℕ, List, [], ◌∷◌, ◌++◌, length}
 use Rattle.lq_math.specs.Rational.{ℚ}
 use Rattle.lq_num.specs.declared.frac.Frac.{Frac}
-use Rattle.lq_num.specs.Past.{IsPast}
 use Rattle.lq_linear.specs.Row.{Row, Valuation}
 use Rattle.lq_linear.specs.Contradiction.{Tagged, Solves, IsContradiction}
 use Rattle.lq_linear.specs.Steps.{valuation_of}
@@ -25,6 +24,9 @@ use Rattle.lq_simplex.specs.Standing.{standing_of, multipliers_of, AllRead, Tags
 use Rattle.lq_simplex.specs.Bounds.{Limits}
 use Rattle.lq_simplex.specs.History.{IsHistory}
 use Rattle.lq_simplex.specs.Appearing.{AreFormsOf}
+use Rattle.lq_simplex.specs.Conflicts.{AllGiven}
+use Rattle.lq_simplex.specs.Operations.{IsPastIn, StopsIn}
+use Rattle.lq_simplex.specs.Working.{IsWorkOver}
 use Rattle.lq_simplex.specs.Configurations.{AllAmong, Rests}
 
 -- the variables with their values, the rows that stand, the bounds that these give, the multipliers of the last conflict, the last answer,
@@ -71,9 +73,9 @@ pub record IsSpent (terms limit : ℕ) (standing : Tagged) (ever : List Row) : T
   pub chain : ℕ → Configuration
   pub pivots : IsChain variables ever (untagged standing) limit chain
 
--- an operation on two fractions that has no result within 128 bits, the limit on pivots where a chain spends it, or want of memory
+-- an operation of the work that has no result within 128 bits, the limit on pivots where a chain spends it, or want of memory
 abbrev pub StopsAt : ℕ → ℕ → Tagged → List Row → LinearStop → Type 0
-StopsAt terms limit standing ever (Number e) = IsPast e
+StopsAt terms limit standing ever (Number e) = IsPastIn (IsWorkOver terms ever) e
 StopsAt terms limit standing ever (Pivots count) = (count ≡ limit) × IsSpent terms limit standing ever
 StopsAt terms limit standing ever Memory = Unit {0}
 
@@ -89,9 +91,10 @@ pub record Handed (t : Table) (rows : List Row) : Type 0 where
   pub among : AllAmong rows t.rows
   pub rests : Rests rows t.system
 
--- why a check finds no verdict, with these rows standing and these ever handed over: where the limit is spent, by a chain of pivots
+-- why a check finds no verdict, with these rows standing and these ever handed over: an operation of the work, or, where the limit is spent,
+-- a chain of pivots
 abbrev pub FailsBy : ℕ → ℕ → Tagged → List Row → TableauError → Type 0
-FailsBy terms limit standing ever (Past e) = IsPast e
+FailsBy terms limit standing ever (Past e) = IsPastIn (IsWorkOver terms ever) e
 FailsBy terms limit standing ever Spent = IsSpent terms limit standing ever
 FailsBy terms limit standing ever failed.Memory = Unit {0}
 
@@ -99,6 +102,17 @@ FailsBy terms limit standing ever failed.Memory = Unit {0}
 abbrev pub HasCause : System → List Standing → ℕ → TableauError → Type 0
 HasCause s rows limit error =
     (ever : List Row) → AreFormsOf ever s.terms s.forms → AllAmong ever rows → Rests ever s → FailsBy s.terms limit (standing_of rows) ever error
+
+-- an operation of the work, or want of memory, whatever rows give the limits and whatever rows were ever handed over
+abbrev pub HasWork : System → Limits → TableauError → Type 0
+HasWork s limits error =
+    (ever : List Row) (rows : List Standing) → AllRead s.forms rows → AllGiven rows limits → AreFormsOf ever s.terms s.forms → AllAmong ever rows → Rests ever s
+    → StopsIn (IsWorkOver s.terms ever) error
+
+-- so where one more row is handed over
+abbrev pub StopsReading : System → Row → TableauError → Type 0
+StopsReading s row error =
+    (ever : List Row) → AreFormsOf ever s.terms s.forms → Rests ever s → StopsIn (IsWorkOver s.terms (ever ++ row ∷ [])) error
 
 pub record IsTable (t : Table) : Type 0 where
   pub read : AllRead t.system.forms t.rows

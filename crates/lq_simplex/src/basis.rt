@@ -3,13 +3,13 @@ ghost use Rattle.std.specs.Prelude.{◌≡◌, ◌≢◌, true, ℕ, pos, ◌<�
 ghost use Rattle.lq_math.specs.Rational.{whole, ◌+ℚ◌, ◌-ℚ◌, ◌*ℚ◌};
 ghost use Rattle.lq_linear.specs.Row.{Valuation, sum_at};
 ghost use Rattle.lq_linear.specs.Steps.{valuation_of};
-ghost use Rattle.lq_num.specs.Past.{IsPast};
 ghost use Rattle.lq_num.specs.Value.{value_of};
-ghost use Rattle.lq_simplex.specs.Lines.{combine, factor_of, IsLine, IsOwnLine, IsTableauError};
+ghost use Rattle.lq_simplex.specs.Lines.{combine, factor_of, IsLine, IsOwnLine};
 ghost use Rattle.lq_linear.specs.Forms.{IsNormal};
 ghost use Rattle.lq_linear.specs.Difference.{TermsBelow};
 ghost use Rattle.lq_simplex.specs.Systems.{form_at, line_at, change_at, after, IsChange, IsAdded, IsShifted, IsFree, IsSystem, GoesOn};
 ghost use Rattle.lq_simplex.specs.Appearing.{IsExtended};
+ghost use Rattle.lq_simplex.specs.Operations.{IsAdding, IsBringing, IsChanging, IsExchange, IsLineSum, IsLining, IsMoved, IsPastIn, IsRelating, IsShifting, IsSummed, StopsIn};
 ghost use Rattle.lq_simplex.specs.Configurations.{AllStay, Brings, Exchanges};
 
 use crate::error::TableauError;
@@ -71,7 +71,8 @@ fn moved(value: &Frac, line: &Line, variable: usize, by: &Frac) -> Result<Frac, 
     requires { IsLine line.now }
     ensures exact { IfOk result (λ f. value_of f ≡ value_of value.now +ℚ factor_of line.now variable *ℚ
         value_of by.now) }
-    ensures stop { IfErr result IsPast }
+    ensures stop { IfErr result (IsPastIn (IsMoved (value_of value.now) (factor_of line.now variable)
+        (value_of by.now))) }
 {
     match line.factor(variable) {
         None => Ok(*value),
@@ -91,7 +92,8 @@ fn shifted(
     requires lines { (k : ℕ) → IsLine (line_at lines.now k) }
     ensures shifted { IfOk result (λ new. IsShifted lines.now values.now variable
         (value_of by.now) new.items) }
-    ensures stop { IfErr result IsTableauError }
+    ensures stop { IfErr result (StopsIn (IsShifting lines.now (valuation_of values.now) variable
+        (value_of by.now))) }
 {
     let mut shifted = Vec::new(alloc);
     for (at, line) in lines.iter().enumerate() {
@@ -110,7 +112,7 @@ fn change(
     requires line { IsLine line.now }
     requires zero { IsLine zero.now }
     ensures change { IfOk result (λ new. IsChange line.now variable zero.now new) }
-    ensures stop { IfErr result IsTableauError }
+    ensures stop { IfErr result (StopsIn (IsLineSum line.now (factor_of line.now variable) zero.now)) }
 {
     match line.factor(variable) {
         None => Ok(None),
@@ -128,7 +130,7 @@ fn changed(
     requires lines { (k : ℕ) → IsLine (line_at lines.now k) }
     requires zero { IsLine zero.now }
     ensures added { IfOk result (λ changed. IsAdded lines.now variable zero.now changed.items) }
-    ensures stop { IfErr result IsTableauError }
+    ensures stop { IfErr result (StopsIn (IsChanging lines.now variable zero.now)) }
 {
     let mut changed = Vec::new(alloc);
     for line in lines {
@@ -156,7 +158,7 @@ fn relation(alloc: Global, line: &Line, leaving: usize, factor: &Frac) -> Result
     ensures sum { IfOk result (λ zero. (x : Valuation)
         → combine x zero *ℚ value_of factor.now ≡ x leaving -ℚ combine x line.now) }
     ensures line { IfOk result IsLine }
-    ensures stop { IfErr result IsTableauError }
+    ensures stop { IfErr result (StopsIn (IsRelating line.now leaving (value_of factor.now))) }
 {
     let inverse = Frac::whole(1).div(factor)?;
     let times = inverse.neg()?;
@@ -171,7 +173,7 @@ fn line_of(alloc: Global, lines: &[Line], parts: &[(u64, i128)]) -> Result<Line,
     ensures sum { IfOk result (λ line. (x : Valuation)
         → combine x line ≡ sum_at (λ t. combine x (line_at lines.now t)) parts.now) }
     ensures line { IfOk result IsLine }
-    ensures stop { IfErr result IsTableauError }
+    ensures stop { IfErr result (StopsIn (IsLining lines.now parts.now)) }
 {
     let mut line = Line::empty(alloc);
     for (term, coefficient) in parts {
@@ -189,7 +191,7 @@ fn line_of(alloc: Global, lines: &[Line], parts: &[(u64, i128)]) -> Result<Line,
 fn form_value(values: &[Frac], parts: &[(u64, i128)]) -> Result<Frac, NumberPast>
     requires { TermsBelow (length values.now) parts.now }
     ensures exact { IfOk result (λ f. value_of f ≡ sum_at (valuation_of values.now) parts.now) }
-    ensures stop { IfErr result IsPast }
+    ensures stop { IfErr result (IsPastIn (IsSummed (valuation_of values.now) parts.now)) }
 {
     let mut total = Frac::whole(0);
     for (term, coefficient) in parts {
@@ -332,7 +334,7 @@ impl Basis {
         ensures terms { self.new.terms ≡ self.old.terms }
         ensures forms { GoesOn self.old.forms self.new.forms }
         ensures stays { AllStay self.old self.new }
-        ensures stop { IfErr result IsTableauError }
+        ensures stop { IfErr result (StopsIn (IsAdding self.old form)) }
     {
         if let Some(found) = find(&self.forms, form.parts()) {
             return Ok(found);
@@ -381,7 +383,7 @@ impl Basis {
         ensures kept { OnErr result (self.new ≡ self.old) }
         ensures terms { self.new.terms ≡ self.old.terms }
         ensures forms { self.new.forms ≡ self.old.forms }
-        ensures stop { IfErr result IsTableauError }
+        ensures stop { IfErr result (StopsIn (IsBringing self.old variable (value_of bound.now))) }
     {
         let by = bound.sub(&self.values[variable])?;
         self.values = shifted(alloc, &self.lines, &self.values, variable, &by)?;
@@ -405,7 +407,8 @@ impl Basis {
         ensures kept { OnErr result (self.new ≡ self.old) }
         ensures terms { self.new.terms ≡ self.old.terms }
         ensures forms { self.new.forms ≡ self.old.forms }
-        ensures stop { IfErr result IsTableauError }
+        ensures stop { IfErr result (StopsIn (IsExchange self.old leaving entering.variable
+            (value_of entering.factor) (value_of bound.now))) }
     {
         let way = bound.sub(&self.values[leaving])?;
         let by = way.div(&entering.factor)?;

@@ -1,11 +1,10 @@
 // The multipliers of a conflict.
 ghost use Rattle.std.specs.Prelude.{◌≡◌, ℕ, pos, IfOk, IfErr};
 ghost use Rattle.std.specs.Int.Signed.{◌<ℤ◌};
-ghost use Rattle.lq_math.specs.Rational.{◌*ℚ◌};
-ghost use Rattle.lq_num.specs.Past.{IsPast};
+ghost use Rattle.lq_math.specs.Rational.{whole, ◌*ℚ◌};
 ghost use Rattle.lq_num.specs.Value.{value_of};
 ghost use Rattle.lq_linear.specs.Contradiction.{IsContradiction};
-ghost use Rattle.lq_simplex.specs.Lines.{IsTableauError};
+ghost use Rattle.lq_simplex.specs.Operations.{IsExplained, IsPastIn, IsShared, StopsIn};
 ghost use Rattle.lq_simplex.specs.Standing.{scale_of, standing_of, multipliers_of};
 ghost use Rattle.lq_simplex.specs.Conflicts.{toward, negates, Names, IsKept};
 
@@ -31,7 +30,7 @@ fn is_negated(side: Side, turned: bool) -> bool
 fn multiplier(factor: &Frac, bound: &Bound, side: Side) -> Result<Frac, NumberPast>
     requires { pos 0 <ℤ bound.now.divisor }
     ensures exact { IfOk result (λ f. value_of f *ℚ scale_of bound.now ≡ toward side (value_of factor.now)) }
-    ensures stop { IfErr result IsPast }
+    ensures stop { IfErr result (IsPastIn (IsShared (value_of factor.now) (whole bound.now.divisor))) }
 {
     let quotient = factor.div(&Frac::whole(bound.divisor))?;
     if is_negated(side, bound.turned) {
@@ -53,7 +52,7 @@ fn share(
     ensures names { IfOk result (λ m. Names rows.now m.0 limit.now) }
     ensures exact { IfOk result (λ m. value_of m.1 *ℚ scale_of limit.now.bound
         ≡ toward side (value_of factor.now)) }
-    ensures stop { IfErr result IsPast }
+    ensures stop { IfErr result (IsPastIn (IsShared (value_of factor.now) (whole limit.now.bound.divisor))) }
 {
     let multiplier = multiplier(factor, &limit.bound, side)?;
     Ok((rows[limit.row].tag, multiplier))
@@ -70,7 +69,7 @@ pub(crate) fn explain(
     requires { IsKept rows.now limits.now broken.now line.now }
     ensures contradicts { IfOk result (λ found. IsContradiction (standing_of rows.now)
         (multipliers_of found.items)) }
-    ensures stop { IfErr result IsTableauError }
+    ensures stop { IfErr result (StopsIn (IsExplained rows.now line.now)) }
 {
     let mut found = Vec::new(alloc);
     let own = share(rows, &broken.limit, &Frac::whole(1), opposite(broken.side))?;

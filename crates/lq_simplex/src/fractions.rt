@@ -4,8 +4,8 @@ ghost use Rattle.lq_math.specs.Rational.{whole, ◌+ℚ◌, ◌*ℚ◌};
 ghost use Rattle.lq_num.specs.Value.{value_of};
 ghost use Rattle.lq_linear.specs.Row.{Valuation};
 ghost use Rattle.lq_linear.specs.Steps.{value_or_zero};
-ghost use Rattle.lq_num.specs.Past.{IsPast};
-ghost use Rattle.lq_simplex.specs.Lines.{combine, factor_of, owns, IsLine, IsHead, IsPut, variable_at, IsTableauError};
+ghost use Rattle.lq_simplex.specs.Lines.{combine, factor_of, owns, IsLine, IsHead, IsPut, variable_at};
+ghost use Rattle.lq_simplex.specs.Operations.{IsJoining, IsLineSum, IsPastIn, StopsIn};
 
 use crate::error::TableauError;
 use crate::line::Entry;
@@ -105,7 +105,7 @@ fn head(entries: &[Entry], at: usize, sought: usize) -> Front
 fn joined(left: Option<Frac>, times: &Frac, right: Option<Frac>) -> Result<Frac, NumberPast>
     ensures exact { IfOk result (λ f. value_of f ≡ value_or_zero left +ℚ value_of times.now *ℚ value_or_zero
         right) }
-    ensures stop { IfErr result IsPast }
+    ensures stop { IfErr result (IsPastIn (IsJoining left (value_of times.now) right)) }
 {
     match right {
         None => match left {
@@ -123,9 +123,8 @@ fn joined(left: Option<Frac>, times: &Frac, right: Option<Frac>) -> Result<Frac,
 }
 
 /// Adds an entry, unless its factor is 0.
-fn put(entries: &mut Vec<Entry>, variable: usize, factor: Frac) -> Result<(), TableauError>
-    ensures put { IfOk result (λ _. IsPut entries.old.items variable factor entries.new.items) }
-    ensures stop { IfErr result IsTableauError }
+fn put(entries: &mut Vec<Entry>, variable: usize, factor: Frac) -> Result<(), AllocError>
+    ensures { IfOk result (λ _. IsPut entries.old.items variable factor entries.new.items) }
 {
     if !factor.is_zero() {
         entries.push(Entry { variable, factor })?;
@@ -145,7 +144,7 @@ pub(crate) fn fraction_sum(
     ensures sum { IfOk result (λ entries. (x : Valuation)
         → combine x entries.items ≡ combine x left.now +ℚ value_of times.now *ℚ combine x right.now) }
     ensures line { IfOk result (λ entries. IsLine entries.items) }
-    ensures stop { IfErr result IsTableauError }
+    ensures stop { IfErr result (StopsIn (IsLineSum left.now (value_of times.now) right.now)) }
 {
     let mut entries = Vec::new(alloc);
     let mut i = 0;

@@ -3,7 +3,8 @@ ghost use Rattle.std.specs.Prelude.{◌≡◌, ℕ, pos, ◌<◌, [], ◌∷◌,
 ghost use Rattle.lq_math.specs.Rational.{whole, ◌+ℚ◌, ◌*ℚ◌};
 ghost use Rattle.lq_num.specs.Value.{value_of};
 ghost use Rattle.lq_linear.specs.Row.{Valuation};
-ghost use Rattle.lq_simplex.specs.Lines.{combine, factor_of, owns, IsLine, IsTableauError};
+ghost use Rattle.lq_simplex.specs.Lines.{combine, factor_of, owns, IsLine};
+ghost use Rattle.lq_simplex.specs.Operations.{IsLineSum, StopsIn};
 ghost use Rattle.lq_simplex.specs.WholeLines.{only, whole_entries};
 
 use crate::error::TableauError;
@@ -180,7 +181,7 @@ impl Line {
         ensures sum { IfOk result (λ line. (x : Valuation)
             → combine x line ≡ combine x left.now +ℚ value_of times.now *ℚ combine x right.now) }
         ensures line { IfOk result IsLine }
-        ensures stop { IfErr result IsTableauError }
+        ensures stop { IfErr result (StopsIn (IsLineSum left.now (value_of times.now) right.now)) }
     {
         if let Some(line) = Line::whole_sum(alloc, left, times, right)? {
             return Ok(Line {

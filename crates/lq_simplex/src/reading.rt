@@ -1,10 +1,9 @@
 // Rows as bounds of forms in lowest terms.
-ghost use Rattle.std.specs.Prelude.{◌≡◌, ◌≢◌, pos, ◌<◌, ◌^◌, false, length, All, IfOk, IfErr, OnOk, OnErr};
+ghost use Rattle.std.specs.Prelude.{◌≡◌, ◌≢◌, ℕ, pos, ◌<◌, ◌^◌, false, Some, length, slice_get, All, IfOk, IfErr, OnOk, OnErr};
 ghost use Rattle.lq_math.specs.Rational.{whole, ◌*ℚ◌, neg_ℚ};
-ghost use Rattle.lq_num.specs.Past.{IsPast};
 ghost use Rattle.lq_num.specs.Value.{value_of};
-ghost use Rattle.lq_simplex.specs.Lines.{IsTableauError};
-ghost use Rattle.lq_linear.specs.Forms.{DividesAll, FirstAbove};
+ghost use Rattle.lq_simplex.specs.Operations.{IsBounding, IsPastIn, IsRowRead, IsTurning, StopsIn};
+ghost use Rattle.lq_linear.specs.Forms.{Parts, DividesAll, FirstAbove};
 ghost use Rattle.lq_linear.specs.Difference.{TermsBelow};
 ghost use Rattle.lq_simplex.specs.Systems.{GoesOn};
 ghost use Rattle.lq_simplex.specs.Standing.{signed, ReadsBy};
@@ -34,7 +33,8 @@ fn divisor(parts: &[(u64, i128)]) -> u128
 /// A coefficient, negated where it is turned.
 fn turn_one(coefficient: i128, turned: bool) -> Result<i128, NumberPast>
     ensures exact { IfOk result (λ n. n ≡ turned_by turned coefficient) }
-    ensures stop { IfErr result IsPast }
+    ensures stop { (parts : Parts) (k term : ℕ) → slice_get parts k ≡ Some (term, coefficient)
+        → IfErr result (IsPastIn (IsTurning parts)) }
 {
     if !turned {
         return Ok(coefficient);
@@ -56,7 +56,7 @@ fn turn(
     turned: bool,
 ) -> Result<Vec<(u64, i128)>, TableauError>
     ensures turned { IfOk result (λ made. IsTurned turned parts.now made.items) }
-    ensures stop { IfErr result IsTableauError }
+    ensures stop { IfErr result (StopsIn (IsTurning parts.now)) }
 {
     let mut signed = Vec::new(alloc);
     for (term, coefficient) in parts {
@@ -95,7 +95,7 @@ fn divided(alloc: Global, parts: &[(u64, i128)], by: u128) -> Result<Vec<(u64, i
 /// A row's constant, negated unless the row is turned.
 fn numerator(constant: i128, turned: bool) -> Result<Frac, NumberPast>
     ensures exact { IfOk result (λ f. signed turned (value_of f) ≡ neg_ℚ (whole constant)) }
-    ensures stop { IfErr result IsPast }
+    ensures stop { (g : ℕ) → IfErr result (IsPastIn (IsBounding constant g)) }
 {
     let constant = Frac::whole(constant);
     if turned { Ok(constant) } else { constant.neg() }
@@ -107,7 +107,7 @@ fn bound_value(constant: i128, divisor: u128, turned: bool) -> Result<Frac, Numb
     requires small { divisor < 2 ^ 127 }
     ensures exact { IfOk result (λ f. signed turned (whole (pos divisor) *ℚ value_of f)
         ≡ neg_ℚ (whole constant)) }
-    ensures stop { IfErr result IsPast }
+    ensures stop { IfErr result (IsPastIn (IsBounding constant divisor)) }
 {
     let numerator = numerator(constant, turned)?;
     numerator.div(&Frac::whole(divisor as i128))
@@ -136,7 +136,7 @@ pub(crate) fn read(
     ensures stays { AllStay basis.old basis.new }
     ensures grown { OnOk result (HasGrown basis.old.forms basis.new.forms row.now.parts) }
     ensures kept { OnErr result (basis.new ≡ basis.old) }
-    ensures stop { IfErr result IsTableauError }
+    ensures stop { IfErr result (StopsIn (IsRowRead basis.old row.now)) }
 {
     let parts = row.parts();
     if parts.is_empty() {

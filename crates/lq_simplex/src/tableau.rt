@@ -6,7 +6,6 @@ ghost use Rattle.lq_num.specs.Value.{value_of};
 ghost use Rattle.lq_linear.specs.Row.{Row};
 ghost use Rattle.lq_linear.specs.Contradiction.{Tagged, tagged, Solves, IsContradiction};
 ghost use Rattle.lq_linear.specs.Steps.{valuation_of};
-ghost use Rattle.lq_simplex.specs.Lines.{IsTableauError};
 ghost use Rattle.lq_linear.specs.Forms.{Parts};
 ghost use Rattle.lq_linear.specs.Difference.{TermsBelow};
 ghost use Rattle.lq_simplex.specs.Standing.{standing_of, multipliers_of, AllRead, TagsApart, AllBare};
@@ -16,7 +15,7 @@ ghost use Rattle.lq_simplex.specs.Appearing.{AreFormsOf};
 ghost use Rattle.lq_simplex.specs.Configurations.{AllAmong, Rests, FreeKeep, Settles};
 ghost use Rattle.lq_simplex.specs.Bounds.{interval_at, AreTightest, AreUncrossed};
 ghost use Rattle.lq_simplex.specs.History.{IsHistory};
-ghost use Rattle.lq_simplex.specs.Table.{FailsBy, HasCause, StopsAt};
+ghost use Rattle.lq_simplex.specs.Table.{FailsBy, HasCause, HasWork, StopsAt, StopsReading};
 
 use crate::basis::Basis;
 use crate::conflict::explain;
@@ -104,7 +103,7 @@ fn settle(alloc: Global, basis: &mut Basis, limits: &Limits) -> Result<(), Table
     ensures settles { Settles limits.now basis.old basis.new }
     ensures terms { basis.new.terms ≡ basis.old.terms }
     ensures forms { basis.new.forms ≡ basis.old.forms }
-    ensures stop { IfErr result IsTableauError }
+    ensures stop { IfErr result (HasWork basis.old limits.now) }
 {
     for variable in 0..basis.len() {
         let value = basis.values()[variable];
@@ -217,7 +216,7 @@ fn stand(
         → AreFormsOf (ever ++ row.now ∷ []) basis.new.terms basis.new.forms) }
     ensures refused { OnErr result (basis.new ≡ basis.old) }
     ensures terms { basis.new.terms ≡ basis.old.terms }
-    ensures stop { IfErr result IsTableauError }
+    ensures stop { IfErr result (StopsReading basis.old row.now) }
 {
     rows.reserve(1)?;
     limits.reserve()?;
@@ -248,7 +247,8 @@ fn stop_of(stop: TableauError, limit: u64) -> LinearStop
 impl Tableau {
     ghost use Rattle.lq_linear.specs.Answers.{Nothing};
     ghost use Rattle.lq_simplex.specs.Configurations.{IsConfiguration};
-    ghost use Rattle.lq_simplex.specs.Table.{table_rows, table_last, table_limits, Handed};
+    ghost use Rattle.lq_simplex.specs.Table.{table_rows, table_last, table_limits, table_point, Handed};
+    ghost use Rattle.lq_simplex.specs.Working.{IsPlaced};
 
     /// An empty tableau for rows over the terms below `terms`, whose checks make at most `limit` pivots each.
     pub fn new(alloc: Global, terms: u64, limit: u64) -> Result<Tableau, AllocError>
@@ -272,12 +272,14 @@ impl Tableau {
 
     /// What always holds of a tableau, as a law: at every point each variable is the combination of free ones that its line says, and
     /// the free ones, as many as there are terms, can be chosen freely. Rows that are multiples of one another bound one variable. A free one has the value 0 or a
-    /// bound that a row gives which was handed.
+    /// bound that a row gives which was handed. So the values are those of a configuration of the rows that were handed.
     pub fn configuration(&self)
         ensures configured { IsConfiguration self.now.system }
         ensures rests { (ever : List Row) → Handed self.now ever → Rests ever self.now.system }
         ensures forms { (ever : List Row) → Handed self.now ever
             → AreFormsOf ever self.now.system.terms self.now.system.forms }
+        ensures placed { (ever : List Row) → Handed self.now ever
+            → IsPlaced self.now.system.terms ever (table_point self.now) }
     {
         let _ = self.basis.values();
     }

@@ -1,10 +1,16 @@
-use Rattle.std.proofs.Common.{◌∙◌, ◌<◌, length, ap, ap₂, sym, rules, get_or, FitsSigned, ℕ, ℤ, pos}
+use Rattle.std.proofs.Common.{◌≡◌, ◌∙◌, ◌<◌, length, ap, ap₂, sym, subst, rules, take, slice_get, get_or, Some, Err, FitsSigned, ℕ, ℤ, pos}
 use Rattle.std.specs.Int.{w128}
 use Rattle.std.proofs.lemmas.Int.{to_z-of_z}
+use Rattle.std.proofs.lemmas.Option.{slice_get-get_or}
 use Rattle.lq_math.specs.Rational.{whole, ◌+ℚ◌, ◌*ℚ◌}
 use Rattle.lq_linear.specs.Steps.{valuation_of}
 use Rattle.lq_simplex.proofs.Forms.{sum_at-more, term_below}
 use Rattle.lq_simplex.proofs.Values.{value_there}
+use Rattle.lq_num.specs.Value.{value_of}
+use Rattle.lq_linear.specs.Row.{sum_at}
+use Rattle.lq_num.specs.declared.past.NumOp.TheVariants.{Add, Mul}
+use Rattle.lq_simplex.specs.Operations.{IsSummed}
+use Rattle.lq_simplex.proofs.Operations.{past_in, past_was}
 use Rattle.lq_simplex.proofs.basis.form_value.Goals as goal
 
 pub offset_bounds-values-term : goal.offset_bounds-values-term
@@ -25,3 +31,35 @@ loop-term-preserved c =
     ∙ ap₂ (λ x y. x +ℚ y) c.loop-term.invariant
     (c.in_ok-product.ensures.exact ∙ ap₂ (λ x y. x *ℚ y) (c.whole.ensures.value ∙ ap whole (to_z-of_z w128 p.1 fits)) (sym (value_there values p.0 c.index-values-term.result within c.index-values-term.is)))
     ∙ sym (sum_at-more v items i (0, pos 0) c.loop-term-test.true)
+
+pub returns-in_err-product-clause-stop : goal.returns-in_err-product-clause-stop
+returns-in_err-product-clause-stop c =
+    let values = c.args.values.now in let v = valuation_of values in let items = c.args.parts.now in let i = c.loop-term.term-index in
+    let p : ℕ × ℤ = get_or items i (0, pos 0) in
+    let fits : FitsSigned w128 p.1 = search rules in
+    let within : p.0 < length values = term_below (length values) items i (0, pos 0) c.requires c.loop-term-test.true in
+    let Is = IsSummed v items in
+    let e = c.in_err-product.field-0.0 in
+    let was : c.from_residual.result ≡ Err e = search rules in
+    let there : slice_get items i ≡ Some (p.0, p.1) = slice_get-get_or items i (0, pos 0) c.loop-term-test.true in
+    past_was Is c.from_residual.result e was
+    (past_in Is e Mul c.whole.result c.index-values-term.result c.in_err-product.ensures.carries c.in_err-product.ensures.past
+    (subst (λ x. Is Mul x (value_of c.index-values-term.result)) (sym (c.whole.ensures.value ∙ ap whole (to_z-of_z w128 p.1 fits)))
+    (subst (λ y. Is Mul (whole p.1) y) (value_there values p.0 c.index-values-term.result within c.index-values-term.is) (IsSummed.product i p.0 p.1 there))))
+
+pub returns-in_err-total-clause-stop : goal.returns-in_err-total-clause-stop
+returns-in_err-total-clause-stop c =
+    let values = c.args.values.now in let v = valuation_of values in let items = c.args.parts.now in let i = c.loop-term.term-index in
+    let p : ℕ × ℤ = get_or items i (0, pos 0) in
+    let fits : FitsSigned w128 p.1 = search rules in
+    let within : p.0 < length values = term_below (length values) items i (0, pos 0) c.requires c.loop-term-test.true in
+    let Is = IsSummed v items in
+    let e = c.in_err-total.field-0.0 in
+    let was : c.from_residual-in_err-total.result ≡ Err e = search rules in
+    let there : slice_get items i ≡ Some (p.0, p.1) = slice_get-get_or items i (0, pos 0) c.loop-term-test.true in
+    let product : value_of c.in_ok-product.product ≡ whole p.1 *ℚ v p.0 =
+    c.in_ok-product.ensures.exact ∙ ap₂ (λ x y. x *ℚ y) (c.whole.ensures.value ∙ ap whole (to_z-of_z w128 p.1 fits)) (sym (value_there values p.0 c.index-values-term.result within c.index-values-term.is)) in
+    past_was Is c.from_residual-in_err-total.result e was
+    (past_in Is e Add c.loop-term.total c.in_ok-product.product c.in_err-total.ensures.carries c.in_err-total.ensures.past
+    (subst (λ x. Is Add x (value_of c.in_ok-product.product)) (sym c.loop-term.invariant)
+    (subst (λ y. Is Add (sum_at v (take i items)) y) (sym product) (IsSummed.sum i p.0 p.1 there))))

@@ -1,4 +1,4 @@
-use Rattle.std.proofs.Common.{◌≡◌, ◌∙◌, ◌+◌, ◌++◌, arith, ◌∷◌, [], sym, ap, subst, Some, None, slice_get, List, ℕ, Vec, Global}
+use Rattle.std.proofs.Common.{◌≡◌, ◌∙◌, ◌+◌, ◌++◌, arith, rules, inl, inr, refl, Err, ◌∷◌, [], sym, ap, subst, Some, None, slice_get, List, ℕ, Vec, Global}
 use Rattle.lq_simplex.specs.declared.line.Entry.{Entry}
 use Rattle.lq_num.specs.declared.frac.Frac.{Frac}
 use Rattle.lq_num.specs.Value.{value_of}
@@ -6,6 +6,10 @@ use Rattle.lq_linear.specs.declared.bound.Side.{Side}
 use Rattle.lq_simplex.specs.Bounds.{limit_at, blocking_of}
 use Rattle.lq_simplex.proofs.Limiting.{blocked_at}
 use Rattle.lq_simplex.proofs.Explaining.{Explained, explained_start, explained_step, explained_end, given_some, limit_names, limit_divides, own_limit}
+use Rattle.lq_math.specs.Rational.{whole}
+use Rattle.lq_simplex.specs.declared.error.TableauError.TheVariants.{Past}
+use Rattle.lq_simplex.specs.Operations.{IsExplained, IsShared}
+use Rattle.lq_simplex.proofs.Operations.{stops_past, past_among}
 use Rattle.lq_simplex.proofs.conflict.explain.Goals as goal
 use Rattle.lq_simplex.proofs.conflict.explain.Goals.{in-Some+in_ok-other+in_ok-push-2, in_default}
 
@@ -61,3 +65,46 @@ pub returns-clause-contradicts : goal.returns-clause-contradicts
 returns-clause-contradicts c =
     explained_end c.args.rows.now c.args.limits.now c.args.broken.now c.args.line.now c.requires c.loop-at.at c.loop-at.found.items
     (let e = c.len-at-end.ensures in let h = c.loop-at-test.false in omega arith) (c.loop-at.invariant c.requires)
+
+pub returns-in_err-own-clause-stop : goal.returns-in_err-own-clause-stop
+returns-in_err-own-clause-stop c =
+    let rows = c.args.rows.now in let line = c.args.line.now in let limit = c.args.broken.now.limit in
+    let Is = IsExplained rows line in
+    let e = c.in_err-own.field-0.0 in
+    let was : c.from_residual.result ≡ Err (Past e) = search rules in
+    let g = own_limit rows c.args.limits.now c.args.broken.now line c.requires in
+    stops_past Is c.from_residual.result e was
+    (past_among (IsShared (value_of c.whole.result) (whole limit.bound.divisor)) Is e
+    (λ op x y h. record {
+      place = limit.row;
+      standing = g.standing;
+      stands = g.stands;
+      bound = limit.bound;
+      gives = g.gives;
+      factor = value_of c.whole.result;
+      is = inl c.whole.ensures.value;
+      shares = h;
+    })
+    c.in_err-own.ensures.stop)
+
+pub returns-in_err-other-clause-stop : goal.returns-in_err-other-clause-stop
+returns-in_err-other-clause-stop c =
+    let rows = c.args.rows.now in let line = c.args.line.now in let limit = c.in-Some.limit in
+    let Is = IsExplained rows line in
+    let e = c.in_err-other.field-0.0 in
+    let was : c.from_residual-in_err-other.result ≡ Err (Past e) = search rules in
+    let at : limit_at c.args.limits.now c.blocking-side.result c.entry-entry.result.variable ≡ Some limit = sym c.in-Some.ensures in
+    let g = given_some rows c.args.limits.now c.blocking-side.result c.entry-entry.result.variable limit c.requires.given at in
+    stops_past Is c.from_residual-in_err-other.result e was
+    (past_among (IsShared (value_of c.entry-entry.result.factor) (whole limit.bound.divisor)) Is e
+    (λ op x y h. record {
+      place = limit.row;
+      standing = g.standing;
+      stands = g.stands;
+      bound = limit.bound;
+      gives = g.gives;
+      factor = value_of c.entry-entry.result.factor;
+      is = inr (c.loop-at.at, c.entry-entry.result, c.entry-entry.ensures, refl);
+      shares = h;
+    })
+    c.in_err-other.ensures.stop)

@@ -5,6 +5,9 @@ use Rattle.std.proofs.lemmas.Result.{IfOk-weaker}
 use Rattle.lq_math.specs.Rational.{whole, neg_ℚ}
 use Rattle.lq_num.specs.Value.{value_of}
 use Rattle.lq_simplex.proofs.Readings.{whole_apart, bound_is}
+use Rattle.lq_num.specs.declared.past.NumOp.TheVariants.{Div}
+use Rattle.lq_simplex.specs.Operations.{IsBounding}
+use Rattle.lq_simplex.proofs.Operations.{past_carried, bounding_is}
 use Rattle.lq_simplex.proofs.reading.bound_value.Goals as goal
 
 pub div-requires : goal.div-requires
@@ -20,3 +23,12 @@ returns-clause-exact c =
     (c.whole.ensures.value ∙ ap whole (to_z-of_z w128 (pos c.args.divisor) fits)) h
     (c.in_ok-numerator.ensures.exact ∙ ap (λ z. neg_ℚ (whole z)) (to_z-of_z w128 c.args.constant c.ranges.constant)))
     c.div.ensures.exact
+
+pub returns-clause-stop : goal.returns-clause-stop
+returns-clause-stop c =
+    let fits : FitsSigned w128 (pos c.args.divisor) = search rules in
+    let n = c.in_ok-numerator.numerator in let w = c.whole.result in
+    past_carried (IsBounding c.args.constant c.args.divisor) c.div.result Div n w c.div.ensures.past c.div.ensures.carries
+    (bounding_is c.args.constant c.args.divisor c.args.turned (value_of n) (value_of w)
+    (c.in_ok-numerator.ensures.exact ∙ ap (λ z. neg_ℚ (whole z)) (to_z-of_z w128 c.args.constant c.ranges.constant))
+    (c.whole.ensures.value ∙ ap whole (to_z-of_z w128 (pos c.args.divisor) fits)))

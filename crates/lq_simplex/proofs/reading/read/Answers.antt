@@ -1,4 +1,4 @@
-use Rattle.std.proofs.Common.{◌≡◌, ◌∙◌, inl, inr, sym, ap, ap₂, subst, rules, FitsSigned, pos, arith, to_z, of_z}
+use Rattle.std.proofs.Common.{◌≡◌, ◌∙◌, inl, inr, sym, ap, ap₂, subst, rules, FitsSigned, pos, arith, to_z, of_z, Err, ◌≢◌, ◌<◌, length, []}
 use Rattle.std.specs.Int.{w128}
 use Rattle.std.specs.Int.Signed.{◌<ℤ◌}
 use Rattle.std.proofs.lemmas.Int.{to_z-of_z, ints}
@@ -10,6 +10,10 @@ use Rattle.lq_simplex.specs.Standing.{signed}
 use Rattle.lq_simplex.specs.RowParts.{turned_by, IsTurned, IsDivided, IsGreatest}
 use Rattle.lq_simplex.proofs.Readings.{turned_below, divided_below, turned_first, form_normal, row_reads}
 use Rattle.lq_simplex.proofs.Multiples.{form_multiple, form_times}
+use Rattle.lq_simplex.specs.declared.error.TableauError.TheVariants.{Past}
+use Rattle.lq_linear.specs.Forms.{DividesAll}
+use Rattle.lq_simplex.specs.Operations.{IsAdding, IsBounding, IsRowRead, IsDivisorOf}
+use Rattle.lq_simplex.proofs.Operations.{stops_past, stops_were, past_among, divisor_turned}
 use Rattle.lq_simplex.proofs.reading.read.Goals as goal
 
 pub variable-requires-clause-below : goal.variable-requires-clause-below
@@ -67,3 +71,34 @@ returns-clause-grown c =
         g.1,
       )
     ]
+
+pub returns-in_err-value-clause-stop : goal.returns-in_err-value-clause-stop
+returns-in_err-value-clause-stop c =
+    let parts = c.args.row.now.parts in let made = c.in_ok-made.made.items in let d = c.shared-divisor.result in
+    let t : IsTurned c.is_turned-turned.result parts made = rw (sym c.parts-parts.ensures.value) c.in_ok-made.ensures.turned in
+    let greatest : IsGreatest d made = rw (sym c.as_slice.ensures.value) c.shared-divisor.ensures.greatest in
+    let divides : DividesAll d made = rw (sym c.as_slice.ensures.value) c.shared-divisor.ensures.divides in
+    let constant : FitsSigned w128 c.constant.result = search rules in
+    let is : to_z w128 (of_z w128 c.constant.result) ≡ c.args.row.now.constant = to_z-of_z w128 c.constant.result constant ∙ c.constant.ensures in
+    let Is = IsRowRead c.args.basis.now c.args.row.now in
+    let e = c.in_err-value.field-0.0 in
+    let was : c.from_residual-in_err-value.result ≡ Err (Past e) = search rules in
+    let positive : 0 < length c.parts-parts.result.now = search rules in
+    let some : parts ≢ [] = (λ z. let q = ap length (c.parts-parts.ensures.value ∙ z) in absurd (omega arith)) in
+    let of : IsDivisorOf parts d = divisor_turned c.is_turned-turned.result d parts made t divides greatest in
+    stops_past Is c.from_residual-in_err-value.result e was
+    (past_among (IsBounding (to_z w128 (of_z w128 c.constant.result)) d) Is e
+    (λ op x y h. IsRowRead.bounding some d of (subst (λ z. IsBounding z d op x y) is h)) c.in_err-value.ensures.stop)
+
+pub returns-in_err-variable-clause-stop : goal.returns-in_err-variable-clause-stop
+returns-in_err-variable-clause-stop c =
+    let parts = c.args.row.now.parts in let made = c.in_ok-made.made.items in let form = c.in_ok-divided.field-0.items in let d = c.shared-divisor.result in
+    let t : IsTurned c.is_turned-turned.result parts made = rw (sym c.parts-parts.ensures.value) c.in_ok-made.ensures.turned in
+    let q : IsDivided (pos d) made form = rw (sym c.as_slice-2.ensures.value) c.in_ok-divided.ensures in
+    let Is = IsRowRead c.args.basis.now c.args.row.now in
+    let e = c.in_err-variable.field-0.0 in
+    let was : c.from_residual-in_err-variable.result ≡ Err e = search rules in
+    let multiple : AreMultiples parts c.new-form.result =
+    subst (AreMultiples parts) (sym c.new-form.ensures) (form_multiple c.is_turned-turned.result d parts made form c.shared-divisor.ensures.some t q) in
+    stops_were (IsAdding c.args.basis.now c.new-form.result) Is c.from_residual-in_err-variable.result e
+    (λ op x y h. IsRowRead.adding c.new-form.result multiple h) was c.in_err-variable.ensures.stop

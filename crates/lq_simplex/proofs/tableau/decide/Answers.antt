@@ -1,4 +1,4 @@
-use Rattle.std.proofs.Common.{◌≡◌, ◌<◌, length, arith, ◌∙◌, sym, subst, List}
+use Rattle.std.proofs.Common.{◌≡◌, ℕ, zero, suc, ◌<◌, length, inl, inr, arith, rules, refl, ◌∙◌, sym, ap, subst, slice_get, List, Some, None, Err, IfErr}
 use Rattle.std.proofs.lemmas.Result.{IfOk-weaker, IfErr-weaker}
 use Rattle.lq_linear.specs.Forms.{Parts}
 use Rattle.lq_simplex.specs.declared.line.Entry.{Entry}
@@ -7,7 +7,14 @@ use Rattle.lq_simplex.specs.Systems.{System}
 use Rattle.lq_simplex.specs.Standing.{AllRead, AllBare}
 use Rattle.lq_simplex.proofs.Tables.{crossed_kept, all_solved, none_weaker}
 use Rattle.lq_simplex.proofs.Resting.{rests_settled}
-use Rattle.lq_simplex.proofs.Chaining.{settled_cause}
+use Rattle.lq_simplex.proofs.Chaining.{settled_cause, explained_cause}
+use Rattle.lq_num.specs.Value.{value_of}
+use Rattle.lq_num.specs.declared.frac.Frac.{Frac}
+use Rattle.lq_work.specs.Work.{IsOneOrEntry}
+use Rattle.lq_simplex.specs.WholeLines.{only}
+use Rattle.lq_simplex.specs.Table.{HasCause}
+use Rattle.lq_simplex.proofs.Bounding.{variables_of}
+use Rattle.lq_simplex.proofs.Configuring.{configuration_of}
 use Rattle.lq_simplex.proofs.tableau.decide.Goals as goal
 
 pub explain-requires : goal.explain-requires
@@ -53,3 +60,23 @@ returns-clause-stop c =
     IfErr-weaker c.pivots.result _ _
     (λ stop cause. settled_cause c.args.basis.now s rows c.args.limits.now c.args.limit stop c.requires.read c.requires.tightest c.in_ok-settle.ensures.terms c.in_ok-settle.ensures.forms
     c.in_ok-settle.ensures.settles cause) c.pivots.ensures.stop
+
+-- the one entry of a variable alone
+only_entry : (variable : ℕ) (one : Frac) (k : ℕ) (f : Entry) → slice_get (only variable one) k ≡ Some f → f.factor ≡ one
+only_entry variable one zero f h = let q : (record { variable = variable; factor = one }) ≡ f = cc in ap (λ (g : Entry). g.factor) (sym q)
+only_entry variable one (suc k) f h = absurd (let q : None ≡ Some f = h in cc)
+
+pub returns-in_err-explain-clause-stop : goal.returns-in_err-explain-clause-stop
+returns-in_err-explain-clause-stop c =
+    let s = c.args.basis.now in let rows = c.args.rows.now in
+    let line : List Entry = c.in_ok-own.own in
+    let e = c.in_err-explain.field-0.0 in
+    let was : c.from_residual-in_err-explain.result ≡ Err e = search rules in
+    let entries : (k : ℕ) (f : Entry) → slice_get line k ≡ Some f → IsOneOrEntry (variables_of s) (configuration_of s) (value_of f.factor) =
+    (λ k f there.
+    inl
+    (ap value_of (only_entry c.in-Some-crossed.broken.variable c.whole.result k f (subst (λ (es : List Entry). slice_get es k ≡ Some f) c.in_ok-own.ensures there))
+    ∙ c.whole.ensures.value)) in
+    subst (λ r. IfErr r (HasCause s rows c.args.limit)) (sym was)
+    (explained_cause s s rows c.args.limits.now c.args.limit line e c.requires.read c.requires.tightest refl refl (λ j f. inr (f, refl)) c.len.ensures.system entries
+    c.in_err-explain.ensures.stop)

@@ -1,4 +1,4 @@
-use Rattle.std.proofs.Common.{◌≡◌, ◌<◌, ◌-◌, ◌∙◌, length, inr, arith, refl, sym, subst, List}
+use Rattle.std.proofs.Common.{◌≡◌, ℕ, ◌<◌, ◌-◌, ◌∙◌, length, inr, arith, rules, refl, sym, subst, slice_get, List, Some, Err, IfErr}
 use Rattle.lq_linear.specs.Forms.{Parts}
 use Rattle.lq_linear.specs.Steps.{valuation_of}
 use Rattle.lq_simplex.specs.Standing.{AllRead}
@@ -8,7 +8,17 @@ use Rattle.lq_simplex.proofs.Tables.{line_variables, kept}
 use Rattle.lq_simplex.proofs.Resting.{settle_step, exchange_brings}
 use Rattle.lq_simplex.proofs.Keeping.{keep_step, broken_apart}
 use Rattle.lq_simplex.proofs.Turning.{IsTurn}
-use Rattle.lq_simplex.proofs.Chaining.{no_turns, one_turn, turns_cause}
+use Rattle.lq_simplex.proofs.Chaining.{no_turns, one_turn, turns_cause, work_cause, explained_cause}
+use Rattle.lq_num.specs.Value.{value_of}
+use Rattle.lq_work.specs.Work.{IsOneOrEntry}
+use Rattle.lq_simplex.specs.declared.line.Entry.{Entry}
+use Rattle.lq_simplex.specs.Bounds.{limit_at}
+use Rattle.lq_simplex.specs.Table.{HasCause}
+use Rattle.lq_simplex.proofs.Bounding.{variables_of}
+use Rattle.lq_simplex.proofs.Configuring.{configuration_of}
+use Rattle.lq_simplex.proofs.Limiting.{beyond_not_within}
+use Rattle.lq_simplex.proofs.Keeping.{keeps_limit}
+use Rattle.lq_simplex.proofs.Working.{Leaves, line_entry, exchange_work, settled_work}
 use Rattle.lq_simplex.proofs.tableau.pivots.Goals as goal
 
 pub entering-requires : goal.entering-requires
@@ -92,3 +102,40 @@ pivot-requires-clause-apart c =
     let some = rw c.values.ensures.values at c.in-Some.ensures.some in
     let e = rw c.line-line.ensures.line at c.in-Some-entering.ensures.some in
     broken_apart c.args.limits.now c.loop-broken.basis c.in-Some.broken e.0 c.in-Some-entering.entry c.line-line.ensures.system.are_lines (let v = c.line-line.ensures.system.valued in let h = some.0 in omega arith) c.loop-broken.invariant.keeps some.1 e.1
+
+pub returns-in_err-explain-clause-stop : goal.returns-in_err-explain-clause-stop
+returns-in_err-explain-clause-stop c =
+    let old = c.args.basis.now in let s = c.loop-broken.basis in let rows = c.args.rows.now in let limits = c.args.limits.now in
+    let before = c.loop-broken.invariant in let b = c.in-Some.broken.variable in
+    let some = rw c.values.ensures.values at c.in-Some.ensures.some in
+    let inside : b < length s.forms = (let v = c.line-line.ensures.system.valued in let h = some.0 in omega arith) in
+    let line : List Entry = c.line-line.result.now in
+    let e = c.in_err-explain.field-0.0 in
+    let was : c.from_residual.result ≡ Err e = search rules in
+    let entries : (k : ℕ) (f : Entry) → slice_get line k ≡ Some f → IsOneOrEntry (variables_of s) (configuration_of s) (value_of f.factor) =
+    (λ k f there. inr (line_entry s b k f c.line-line.ensures.system inside (subst (λ (es : List Entry). slice_get es k ≡ Some f) c.line-line.ensures.line there))) in
+    subst (λ r. IfErr r (HasCause old rows c.args.limit)) (sym was)
+    (explained_cause old s rows limits c.args.limit line e c.requires.read c.requires.tightest before.terms before.forms before.settles c.line-line.ensures.system entries
+    c.in_err-explain.ensures.stop)
+
+pub returns-in_err-pivot-clause-stop : goal.returns-in_err-pivot-clause-stop
+returns-in_err-pivot-clause-stop c =
+    let old = c.args.basis.now in let s = c.loop-broken.basis in let rows = c.args.rows.now in let limits = c.args.limits.now in
+    let before = c.loop-broken.invariant in let broken = c.in-Some.broken in let b = broken.variable in let entry = c.in-Some-entering.entry in
+    let some = rw c.values.ensures.values at c.in-Some.ensures.some in
+    let there = rw (c.values-in-loop-broken.ensures.values, c.line-line.ensures.line) at c.in-Some-entering.ensures.some in
+    let inside : b < length s.forms = (let v = c.line-line.ensures.system.valued in let h = some.0 in omega arith) in
+    let e = c.in_err-pivot.field-0.0 in
+    let was : c.from_residual-in_err-pivot.result ≡ Err e = search rules in
+    let leaves : Leaves s b there.0 entry = record {
+      system = c.line-line.ensures.system;
+      inside = inside;
+      there = there.1;
+      basic = λ free.
+          beyond_not_within broken.side (valuation_of s.values b) (bound_value broken.limit) some.1.beyond
+          (keeps_limit broken.side (valuation_of s.values b) (limit_at limits broken.side b) broken.limit (before.keeps b inside free broken.side) some.1.limit);
+    } in
+    subst (λ r. IfErr r (HasCause old rows c.args.limit)) (sym was)
+    (work_cause old rows limits c.args.limit e c.requires.read c.requires.tightest
+    (settled_work old s limits e before.terms before.forms before.settles
+    (exchange_work s limits b there.0 entry broken.side broken.limit e leaves some.1.limit c.in_err-pivot.ensures.stop)))

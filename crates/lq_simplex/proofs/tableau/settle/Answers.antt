@@ -1,8 +1,11 @@
-use Rattle.std.proofs.Common.{◌<◌, ◌≤◌, ◌∙◌, length, arith, sym}
+use Rattle.std.proofs.Common.{◌≡◌, ◌<◌, ◌≤◌, ◌∙◌, length, arith, rules, sym, subst, Some, Err, IfErr}
 use mathlib.Core.Bool.{true≢false}
 use Rattle.lq_num.specs.Value.{value_of}
 use Rattle.lq_simplex.proofs.Resting.{settle_step}
 use Rattle.lq_simplex.proofs.Keeping.{below_step, below_free, below_bound, keep_all, value_read}
+use Rattle.lq_simplex.specs.Table.{HasWork}
+use Rattle.lq_simplex.specs.Bounds.{limit_at}
+use Rattle.lq_simplex.proofs.Working.{bringing_work, settled_work}
 use Rattle.lq_simplex.proofs.tableau.settle.Goals as goal
 use Rattle.lq_simplex.proofs.tableau.settle.Goals.{then-is_free+in-Some+in_ok-shift, then-is_free+in_default, else-is_free}
 
@@ -43,3 +46,16 @@ returns-clause-keeps c =
     let before = c.loop-variable.invariant in
     let all : length c.loop-variable.basis.forms ≤ c.loop-variable.variable = (let t = c.loop-variable-test.false in let n = c.len-variable-end.ensures.count in rw before.forms (omega arith)) in
     keep_all c.args.limits.now c.loop-variable.basis c.loop-variable.variable all before.keeps
+
+pub returns-in_err-shift-clause-stop : goal.returns-in_err-shift-clause-stop
+returns-in_err-shift-clause-stop c =
+    let old = c.args.basis.now in let s = c.loop-variable.basis in let limits = c.args.limits.now in let k = c.loop-variable.variable in
+    let before = c.loop-variable.invariant in let broken = c.in-Some.broken in
+    let e = c.in_err-shift.field-0.0 in
+    let was : c.from_residual.result ≡ Err e = search rules in
+    let limit : limit_at limits broken.side k ≡ Some broken.limit =
+    subst (λ j. limit_at limits broken.side j ≡ Some broken.limit) c.in-Some.ensures.some.0 c.in-Some.ensures.some.1.limit in
+    let free = c.is_free.ensures.yes c.if-is_free.true in
+    subst (λ r. IfErr r (HasWork old limits)) (sym was)
+    (settled_work old s limits e before.terms before.forms before.settles
+    (bringing_work s limits k broken.side broken.limit e before.system free limit c.in_err-shift.ensures.stop))

@@ -1,9 +1,11 @@
-use Rattle.std.proofs.Common.{◌∙◌, ◌++◌, ◌∷◌, [], sym, ap, subst}
+use Rattle.std.proofs.Common.{◌≡◌, ◌∙◌, ◌++◌, ◌∷◌, [], rules, sym, ap, subst, Err, IfErr}
 use Rattle.lq_linear.specs.Row.{Row}
 use Rattle.lq_simplex.specs.Standing.{standing_of, ReadsBy}
 use Rattle.lq_simplex.proofs.Tables.{standing_push, read_on, read_push, apart_push}
 use Rattle.lq_simplex.proofs.Resting.{among_push, rests_on}
 use Rattle.lq_simplex.proofs.Appearing.{appear_row}
+use Rattle.lq_simplex.specs.Table.{StopsReading}
+use Rattle.lq_simplex.proofs.Extending.{reading_work}
 use Rattle.lq_simplex.proofs.tableau.stand.Goals as goal
 
 pub returns-clause-added : goal.returns-clause-added
@@ -32,3 +34,10 @@ pub returns-clause-forms : goal.returns-clause-forms
 returns-clause-forms c = λ ever a.
     rw c.in_ok-bound.ensures.terms
     (appear_row ever c.args.basis.now.terms c.args.basis.now.forms c.read.new.basis.forms c.args.row.now c.in_ok-bound.bound c.in_ok-bound.ensures.grown c.in_ok-bound.ensures.reads a)
+
+pub returns-in_err-bound-clause-stop : goal.returns-in_err-bound-clause-stop
+returns-in_err-bound-clause-stop c =
+    let s = c.args.basis.now in let row = c.args.row.now in
+    let e = c.in_err-bound.field-0.0 in
+    let was : c.from_residual-in_err-bound.result ≡ Err e = search rules in
+    subst (λ r. IfErr r (StopsReading s row)) (sym was) (reading_work s row e c.in_err-bound.ensures.stop)
