@@ -1,12 +1,16 @@
 -- Values of the distances are near the sizes of all rows; those of the tableau come only where a row is no difference row.
-use Rattle.std.proofs.Common.{◌≡◌, ◌∙◌, ℕ, ◌<◌, ◌≤◌, List, [], Option, Some, None, false, ap, refl, arith, unsigned_abs}
+use Rattle.std.proofs.Common.{◌≡◌, ◌∙◌, ℕ, ◌<◌, ◌≤◌, List, [], Option, Some, None, false, ap, refl, subst, arith, unsigned_abs}
 use Rattle.std.proofs.Math.IntN.{◌-ℤ◌}
 use Rattle.std.specs.Option.{IfNone, is_some}
 use Rattle.lq_diff.specs.Table as diff
 use Rattle.lq_diff.specs.Table.{constants}
 use Rattle.lq_linear.specs.Near.{IsNear}
-use Rattle.lq_case.specs.RowState.{AreDifferences}
-use Rattle.lq_case.specs.Stored.{IsKept, tagged_rows}
+use Rattle.lq_linear.specs.Contradiction.{Tagged}
+use Rattle.lq_linear.specs.Row.{Row}
+use Rattle.lq_simplex.specs.Table as table
+use Rattle.lq_simplex.specs.Working.{IsPlaced}
+use Rattle.lq_case.specs.RowState.{AreDifferences, AreValuesBy, placed, tableau_point}
+use Rattle.lq_case.specs.Stored.{IsKept, MayBeFilled, WasHanded, tagged_rows}
 use Rattle.lq_case.specs.declared.stored.StoredRow.{StoredRow}
 use Rattle.lq_case.proofs.Kept.{constants_among, none_odd}
 
@@ -28,3 +32,14 @@ not_all stored odd d k some all = some (k.places ∙ none_odd 0 0 stored k.marke
 pub none_of : {X : Type 0} {P : Type 0} (o : Option X) → is_some o ≡ false → IfNone o P → P
 none_of {X} {P} None e h = h
 none_of {X} {P} (Some x) e h = cc
+
+-- the values of a tableau that has the first rows
+pub placed_by : (terms pivots : ℕ) (rows : Tagged) (o : Option table.Table) (t : table.Table) → o ≡ Some t → MayBeFilled terms pivots rows o
+    → ((ever : List Row) → table.Handed t ever → IsPlaced t.system.terms ever (table.table_point t)) → (ever : List Row) → WasHanded o ever
+    → AreValuesBy terms ever rows (tableau_point o)
+placed_by terms pivots rows None t e filled law ever h = cc
+placed_by terms pivots rows (Some u) t e filled law ever h =
+    let same : t ≡ u = cc in
+    let over : u.system.terms ≡ terms = (let l = filled.limits in cc) in
+    placed (subst (λ n. IsPlaced n ever (table.table_point u)) over
+    (subst (λ (x : table.Table). (ever : List Row) → table.Handed x ever → IsPlaced x.system.terms ever (table.table_point x)) same law ever h))

@@ -4,11 +4,13 @@ use Rattle.lq_math.specs.Rational.{whole}
 use Rattle.lq_linear.specs.Answers.{Held}
 use Rattle.lq_linear.specs.Contradiction.{Tagged, Solves}
 use Rattle.lq_linear.specs.Difference.{IsDifference}
+use Rattle.lq_linear.specs.Near.{IsNear}
 use Rattle.lq_linear.specs.Row.{Row, Valuation}
 use Rattle.lq_linear.specs.declared.engine.LinearStop.{LinearStop}
 use Rattle.lq_diff.specs.Stops.{StopsBy}
 use Rattle.lq_diff.specs.Table as diff
 use Rattle.lq_simplex.specs.Table as table
+use Rattle.lq_simplex.specs.Working.{IsPlaced}
 use Rattle.lq_case.specs.Stored.{IsKept, MayBeFilled, SolvesBy, StopsInTableau, tagged_rows}
 use Rattle.lq_case.specs.declared.rows.Found.{Found}
 use Rattle.lq_case.specs.declared.rows.Found.TheVariants.{Nothing, ByDistances, ByTableau}
@@ -70,3 +72,9 @@ pub record IsRowState (stored : List StoredRow) (odd : List ℕ) (d : diff.Table
 pub record MayStop (terms pivots : ℕ) (ever : List Row) (P : Row → Type 0) (rows : Tagged) (stop : LinearStop) : Type 0 where
   pub differences : AreDifferences rows → StopsBy (diff.constants rows) stop
   pub any : StopsBy (diff.constants rows) stop ⊎ StopsInTableau terms pivots ever P stop
+
+-- Where the values that solve the rows come from: from a configuration of a tableau that was ever handed some rows, or they are whole
+-- numbers, none of them and no difference of two larger in size than the sizes of the constants sum to.
+pub data AreValuesBy (terms : ℕ) (ever : List Row) (rows : Tagged) (v : Valuation) : Type 0 where
+  placed : IsPlaced terms ever v → AreValuesBy terms ever rows v
+  near : IsNear (diff.constants rows) terms v → AreValuesBy terms ever rows v

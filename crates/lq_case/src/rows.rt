@@ -8,7 +8,7 @@ ghost use Rattle.lq_linear.specs.Difference.{TermsBelow};
 ghost use Rattle.lq_linear.specs.Near.{IsNear};
 ghost use Rattle.lq_linear.specs.Row.{Row};
 ghost use Rattle.lq_num.specs.Value.{value_of};
-ghost use Rattle.lq_case.specs.RowState.{AreDifferences, MayStop, is_solved, row_point, terms_of};
+ghost use Rattle.lq_case.specs.RowState.{AreDifferences, AreValuesBy, MayStop, is_solved, row_point, terms_of};
 ghost use Rattle.lq_case.specs.Stored.{HandsMore, Stands, WasHanded};
 
 use crate::deciding::decide;
@@ -169,6 +169,23 @@ impl LinearRows {
         match self.found {
             Found::ByDistances => self.distances.values_are_near(),
             Found::ByTableau | Found::Nothing => {}
+        }
+    }
+
+    /// The values that solve the rows are those of a configuration of the tableau, or whole numbers that are near by the sizes of the
+    /// constants.
+    pub fn values_are_placed(&self)
+        requires { is_solved self.now ≡ true }
+        ensures { (ever : List Row) → WasHanded self.now.tableau ever → AreValuesBy (terms_of self.now) ever self.now.rows
+            (row_point self.now) }
+    {
+        match self.found {
+            Found::ByDistances => self.distances.values_are_near(),
+            Found::ByTableau => match &self.tableau {
+                Some(tableau) => tableau.configuration(),
+                None => unreachable!(),
+            },
+            Found::Nothing => unreachable!(),
         }
     }
 

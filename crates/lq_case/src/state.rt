@@ -1,5 +1,5 @@
 // The state of one path.
-ghost use Rattle.std.specs.Prelude.{◌≡◌, ◌↔◌, ◌+◌, ℕ, ◌<◌, ◌≤◌, List, ◌∷◌, [], ◌++◌, true, IfOk, IfErr, IfSome, IfNone, OnOk, OnErr, length, slice_index, take};
+ghost use Rattle.std.specs.Prelude.{◌≡◌, ◌↔◌, ◌+◌, ◌^◌, ℕ, ◌<◌, ◌≤◌, List, ◌∷◌, [], ◌++◌, true, IfOk, IfErr, IfSome, IfNone, OnOk, OnErr, length, slice_index, take};
 ghost use Rattle.lq_combine.specs.Path.{flag_fact, objects_fact, row_fact};
 ghost use Rattle.lq_combine.specs.Proves.{AreJoined, Clashes, rows_among};
 ghost use Rattle.lq_combine.specs.TreeView.{clash_of, tag_items};
@@ -15,7 +15,7 @@ ghost use Rattle.lq_combine.specs.Tree.{Clash};
 ghost use Rattle.lq_objects.specs.Joined.{AreOne, IsClash};
 ghost use Rattle.lq_pred.specs.Sum.{Sum};
 ghost use Rattle.lq_case.specs.PathState.{AllFlagsHold, AllObjectsHold, HandsMore, HasHanded, HasStops, IsByFlags, IsByRows, KeepsHanded, NoObjectsClash, facts_in, objects_in};
-ghost use Rattle.lq_case.specs.RowState.{AreDifferences, is_solved, row_point, terms_of};
+ghost use Rattle.lq_case.specs.RowState.{AreDifferences, AreValuesBy, is_solved, row_point, terms_of};
 ghost use Rattle.lq_case.specs.Stored.{Stands};
 
 use crate::flags::{FlagClash, Given, give, giver_of};
@@ -269,6 +269,23 @@ impl PathState {
             (constants (rows_among (facts_in name self.now))) (terms_of self.now.rows) (row_point self.now.rows) }
     {
         self.rows.values_are_near();
+    }
+
+    /// The values that solve the rows are those of a configuration of the tableau, or whole numbers that are near by the sizes of the
+    /// constants.
+    pub fn values_are_placed(&self)
+        requires { is_solved self.now.rows ≡ true }
+        ensures { (name : ℕ → Sum) (ever : List Row) → HasHanded self.now ever → AreValuesBy (terms_of self.now.rows) ever
+            (rows_among (facts_in name self.now)) (row_point self.now.rows) }
+    {
+        self.rows.values_are_placed();
+    }
+
+    /// Fewer than 2^63 facts stand.
+    pub fn facts_are_few(&self)
+        ensures { (name : ℕ → Sum) → length (facts_in name self.now) < 2 ^ 63 }
+    {
+        let _ = self.steps.len();
     }
 
     /// The value of a term, where values are known that solve the rows.
