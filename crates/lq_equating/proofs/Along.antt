@@ -24,7 +24,7 @@ use Rattle.lq_pred.specs.Sum.{Sum}
 pub record IsAlong (objects terms : List Sum) (classes : List ℕ) (start s : PathState) (joints : List Joint) (entries : List (FunctionAt × Application)) (n : ℕ) : Type 0 where
   pub firsts : AreFirsts objects terms classes n entries
   pub equated : EachEquated objects terms classes n entries (facts_in (name_in objects) s)
-  pub adds : (name : ℕ → Sum) → AddsEquations (facts_in name start) (facts_in name s)
+  pub adds : (name : ℕ → Sum) → AddsEquations terms (facts_in name start) (facts_in name s)
   pub wraps : (whole : Path) (choices : List (Readings Row)) → Wraps (numbering_by terms) whole choices [] (facts_in (name_in objects) start) → Wraps (numbering_by terms) whole choices joints (facts_in (name_in objects) s)
   pub objects_are : objects_in s ≡ objects_in start
   pub terms_are : row_terms s.rows ≡ row_terms start.rows
@@ -36,7 +36,7 @@ pub record IsAlong (objects terms : List Sum) (classes : List ℕ) (start s : Pa
 pub record IsStep (objects terms : List Sum) (classes : List ℕ) (s t : PathState) (joints more : List Joint) (entries new : List (FunctionAt × Application)) (n : ℕ) : Type 0 where
   pub firsts : AreFirsts objects terms classes (suc n) new
   pub equated : EachEquated objects terms classes n entries (facts_in (name_in objects) s) → EachEquated objects terms classes (suc n) new (facts_in (name_in objects) t)
-  pub adds : (name : ℕ → Sum) → AddsEquations (facts_in name s) (facts_in name t)
+  pub adds : (name : ℕ → Sum) → AddsEquations terms (facts_in name s) (facts_in name t)
   pub wraps : (whole : Path) (choices : List (Readings Row)) → Wraps (numbering_by terms) whole choices joints (facts_in (name_in objects) s) → Wraps (numbering_by terms) whole choices more (facts_in (name_in objects) t)
   pub objects_are : objects_in t ≡ objects_in s
   pub limits : (row_terms t.rows ≡ row_terms s.rows) × (t.rows.pivots ≡ s.rows.pivots) × (t.objects.count ≡ s.objects.count)
@@ -51,7 +51,7 @@ along_step objects terms classes given start s t joints more entries new k n m q
       firsts = subst (λ i. AreFirsts objects terms classes i new) g b.firsts;
       equated = subst (λ i. EachEquated objects terms classes i new (facts_in (name_in objects) t)) g
           (b.equated (subst (λ i. EachEquated objects terms classes i entries (facts_in (name_in objects) s)) (sym e) a.equated));
-      adds = λ name. adds_then (facts_in name start) (facts_in name s) (facts_in name t) (a.adds name) (b.adds name);
+      adds = λ name. adds_then terms (facts_in name start) (facts_in name s) (facts_in name t) (a.adds name) (b.adds name);
       wraps = λ whole choices w. b.wraps whole choices (a.wraps whole choices w);
       objects_are = b.objects_are ∙ a.objects_are;
       terms_are = b.limits.0 ∙ a.terms_are;
@@ -73,7 +73,7 @@ pub along_start : (objects terms : List Sum) (classes : List ℕ) (s : PathState
 along_start objects terms classes s joints entries e f = record {
   firsts = subst (AreFirsts objects terms classes 0) (sym f) tt;
   equated = each_none objects terms classes entries (facts_in (name_in objects) s);
-  adds = λ name. adds_none (facts_in name s);
+  adds = λ name. adds_none terms (facts_in name s);
   wraps = λ whole choices w. subst (λ l. Wraps (numbering_by terms) whole choices l (facts_in (name_in objects) s)) (sym e) w;
   objects_are = refl;
   terms_are = refl;

@@ -1,7 +1,7 @@
 -- Facts with equations after them: what their rows say, their sizes, and the stops.
 use Rattle.std.proofs.Common.{◌≡◌, ◌⊎◌, inl, inr, ℕ, zero, suc, pos, negsuc, ◌≤◌, List, [], ◌∷◌, ◌++◌, All, Some, map, slice_get, refl, sym, ap, subst, ◌∙◌, arith, append-nil, append_assoc}
 use Rattle.std.proofs.lemmas.List.{map-append}
-use Rattle.std.proofs.lemmas.List.Elements.{All-cons, All-nil}
+use Rattle.std.proofs.lemmas.List.Elements.{All-append, All-cons, All-head, All-nil, All-tail}
 use Rattle.lq_case.specs.RowState.{AreDifferences, MayStop}
 use Rattle.lq_case.specs.Stored.{StopsInTableau}
 use Rattle.lq_combine.specs.Path.{Fact, row_fact, flag_fact, objects_fact, never}
@@ -14,7 +14,8 @@ use Rattle.lq_linear.specs.declared.engine.LinearStop.{LinearStop}
 use Rattle.lq_linear.specs.declared.engine.LinearStop.TheVariants.{Number, Pivots, Memory}
 use Rattle.lq_math.specs.Rational.{ℚ, whole, ◌+ℚ◌, ◌*ℚ◌}
 use Rattle.lq_math.specs.Solver.{var, con, ◌⊕◌, ◌⊗◌, solve}
-use Rattle.lq_equating.specs.Equating.{AddsEquations, Grows, equation, equation_fact}
+use Rattle.lq_pred.specs.Sum.{Sum}
+use Rattle.lq_equating.specs.Equating.{AddsEquations, AreOneFunction, Grows, equation, equation_fact}
 
 -- ---- what rows say
 
@@ -42,21 +43,25 @@ equation_says v i j h = same_numbers (v i) (v j) h
 
 -- ---- facts that get equations
 
-pub adds_none : (fs : List Fact) → AddsEquations fs fs
-adds_none fs = record { pairs = []; is = sym (append-nil fs) }
+pub adds_none : (terms : List Sum) (fs : List Fact) → AddsEquations terms fs fs
+adds_none terms fs = record { pairs = []; each = All-nil (AreOneFunction terms); is = sym (append-nil fs) }
 
-pub adds_one : (old new : List Fact) (p : ℕ × ℕ) → new ≡ old ++ equation_fact p ∷ [] → AddsEquations old new
-adds_one old new p e = record { pairs = p ∷ []; is = e }
+pub adds_one : (terms : List Sum) (old new : List Fact) (p : ℕ × ℕ) → AreOneFunction terms p → new ≡ old ++ equation_fact p ∷ [] → AddsEquations terms old new
+adds_one terms old new p one e = record { pairs = p ∷ []; each = All-cons (AreOneFunction terms) p [] one (All-nil (AreOneFunction terms)); is = e }
 
-pub adds_then : (a b c : List Fact) → AddsEquations a b → AddsEquations b c → AddsEquations a c
-adds_then a b c p q = record {
+pub adds_then : (terms : List Sum) (a b c : List Fact) → AddsEquations terms a b → AddsEquations terms b c → AddsEquations terms a c
+adds_then terms a b c p q = record {
   pairs = p.pairs ++ q.pairs;
+  each = All-append (AreOneFunction terms) p.pairs q.pairs p.each q.each;
   is = q.is ∙ ap (λ l. l ++ map equation_fact q.pairs) p.is ∙ append_assoc a (map equation_fact p.pairs) (map equation_fact q.pairs)
       ∙ ap (λ l. a ++ l) (sym (map-append equation_fact p.pairs q.pairs));
 }
 
-pub adds_solves : (v : Valuation) (old new : List Fact) → AddsEquations old new → Solves v (rows_among new) → Solves v (rows_among old)
-adds_solves v old new p h = solves_fewer v 1 old (map equation_fact p.pairs) (subst (λ l. Solves v (rows_among l)) p.is h)
+pub solves_one : (v : Valuation) (old new : List Fact) (p : ℕ × ℕ) → new ≡ old ++ equation_fact p ∷ [] → Solves v (rows_among new) → Solves v (rows_among old)
+solves_one v old new p e h = solves_fewer v 1 old (equation_fact p ∷ []) (subst (λ l. Solves v (rows_among l)) e h)
+
+pub adds_solves : (terms : List Sum) (v : Valuation) (old new : List Fact) → AddsEquations terms old new → Solves v (rows_among new) → Solves v (rows_among old)
+adds_solves terms v old new p h = solves_fewer v 1 old (map equation_fact p.pairs) (subst (λ l. Solves v (rows_among l)) p.is h)
 
 -- ---- sizes and stops
 
@@ -94,43 +99,48 @@ stops_at_more n m (Number e) l h = (h.0, (let k = h.1 in omega arith))
 stops_at_more n m (Pivots k) l h = h
 stops_at_more n m Memory l h = tt
 
-pub adds_constants : (old new : List Fact) → AddsEquations old new → constants (rows_among new) ≡ constants (rows_among old)
-adds_constants old new p = ap (λ l. constants (rows_among l)) p.is ∙ same_constants 1 old p.pairs
+pub adds_constants : (terms : List Sum) (old new : List Fact) → AddsEquations terms old new → constants (rows_among new) ≡ constants (rows_among old)
+adds_constants terms old new p = ap (λ l. constants (rows_among l)) p.is ∙ same_constants 1 old p.pairs
 
-pub adds_stops : (old new : List Fact) (stop : LinearStop) → AddsEquations old new → StopsBy (constants (rows_among new)) stop → StopsBy (constants (rows_among old)) stop
-adds_stops old new stop p h = subst (λ n. StopsBy n stop) (adds_constants old new p) h
+pub adds_stops : (terms : List Sum) (old new : List Fact) (stop : LinearStop) → AddsEquations terms old new → StopsBy (constants (rows_among new)) stop → StopsBy (constants (rows_among old)) stop
+adds_stops terms old new stop p h = subst (λ n. StopsBy n stop) (adds_constants terms old new p) h
 
-pub adds_grows : (old new : List Fact) → AddsEquations old new → Grows old new
-adds_grows old new p = record { more = map equation_fact p.pairs; is = p.is }
+pub stops_one : (old new : List Fact) (p : ℕ × ℕ) (stop : LinearStop) → new ≡ old ++ equation_fact p ∷ [] → StopsBy (constants (rows_among new)) stop → StopsBy (constants (rows_among old)) stop
+stops_one old new p stop e h = subst (λ n. StopsBy n stop) (ap (λ l. constants (rows_among l)) e ∙ same_constants 1 old (p ∷ [])) h
+
+pub adds_grows : (terms : List Sum) (old new : List Fact) → AddsEquations terms old new → Grows old new
+adds_grows terms old new p = record { more = map equation_fact p.pairs; is = p.is }
 
 pub may_stop_by : (terms limit : ℕ) (ever : List Row) (P : Row → Type 0) (facts : List Fact) (stop : LinearStop) → StopsBy (constants (rows_among facts)) stop
     → MayStop terms limit ever P (rows_among facts) stop
 may_stop_by terms limit ever P facts stop h = record { differences = λ d. h; any = inl h }
 
-pub adds_may_stop : (terms limit : ℕ) (ever : List Row) (P : Row → Type 0) (old new : List Fact) (stop : LinearStop) → AddsEquations old new
+pub adds_may_stop : (ts : List Sum) (terms limit : ℕ) (ever : List Row) (P : Row → Type 0) (old new : List Fact) (stop : LinearStop) → AddsEquations ts old new
     → MayStop terms limit ever P (rows_among new) stop → MayStop terms limit ever P (rows_among old) stop
-adds_may_stop terms limit ever P old new stop p h = record {
-  differences = λ d. adds_stops old new stop p (h.differences (subst (λ l. AreDifferences (rows_among l)) (sym p.is) (more_differences 1 old p.pairs d)));
+adds_may_stop ts terms limit ever P old new stop p h = record {
+  differences = λ d. adds_stops ts old new stop p (h.differences (subst (λ l. AreDifferences (rows_among l)) (sym p.is) (more_differences 1 old p.pairs d)));
   any = by h.any;
 }
   where
     by : StopsBy (constants (rows_among new)) stop ⊎ StopsInTableau terms limit ever P stop → StopsBy (constants (rows_among old)) stop ⊎ StopsInTableau terms limit ever P stop
-    by (inl k) = inl (adds_stops old new stop p k)
+    by (inl k) = inl (adds_stops ts old new stop p k)
     by (inr k) = inr k
 
 -- ---- rows
 
-rows_each : (P : Row → Type 0) (n : ℕ) (old : List Fact) (pairs : List (ℕ × ℕ)) → ((k : ℕ) (r : Row) → slice_get old k ≡ Some (row_fact r) → P r)
-    → ((terms : ℕ × ℕ) (r : Row) → r ≡ equation terms → P r) → All (λ (r : ℕ × Row). P r.1) (rows_from n (old ++ map equation_fact pairs))
-rows_each P n [] [] f g = All-nil (λ (r : ℕ × Row). P r.1)
-rows_each P n [] (p ∷ pairs) f g = All-cons (λ (r : ℕ × Row). P r.1) (n, equation p) (rows_from (suc n) (map equation_fact pairs)) (g p (equation p) refl) (rows_each P (suc n) [] pairs (λ k r e. cc) g)
-rows_each P n (row_fact r ∷ fs) pairs f g =
-    All-cons (λ (r : ℕ × Row). P r.1) (n, r) (rows_from (suc n) (fs ++ map equation_fact pairs)) (f zero r refl) (rows_each P (suc n) fs pairs (λ k. f (suc k)) g)
-rows_each P n (flag_fact x value ∷ fs) pairs f g = rows_each P (suc n) fs pairs (λ k. f (suc k)) g
-rows_each P n (objects_fact a b one ∷ fs) pairs f g = rows_each P (suc n) fs pairs (λ k. f (suc k)) g
-rows_each P n (never ∷ fs) pairs f g = rows_each P (suc n) fs pairs (λ k. f (suc k)) g
+rows_each : (ts : List Sum) (P : Row → Type 0) (n : ℕ) (old : List Fact) (pairs : List (ℕ × ℕ)) → All (AreOneFunction ts) pairs → ((k : ℕ) (r : Row) → slice_get old k ≡ Some (row_fact r) → P r)
+    → ((p : ℕ × ℕ) (r : Row) → AreOneFunction ts p → r ≡ equation p → P r) → All (λ (r : ℕ × Row). P r.1) (rows_from n (old ++ map equation_fact pairs))
+rows_each ts P n [] [] a f g = All-nil (λ (r : ℕ × Row). P r.1)
+rows_each ts P n [] (p ∷ pairs) a f g =
+    All-cons (λ (r : ℕ × Row). P r.1) (n, equation p) (rows_from (suc n) (map equation_fact pairs)) (g p (equation p) (All-head (AreOneFunction ts) p pairs a) refl)
+    (rows_each ts P (suc n) [] pairs (All-tail (AreOneFunction ts) p pairs a) (λ k r e. cc) g)
+rows_each ts P n (row_fact r ∷ fs) pairs a f g =
+    All-cons (λ (r : ℕ × Row). P r.1) (n, r) (rows_from (suc n) (fs ++ map equation_fact pairs)) (f zero r refl) (rows_each ts P (suc n) fs pairs a (λ k. f (suc k)) g)
+rows_each ts P n (flag_fact x value ∷ fs) pairs a f g = rows_each ts P (suc n) fs pairs a (λ k. f (suc k)) g
+rows_each ts P n (objects_fact x y one ∷ fs) pairs a f g = rows_each ts P (suc n) fs pairs a (λ k. f (suc k)) g
+rows_each ts P n (never ∷ fs) pairs a f g = rows_each ts P (suc n) fs pairs a (λ k. f (suc k)) g
 
 -- what holds of each earlier row and of each equation
-pub added_rows : (P : Row → Type 0) (old new : List Fact) → AddsEquations old new → ((k : ℕ) (r : Row) → slice_get old k ≡ Some (row_fact r) → P r)
-    → ((terms : ℕ × ℕ) (r : Row) → r ≡ equation terms → P r) → All (λ (r : ℕ × Row). P r.1) (rows_among new)
-added_rows P old new p f g = subst (λ l. All (λ (r : ℕ × Row). P r.1) (rows_among l)) (sym p.is) (rows_each P 1 old p.pairs f g)
+pub added_rows : (ts : List Sum) (P : Row → Type 0) (old new : List Fact) → AddsEquations ts old new → ((k : ℕ) (r : Row) → slice_get old k ≡ Some (row_fact r) → P r)
+    → ((p : ℕ × ℕ) (r : Row) → AreOneFunction ts p → r ≡ equation p → P r) → All (λ (r : ℕ × Row). P r.1) (rows_among new)
+added_rows ts P old new p f g = subst (λ l. All (λ (r : ℕ × Row). P r.1) (rows_among l)) (sym p.is) (rows_each ts P 1 old p.pairs p.each f g)

@@ -13,7 +13,7 @@ use Rattle.lq_pred.specs.Comparison.{IsRowOf}
 use Rattle.lq_pred.specs.Literals.{equal_row}
 use Rattle.lq_pred.specs.Sum.{Sum}
 use Rattle.lq_pred.specs.Table.{all_differ}
-use Rattle.lq_equating.specs.Equating.{IsApplication, applied, equation, numbering_by}
+use Rattle.lq_equating.specs.Equating.{AreOneFunction, IsApplication, applied, equation, numbering_by}
 use Rattle.lq_equating.specs.Naming.{name_in, term_or}
 use Rattle.lq_equating.specs.declared.application.Application.{Application}
 use Rattle.lq_equating.specs.declared.chain.Joint.{Joint}
@@ -71,6 +71,20 @@ joint_of objects terms facts first later j r d f l m b left right joined is = re
   where
     later_is : slice_get terms later.term ≡ Some (applied first.measure l.argument)
     later_is = subst (λ k. slice_get terms later.term ≡ Some (applied k l.argument)) (sym m) l.term
+
+pub one_function : (objects terms : List Sum) (first later : Application) → all_differ terms ≡ true → IsApplication objects terms first → IsApplication objects terms later
+    → first.measure ≡ later.measure → first.index < later.index → AreOneFunction terms (first.term, later.term)
+one_function objects terms first later d f l m b =
+    let later_is = subst (λ k. slice_get terms later.term ≡ Some (applied k l.argument)) (sym m) l.term in
+    let before = rises objects terms first later f l b in record {
+      function = first.measure;
+      left = f.argument;
+      right = l.argument;
+      before = before;
+      is_left = f.term;
+      is_right = later_is;
+      row = is_row_of terms first.term later.term (applied first.measure f.argument) (applied first.measure l.argument) first.measure f.argument l.argument d f.term later_is before refl refl;
+    }
 
 -- ---- parts of what is known
 pub second : {A B C : Type 0} → A × B × C → B

@@ -13,3 +13,4 @@ pub mod Numbers
 pub mod Plain
 pub mod Ways
 pub mod Flags
+pub mod Pairing

@@ -1,5 +1,5 @@
 -- Lengths and measures of one object are equal: the rows and the nodes that say so.
-use Rattle.std.specs.Prelude.{◌≡◌, ℕ, pos, negsuc, true, ◌<◌, ◌&&◌, ◌==◌, Bool, List, [], ◌∷◌, ◌++◌, Option, Some, None, map, slice_get, slice_index}
+use Rattle.std.specs.Prelude.{◌≡◌, ℕ, pos, negsuc, true, All, ◌<◌, ◌&&◌, ◌==◌, Bool, List, [], ◌∷◌, ◌++◌, Option, Some, None, map, slice_get, slice_index}
 use Rattle.std.specs.List.{filter}
 use Rattle.std.specs.Map.{lookup}
 use Rattle.std.specs.Option.{option_eq}
@@ -16,6 +16,8 @@ use Rattle.lq_literals.specs.Parts.{is_application, places_from}
 use Rattle.lq_name.specs.declared.name.Name.{Name}
 use Rattle.lq_objects.specs.Joined.{AreOne}
 use Rattle.lq_objects.specs.declared.fact.ObjectFact.{ObjectFact}
+use Rattle.lq_pred.specs.Comparison.{IsRowOf}
+use Rattle.lq_pred.specs.Literals.{equal_row}
 use Rattle.lq_pred.specs.Reading.{Readings}
 use Rattle.lq_pred.specs.Sum.{Sum, len, measure}
 
@@ -52,9 +54,20 @@ equation p = record { parts = (p.0, pos 1) ∷ (p.1, negsuc 0) ∷ []; constant 
 abbrev pub equation_fact : ℕ × ℕ → Fact
 equation_fact p = row_fact (equation p)
 
--- the later facts are the earlier ones, and then that terms are equal
-pub record AddsEquations (old new : List Fact) : Type 0 where
+-- two terms that apply one function, a length or a measure, the earlier one first; and the row that they are equal, by its comparison
+pub record AreOneFunction (terms : List Sum) (p : ℕ × ℕ) : Type 0 where
+  pub function : Option Name
+  pub left : Sum
+  pub right : Sum
+  pub before : p.0 < p.1
+  pub is_left : slice_get terms p.0 ≡ Some (applied function left)
+  pub is_right : slice_get terms p.1 ≡ Some (applied function right)
+  pub row : IsRowOf terms (equal_row (applied function left) (applied function right)) (equation p)
+
+-- the later facts are the earlier ones, and then that terms are equal which apply one function
+pub record AddsEquations (terms : List Sum) (old new : List Fact) : Type 0 where
   pub pairs : List (ℕ × ℕ)
+  pub each : All (AreOneFunction terms) pairs
   pub is : new ≡ old ++ map equation_fact pairs
 
 -- the later facts are the earlier ones with more behind

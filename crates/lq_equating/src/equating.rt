@@ -183,7 +183,7 @@ fn equate_later(
         later.index equations.old.firsts.entries (facts_in (name_in (objects_of objects.now)) state.old)
         → EachEquated (objects_of objects.now) (terms_of table.now) classes.now (suc later.index)
         equations.new.firsts.entries (facts_in (name_in (objects_of objects.now)) state.new)) }
-    ensures adds { OnOk result ((name : ℕ → Sum) → AddsEquations (facts_in name state.old) (facts_in name state.new)) }
+    ensures adds { OnOk result ((name : ℕ → Sum) → AddsEquations (terms_of table.now) (facts_in name state.old) (facts_in name state.new)) }
     ensures wraps { OnOk result ((whole : Path) (choices : List (Readings Row)) → Wraps (numbering_by (terms_of table.now)) whole choices
         equations.old.joints.items (facts_in (name_in (objects_of objects.now)) state.old)
         → Wraps (numbering_by (terms_of table.now)) whole choices equations.new.joints.items
@@ -230,7 +230,7 @@ pub fn equate_all(
         (facts_in (name_in (objects_of objects.now)) state.old)
         → Wraps (numbering_by (terms_of table.now)) whole choices found.0.items
         (facts_in (name_in (objects_of objects.now)) state.new)) }
-    ensures adds { IfOk result (λ _. (name : ℕ → Sum) → AddsEquations (facts_in name state.old) (facts_in name state.new)) }
+    ensures adds { IfOk result (λ _. (name : ℕ → Sum) → AddsEquations (terms_of table.now) (facts_in name state.old) (facts_in name state.new)) }
     ensures equated { IfOk result (λ found. IfNone found.1 (AreEquated (objects_of objects.now)
         (terms_of table.now) (objects_in state.new) (facts_in (name_in (objects_of objects.now)) state.new))) }
     ensures objects { objects_in state.new ≡ objects_in state.old }

@@ -1,5 +1,6 @@
 -- Where a search stops or ends from one path, it does so from the path before.
-use Rattle.std.proofs.Common.{◌≡◌, ◌∙◌, ℕ, ◌+◌, ◌<◌, ◌≤◌, List, ◌++◌, true, false, Option, Some, None, Result, Ok, Err, IfErr, IfNone, IfOk, get_or, length, set, slice_get, sym, ap, subst, arith}
+use Rattle.std.proofs.Common.{◌≡◌, ◌∙◌, ℕ, ◌+◌, ◌^◌, ◌<◌, ◌≤◌, List, ◌++◌, true, false, Option, Some, None, Result, Ok, Err, IfErr, IfNone, IfOk, get_or, length, set, slice_get, sym, ap, subst, arith}
+use Rattle.std.proofs.lemmas.List.{length-append}
 use Rattle.lq_case.specs.PathState.{HandsMore, HasHanded, HasStops, KeepsHanded, PathState, facts_in}
 use Rattle.lq_case.specs.RowState.{terms_of}
 use Rattle.lq_case.specs.Stored.{Stands}
@@ -16,6 +17,7 @@ use Rattle.lq_path.specs.SearchPath.{SameLimits, choices_of}
 use Rattle.lq_path.specs.declared.choice.Choice.{Choice}
 use Rattle.lq_pred.specs.NnfView.{nnf_items, nnf_view, nnfs_view}
 use Rattle.lq_pred.specs.Reading.{Reading, Readings, any_of, yes}
+use Rattle.lq_pred.specs.Sum.{Sum}
 use Rattle.lq_pred.specs.declared.nnf.Nnf.{Nnf}
 use Rattle.lq_pred.specs.declared.nnf.Nnfs.{Nnfs}
 use Rattle.lq_pruning.proofs.Taking as taking
@@ -33,7 +35,7 @@ use Rattle.lq_search.proofs.Weights.{with_done}
 
 -- from the path p with the reading t the search goes on from q with r
 pub record IsStep (s : Scope) (pairs : List Pair) (t : Reading Row) (p : SearchPath) (r : Reading Row) (q : SearchPath) : Type 0 where
-  pub takes : TakesNoMore (ways_of pairs) (taken (path_of s q) r) (taken (path_of s p) t)
+  pub takes : TakesNoMore s.terms (ways_of pairs) (taken (path_of s q) r) (taken (path_of s p) t)
   pub sizes : most_on s q + most row_size r ≤ most_on s p + most row_size t
   pub terms : terms_of q.state.rows ≡ terms_of p.state.rows
   pub limit : q.state.rows.pivots ≡ p.state.rows.pivots
@@ -42,22 +44,22 @@ pub record IsStep (s : Scope) (pairs : List Pair) (t : Reading Row) (p : SearchP
 pub stops_step : (s : Scope) (pairs : List Pair) (t : Reading Row) (p : SearchPath) (r : Reading Row) (q : SearchPath) (stop : LinearStop) → IsStep s pairs t p r q
     → StopsFrom r s pairs q stop → StopsFrom t s pairs p stop
 stops_step s pairs t p r q stop i h = λ ever e.
-    stops_before (terms_of q.state.rows) q.state.rows.pivots (terms_of p.state.rows) p.state.rows.pivots ever i.handed.more (ways_of pairs) (taken (path_of s q) r) (taken (path_of s p) t)
+    stops_before s.terms (terms_of q.state.rows) q.state.rows.pivots (terms_of p.state.rows) p.state.rows.pivots ever i.handed.more (ways_of pairs) (taken (path_of s q) r) (taken (path_of s p) t)
     (most_on s q + most row_size r) (most_on s p + most row_size t) stop i.terms i.limit i.takes i.handed.each i.sizes (h (ever ++ i.handed.more) (i.handed.handed ever e))
 
 pub hands_step : (s : Scope) (pairs : List Pair) (t : Reading Row) (p : SearchPath) (r : Reading Row) (q x : SearchPath) → IsStep s pairs t p r q → HandsFrom r s pairs q x
     → HandsFrom t s pairs p x
 hands_step s pairs t p r q x i h =
-    hands_then (MayTake (taken (path_of s p) t) (ways_of pairs)) p.state.rows.tableau q.state.rows.tableau x.state.rows.tableau i.handed
-    (hands_as (MayTake (taken (path_of s q) r) (ways_of pairs)) (MayTake (taken (path_of s p) t) (ways_of pairs)) q.state.rows.tableau x.state.rows.tableau i.takes h)
+    hands_then (MayTake s.terms (taken (path_of s p) t) (ways_of pairs)) p.state.rows.tableau q.state.rows.tableau x.state.rows.tableau i.handed
+    (hands_as (MayTake s.terms (taken (path_of s q) r) (ways_of pairs)) (MayTake s.terms (taken (path_of s p) t) (ways_of pairs)) q.state.rows.tableau x.state.rows.tableau i.takes h)
 
 -- what was handed stays
 pub hands_same : (r : Reading Row) (s : Scope) (pairs : List Pair) (p q : SearchPath) → KeepsHanded p.state q.state → HandsFrom r s pairs p q
-hands_same r s pairs p q k = hands_kept (MayTake (taken (path_of s p) r) (ways_of pairs)) p.state.rows.tableau q.state.rows.tableau k
+hands_same r s pairs p q k = hands_kept (MayTake s.terms (taken (path_of s p) r) (ways_of pairs)) p.state.rows.tableau q.state.rows.tableau k
 
 pub hands_more : (r : Reading Row) (s : Scope) (pairs : List Pair) (p q x : SearchPath) → HandsFrom r s pairs p q → KeepsHanded q.state x.state → HandsFrom r s pairs p x
 hands_more r s pairs p q x h k =
-    let P = MayTake (taken (path_of s p) r) (ways_of pairs) in
+    let P = MayTake s.terms (taken (path_of s p) r) (ways_of pairs) in
     hands_then P p.state.rows.tableau q.state.rows.tableau x.state.rows.tableau h (hands_kept P q.state.rows.tableau x.state.rows.tableau k)
 
 keeps_by : (s t : PathState) → t ≡ s → KeepsHanded s t
@@ -65,18 +67,20 @@ keeps_by s t e = subst (KeepsHanded s) (sym e) (λ ever h. h)
 
 pub reached_step : (s : Scope) (pairs : List Pair) (t : Reading Row) (p : SearchPath) (r : Reading Row) (q x : SearchPath) → IsStep s pairs t p r q
     → ReachesFrom r s pairs q x → ReachesFrom t s pairs p x
-reached_step s pairs t p r q x i h =
-    reached_before (ways_of pairs) (taken (path_of s q) r) (taken (path_of s p) t) (most_on s q + most row_size r) (most_on s p + most row_size t) (facts_of s x) i.takes i.sizes h
+reached_step s pairs t p r q x i h = record {
+  facts = reached_before s.terms (ways_of pairs) (taken (path_of s q) r) (taken (path_of s p) t) (most_on s q + most row_size r) (most_on s p + most row_size t) (facts_of s x) i.takes i.sizes h.facts;
+  handed = hands_step s pairs t p r q x i h.handed;
+}
 
 -- ---- steps
 
-same_path : (ways : List (Readings Row)) (p q : Path) → p ≡ q → TakesNoMore ways p q
-same_path ways p q e = subst (TakesNoMore ways p) e (λ r m. m)
+same_path : (ts : List Sum) (ways : List (Readings Row)) (p q : Path) → p ≡ q → TakesNoMore ts ways p q
+same_path ts ways p q e = subst (TakesNoMore ts ways p) e (λ r m. m)
 
-pub step_equated : (s : Scope) (pairs : List Pair) (p q : SearchPath) → AddsEquations (facts_of s p) (facts_of s q) → q.choices.items ≡ p.choices.items → q.pairs.items ≡ p.pairs.items
+pub step_equated : (s : Scope) (pairs : List Pair) (p q : SearchPath) → AddsEquations s.terms (facts_of s p) (facts_of s q) → q.choices.items ≡ p.choices.items → q.pairs.items ≡ p.pairs.items
     → SameLimits q.state p.state → KeepsHanded p.state q.state → IsStep s pairs yes p yes q
 step_equated s pairs p q a c d l k = record {
-  takes = equations_take (ways_of pairs) (path_of s p) (path_of s q) a (ap choices_of c);
+  takes = equations_take s.terms (ways_of pairs) (path_of s p) (path_of s q) a (ap choices_of c);
   sizes = let m = most_equated s p q a c d in omega (arith, m);
   terms = l.0;
   limit = l.1;
@@ -85,7 +89,7 @@ step_equated s pairs p q a c d l k = record {
 
 pub step_taken : (s : Scope) (pairs : List Pair) (r : Reading Row) (p q : SearchPath) → IsTakenFrom s r p q → KeepsHanded p.state q.state → IsStep s pairs r p yes q
 step_taken s pairs r p q t k = record {
-  takes = same_path (ways_of pairs) (path_of s q) (taken (path_of s p) r) (taken_path s r p q t);
+  takes = same_path s.terms (ways_of pairs) (path_of s q) (taken (path_of s p) r) (taken_path s r p q t);
   sizes = let m = most_taken s r p q t in omega (arith, m);
   terms = t.limits.0;
   limit = t.limits.1;
@@ -95,8 +99,8 @@ step_taken s pairs r p q t k = record {
 pub step_member : (s : Scope) (pairs : List Pair) (p q : SearchPath) (members : Nnfs) (items : List Nnf) (i : ℕ) (n : Nnf) → items ≡ nnf_items members → i < length items
     → n ≡ get_or items i n → IsBack p q → HandsFrom (any_of (nnfs_view members)) s pairs p q → IsStep s pairs (any_of (nnfs_view members)) p (nnf_view n) q
 step_member s pairs p q members items i n e l is b h = record {
-  takes = subst (λ x. TakesNoMore (ways_of pairs) (taken x (nnf_view n)) (taken (path_of s p) (any_of (nnfs_view members)))) (sym (path_back s p q b))
-      (member_takes (ways_of pairs) (path_of s p) members items i n e l is);
+  takes = subst (λ x. TakesNoMore s.terms (ways_of pairs) (taken x (nnf_view n)) (taken (path_of s p) (any_of (nnfs_view members)))) (sym (path_back s p q b))
+      (member_takes s.terms (ways_of pairs) (path_of s p) members items i n e l is);
   sizes = let m = most_back s p q b in let k = member_most members items i n e l is in omega (arith, m, k);
   terms = b.limits.0;
   limit = b.limits.1;
@@ -109,8 +113,8 @@ same_facts s p q e = ap (λ x. constants (rows_among (facts_in (name_in s.object
 pub step_marked : (s : Scope) (pairs : List Pair) (p q : SearchPath) (at : ℕ) (c : Choice) → q.state ≡ p.state → slice_get p.choices.items at ≡ Some c → c.is_done ≡ false
     → q.choices.items ≡ set p.choices.items at (with_done c true) → q.pairs.items ≡ p.pairs.items → IsStep s pairs yes p (any_of (nnfs_view c.members.now)) q
 step_marked s pairs p q at c st here is_open is same = record {
-  takes = subst (λ x. TakesNoMore (ways_of pairs) (taken x (any_of (nnfs_view c.members.now))) (path_of s p)) (sym path)
-      (choice_takes (ways_of pairs) (path_of s p) at (nnfs_view c.members.now) (members_at p.choices.items at c here));
+  takes = subst (λ x. TakesNoMore s.terms (ways_of pairs) (taken x (any_of (nnfs_view c.members.now))) (path_of s p)) (sym path)
+      (choice_takes s.terms (ways_of pairs) (path_of s p) at (nnfs_view c.members.now) (members_at p.choices.items at c here));
   sizes = let f = same_facts s p q st in let m = most_open-marked p.choices.items at c here is_open in let k = ap most_open is in let d = ap most_open same in omega (arith, f, m, k, d);
   terms = ap (λ (x : PathState). terms_of x.rows) st;
   limit = ap (λ (x : PathState). x.rows.pivots) st;
@@ -125,8 +129,8 @@ pub step_pair_marked : (s : Scope) (pairs : List Pair) (p q : SearchPath) (at : 
     → nnfs_view c.members.now ≡ members → q.state ≡ p.state → slice_get p.pairs.items at ≡ Some c → c.is_done ≡ false
     → q.pairs.items ≡ set p.pairs.items at (with_done c true) → q.choices.items ≡ p.choices.items → IsStep s pairs yes p (any_of members) q
 step_pair_marked s pairs p q at c members ways e st here is_open is same = subst (λ rs. IsStep s pairs yes p (any_of rs) q) e (record {
-  takes = subst (λ x. TakesNoMore (ways_of pairs) (taken x (any_of (nnfs_view c.members.now))) (path_of s p)) (sym path)
-      (way_takes (ways_of pairs) (path_of s p) at (nnfs_view c.members.now) (ap (λ l. slice_get l at) (sym ways) ∙ members_at p.pairs.items at c here));
+  takes = subst (λ x. TakesNoMore s.terms (ways_of pairs) (taken x (any_of (nnfs_view c.members.now))) (path_of s p)) (sym path)
+      (way_takes s.terms (ways_of pairs) (path_of s p) at (nnfs_view c.members.now) (ap (λ l. slice_get l at) (sym ways) ∙ members_at p.pairs.items at c here));
   sizes = let f = same_facts s p q st in let m = most_open-marked p.pairs.items at c here is_open in let k = ap most_open is in let d = ap most_open same in omega (arith, f, m, k, d);
   terms = ap (λ (x : PathState). terms_of x.rows) st;
   limit = ap (λ (x : PathState). x.rows.pivots) st;
@@ -140,45 +144,52 @@ step_pair_marked s pairs p q at c members ways e st here is_open is same = subst
 -- ---- where a stop comes from
 
 -- a check, and equations
-pub check_stops : (s : Scope) (pairs : List Pair) (p : SearchPath) (stop : LinearStop)
+pub check_stops : (s : Scope) (pairs : List Pair) (p : SearchPath) (stop : LinearStop) → length (facts_of s p) < 2 ^ 63
     → ((ever : List Row) → HasHanded p.state ever → HasStops (terms_of p.state.rows) p.state.rows.pivots ever (Stands (rows_among (facts_of s p))) (facts_of s p) stop) → StopsFrom yes s pairs p stop
-check_stops s pairs p stop h = λ ever e.
-    stops_here (terms_of p.state.rows) p.state.rows.pivots ever (path_of s p) (ways_of pairs) (most_on s p + most row_size yes) stop (omega arith)
-    (may_stop_as (Stands (rows_among (facts_of s p))) (MayTake (path_of s p) (ways_of pairs)) (terms_of p.state.rows) p.state.rows.pivots ever (rows_among (facts_of s p)) stop
-    (standing_take (path_of s p) (ways_of pairs)) (h ever e))
+check_stops s pairs p stop few h = λ ever e.
+    stops_here s.terms (terms_of p.state.rows) p.state.rows.pivots ever (path_of s p) (ways_of pairs) (most_on s p + most row_size yes) stop (omega arith) (omega (arith, few))
+    (may_stop_as (Stands (rows_among (facts_of s p))) (MayTake s.terms (path_of s p) (ways_of pairs)) (terms_of p.state.rows) p.state.rows.pivots ever (rows_among (facts_of s p)) stop
+    (standing_take s.terms (path_of s p) (ways_of pairs)) (h ever e))
 
-pub equating_stops : (s : Scope) (pairs : List Pair) (p : SearchPath) (stop : LinearStop) → StopsBy (constants (rows_among (facts_of s p))) stop → StopsFrom yes s pairs p stop
-equating_stops s pairs p stop h = check_stops s pairs p stop
+pub equating_stops : (s : Scope) (pairs : List Pair) (p : SearchPath) (stop : LinearStop) → length (facts_of s p) < 2 ^ 63 → StopsBy (constants (rows_among (facts_of s p))) stop
+    → StopsFrom yes s pairs p stop
+equating_stops s pairs p stop few h = check_stops s pairs p stop few
     (λ ever e. may_stop (terms_of p.state.rows) p.state.rows.pivots ever (Stands (rows_among (facts_of s p))) (rows_among (facts_of s p)) stop h)
 
 -- rows that a check hands
 pub check_hands : (s : Scope) (pairs : List Pair) (p q : SearchPath) → HandsMore (Stands (rows_among (facts_of s p))) p.state q.state → HandsFrom yes s pairs p q
 check_hands s pairs p q h =
-    hands_as (Stands (rows_among (facts_of s p))) (MayTake (path_of s p) (ways_of pairs)) p.state.rows.tableau q.state.rows.tableau (standing_take (path_of s p) (ways_of pairs)) h
+    hands_as (Stands (rows_among (facts_of s p))) (MayTake s.terms (path_of s p) (ways_of pairs)) p.state.rows.tableau q.state.rows.tableau (standing_take s.terms (path_of s p) (ways_of pairs)) h
 
 pub step_checked : (s : Scope) (pairs : List Pair) (p q : SearchPath) → IsBack p q → HandsMore (Stands (rows_among (facts_of s p))) p.state q.state → IsStep s pairs yes p yes q
 step_checked s pairs p q b h = record {
-  takes = same_path (ways_of pairs) (path_of s q) (path_of s p) (path_back s p q b);
+  takes = same_path s.terms (ways_of pairs) (path_of s q) (path_of s p) (path_back s p q b);
   sizes = let m = most_back s p q b in omega (arith, m);
   terms = b.limits.0;
   limit = b.limits.1;
   handed = check_hands s pairs p q h;
 }
 
-pub checked_reaches : (s : Scope) (pairs : List Pair) (p q : SearchPath) → facts_of s q ≡ facts_of s p → ReachesFrom yes s pairs p q
-checked_reaches s pairs p q e =
-    subst (λ f. MayReach (path_of s p) (ways_of pairs) (most_on s p + most row_size yes) f) (sym e) (reached_here (path_of s p) (ways_of pairs) (most_on s p + most row_size yes) (omega arith))
+pub checked_reaches : (s : Scope) (pairs : List Pair) (p q : SearchPath) → facts_of s q ≡ facts_of s p → HandsMore (Stands (rows_among (facts_of s p))) p.state q.state
+    → ReachesFrom yes s pairs p q
+checked_reaches s pairs p q e h = record {
+  facts = subst (λ f. MayReach s.terms (path_of s p) (ways_of pairs) (most_on s p + most row_size yes) f) (sym e) (reached_here s.terms (path_of s p) (ways_of pairs) (most_on s p + most row_size yes) (omega arith));
+  handed = check_hands s pairs p q h;
+}
 
 -- literals that are taken
 pub taking_stops : (s : Scope) (pairs : List Pair) (r : Reading Row) (p : SearchPath) (fs : List Fact) (stop : LinearStop) → fs ≡ taking.facts_of r
-    → StopsBy (constants (rows_among (facts_of s p ++ fs))) stop → StopsFrom r s pairs p stop
-taking_stops s pairs r p fs stop e h = λ ever k.
+    → length (facts_of s p) < 2 ^ 63 → length fs < 2 ^ 63 → StopsBy (constants (rows_among (facts_of s p ++ fs))) stop → StopsFrom r s pairs p stop
+taking_stops s pairs r p fs stop e few short h = λ ever k.
     let terms = terms_of p.state.rows in let limit = p.state.rows.pivots in
     let path = taking.path_with (path_of s p) (taking.facts_of r) (taking.choices_of r) in
-    subst (λ x. StopsSearch terms limit ever x (ways_of pairs) (most_on s p + most row_size r) stop) (sym (taking.taken_is (path_of s p) r))
-    (stops_here terms limit ever path (ways_of pairs) (most_on s p + most row_size r) stop le
-    (may_stop terms limit ever (MayTake path (ways_of pairs)) (rows_among (facts_of s p ++ taking.facts_of r)) stop (subst (λ l. StopsBy (constants (rows_among (facts_of s p ++ l))) stop) e h)))
+    subst (λ x. StopsSearch s.terms terms limit ever x (ways_of pairs) (most_on s p + most row_size r) stop) (sym (taking.taken_is (path_of s p) r))
+    (stops_here s.terms terms limit ever path (ways_of pairs) (most_on s p + most row_size r) stop le all_few
+    (may_stop terms limit ever (MayTake s.terms path (ways_of pairs)) (rows_among (facts_of s p ++ taking.facts_of r)) stop (subst (λ l. StopsBy (constants (rows_among (facts_of s p ++ l))) stop) e h)))
   where
+    all_few : length (facts_of s p ++ taking.facts_of r) < 2 ^ 64
+    all_few = let n = length-append (facts_of s p) (taking.facts_of r) in let k = ap length e in omega (arith, n, k, few, short)
+
     le : constants (rows_among (facts_of s p ++ taking.facts_of r)) ≤ most_on s p + most row_size r
     le =
         let a = sizes_among (facts_of s p ++ taking.facts_of r) in let b = fact_sizes-append (facts_of s p) (taking.facts_of r) in

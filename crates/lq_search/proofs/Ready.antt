@@ -105,7 +105,7 @@ equations_told objects about (x ∷ fs) pairs h (suc k) f e = equations_told obj
 
 -- equations of lengths and measures are put behind the facts
 pub record IsEquatedFrom (s : Scope) (p q : SearchPath) : Type 0 where
-  pub adds : AddsEquations (facts_of s p) (facts_of s q)
+  pub adds : AddsEquations s.terms (facts_of s p) (facts_of s q)
   pub about : objects_in q.state ≡ objects_in p.state
   pub limits : SameLimits q.state p.state
   pub choices_are : q.choices.items ≡ p.choices.items

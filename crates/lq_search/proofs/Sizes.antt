@@ -15,6 +15,7 @@ use Rattle.lq_pred.specs.Reading.{Reading, yes, no, row, flag_is, objects_are, a
 use Rattle.lq_pred.specs.declared.nnf.Nnf.{Nnf}
 use Rattle.lq_pred.specs.declared.nnf.Nnfs.{Nnfs}
 use Rattle.lq_pruning.proofs.Taking as taking
+use Rattle.lq_pred.specs.Sum.{Sum}
 use Rattle.lq_search.specs.Scope.{Scope}
 use Rattle.lq_search.specs.SearchPath.{IsBack, facts_of}
 use Rattle.lq_search.specs.Sizes.{most, most_of_all, most_of_any, most_of_each, row_size}
@@ -55,8 +56,8 @@ equations_add_nothing : (pairs : List (ℕ × ℕ)) → fact_sizes (map equation
 equations_add_nothing [] = refl
 equations_add_nothing (p ∷ pairs) = let k = equations_add_nothing pairs in omega (arith, k)
 
-pub sizes_equated : (xs ys : List Fact) → AddsEquations xs ys → fact_sizes ys ≡ fact_sizes xs
-sizes_equated xs ys a =
+pub sizes_equated : (terms : List Sum) (xs ys : List Fact) → AddsEquations terms xs ys → fact_sizes ys ≡ fact_sizes xs
+sizes_equated terms xs ys a =
     let e = ap fact_sizes a.is in let f = fact_sizes-append xs (map equation_fact a.pairs) in let g = equations_add_nothing a.pairs in omega (arith, e, f, g)
 
 -- ---- choices
@@ -142,8 +143,8 @@ most_back s p q b =
     let f = ap (λ l. constants (rows_among l)) (b.facts (name_in s.objects)) in
     let c = ap most_open b.choices_are in let d = ap most_open b.pairs_are in omega (arith, f, c, d)
 
-pub most_equated : (s : Scope) (p q : SearchPath) → AddsEquations (facts_of s p) (facts_of s q) → q.choices.items ≡ p.choices.items → q.pairs.items ≡ p.pairs.items
+pub most_equated : (s : Scope) (p q : SearchPath) → AddsEquations s.terms (facts_of s p) (facts_of s q) → q.choices.items ≡ p.choices.items → q.pairs.items ≡ p.pairs.items
     → most_on s q ≡ most_on s p
 most_equated s p q a c d =
     let x = on_is s p in let y = on_is s q in
-    let e = sizes_equated (facts_of s p) (facts_of s q) a in let f = ap most_open c in let g = ap most_open d in omega (arith, x, y, e, f, g)
+    let e = sizes_equated s.terms (facts_of s p) (facts_of s q) a in let f = ap most_open c in let g = ap most_open d in omega (arith, x, y, e, f, g)

@@ -1,7 +1,7 @@
 -- The stops of a path are those of the path before.
-use Rattle.std.proofs.Common.{◌≡◌, ◌∙◌, ◌⊎◌, inl, inr, ℕ, zero, suc, ◌+◌, ◌<◌, ◌≤◌, List, [], ◌∷◌, ◌++◌, Some, All, length, get_or, map, slice_get, take, refl, sym, ap, subst, arith}
+use Rattle.std.proofs.Common.{◌≡◌, ◌∙◌, ◌⊎◌, inl, inr, ℕ, zero, suc, ◌+◌, ◌^◌, ◌<◌, ◌≤◌, List, [], ◌∷◌, ◌++◌, Some, All, length, get_or, map, slice_get, take, refl, sym, ap, subst, arith}
 use Rattle.std.proofs.lemmas.List.{map-append}
-use Rattle.std.proofs.lemmas.List.Elements.{All-cons, All-nil, All-weaker}
+use Rattle.std.proofs.lemmas.List.Elements.{All-cons, All-head, All-nil, All-tail, All-weaker}
 use Rattle.lq_case.specs.PathState.{HasStops}
 use Rattle.lq_case.specs.RowState.{MayStop}
 use Rattle.lq_case.specs.Stored.{Stands}
@@ -10,7 +10,7 @@ use Rattle.lq_combine.specs.Path.{Fact, row_fact, flag_fact, objects_fact, never
 use Rattle.lq_combine.specs.Proves.{rows_among, rows_from}
 use Rattle.lq_diff.specs.Stops.{StopsBy}
 use Rattle.lq_diff.specs.Table.{constants}
-use Rattle.lq_equating.specs.Equating.{AddsEquations, equation, equation_fact}
+use Rattle.lq_equating.specs.Equating.{AddsEquations, AreOneFunction, equation, equation_fact}
 use Rattle.lq_equating.proofs.Sides.{parted, seen-more}
 use Rattle.lq_linear.specs.Contradiction.{Tagged}
 use Rattle.lq_linear.specs.Row.{Row}
@@ -19,6 +19,7 @@ use Rattle.lq_linear.specs.declared.engine.LinearStop.TheVariants.{Number, Pivot
 use Rattle.lq_path.proofs.Readings.{row_of, view_items}
 use Rattle.lq_pred.specs.NnfView.{nnf_items, nnf_view, nnfs_view}
 use Rattle.lq_pred.specs.Reading.{Reading, yes, no, row, flag_is, objects_are, all_of, any_of, Readings, none, more}
+use Rattle.lq_pred.specs.Sum.{Sum}
 use Rattle.lq_pred.specs.declared.nnf.Nnf.{Nnf}
 use Rattle.lq_pred.specs.declared.nnf.Nnfs.{Nnfs}
 use Rattle.lq_pruning.proofs.Taking as taking
@@ -95,83 +96,84 @@ member_has members items i n e l is q h =
 -- ---- the rows that a search may take
 
 -- each row of one path may be taken on the other
-abbrev pub TakesNoMore : List (Readings Row) → Path → Path → Type 0
-TakesNoMore ways p q = (r : Row) → MayTake p ways r → MayTake q ways r
+abbrev pub TakesNoMore : List Sum → List (Readings Row) → Path → Path → Type 0
+TakesNoMore ts ways p q = (r : Row) → MayTake ts p ways r → MayTake ts q ways r
 
-equations_may : (pairs : List (ℕ × ℕ)) (k : ℕ) (q : Row) (path : Path) (ways : List (Readings Row)) → slice_get (map equation_fact pairs) k ≡ Some (row_fact q) → MayTake path ways q
-equations_may [] k q path ways e = cc
-equations_may (p ∷ pairs) zero q path ways e = let h : equation p ≡ q = cc in of_equation p (sym h)
-equations_may (p ∷ pairs) (suc k) q path ways e = equations_may pairs k q path ways e
+equations_may : (ts : List Sum) (pairs : List (ℕ × ℕ)) → All (AreOneFunction ts) pairs → (k : ℕ) (q : Row) (path : Path) (ways : List (Readings Row)) → slice_get (map equation_fact pairs) k ≡ Some (row_fact q) → MayTake ts path ways q
+equations_may ts [] a k q path ways e = cc
+equations_may ts (p ∷ pairs) a zero q path ways e = let h : equation p ≡ q = cc in of_equation p (All-head (AreOneFunction ts) p pairs a) (sym h)
+equations_may ts (p ∷ pairs) a (suc k) q path ways e = equations_may ts pairs (All-tail (AreOneFunction ts) p pairs a) k q path ways e
 
-pub equations_take : (ways : List (Readings Row)) (p q : Path) → AddsEquations p.facts q.facts → q.choices ≡ p.choices → TakesNoMore ways q p
-equations_take ways p q a c r (of_fact k e) =
+pub equations_take : (ts : List Sum) (ways : List (Readings Row)) (p q : Path) → AddsEquations ts p.facts q.facts → q.choices ≡ p.choices → TakesNoMore ts ways q p
+equations_take ts ways p q a c r (of_fact k e) =
     elim (in_append p.facts (map equation_fact a.pairs) k (row_fact r) (ap (λ l. slice_get l k) (sym a.is) ∙ e)) [
       | inl f ↦ of_fact k f
-      | inr f ↦ equations_may a.pairs f.0 r p ways f.1
+      | inr f ↦ equations_may ts a.pairs a.each f.0 r p ways f.1
     ]
-equations_take ways p q a c r (of_choice k ms e h) = of_choice k ms (ap (λ l. slice_get l k) (sym c) ∙ e) h
-equations_take ways p q a c r (of_way k ms e h) = of_way k ms e h
-equations_take ways p q a c r (of_equation terms e) = of_equation terms e
+equations_take ts ways p q a c r (of_choice k ms e h) = of_choice k ms (ap (λ l. slice_get l k) (sym c) ∙ e) h
+equations_take ts ways p q a c r (of_way k ms e h) = of_way k ms e h
+equations_take ts ways p q a c r (of_equation x one e) = of_equation x one e
 
 -- a reading that has no row but those of members
-pub reading_takes : (ways : List (Readings Row)) (p : Path) (r : Reading Row) (members : Readings Row) → ((q : Row) → HasRow q r → AnyHasRow q members)
-    → TakesNoMore ways (taken p r) (with_choice p members)
-reading_takes ways p r members f q m = by (subst (λ x. MayTake x ways q) (taking.taken_is p r) m)
+pub reading_takes : (ts : List Sum) (ways : List (Readings Row)) (p : Path) (r : Reading Row) (members : Readings Row) → ((q : Row) → HasRow q r → AnyHasRow q members)
+    → TakesNoMore ts ways (taken p r) (with_choice p members)
+reading_takes ts ways p r members f q m = by (subst (λ x. MayTake ts x ways q) (taking.taken_is p r) m)
   where
-    to : HasRow q r → MayTake (with_choice p members) ways q
+    to : HasRow q r → MayTake ts (with_choice p members) ways q
     to h = of_choice (length p.choices) members (at_last p.choices members) (f q h)
 
-    by : MayTake (taking.path_with p (taking.facts_of r) (taking.choices_of r)) ways q → MayTake (with_choice p members) ways q
+    by : MayTake ts (taking.path_with p (taking.facts_of r) (taking.choices_of r)) ways q → MayTake ts (with_choice p members) ways q
     by (of_fact k e) =
         elim (in_append p.facts (taking.facts_of r) k (row_fact q) e) [ inl g ↦ of_fact k g | inr g ↦ to (fact_has r g.0 q g.1) ]
     by (of_choice k ms e h) =
         elim (in_append p.choices (taking.choices_of r) k ms e) [ inl g ↦ of_choice k ms (in_front p.choices (members ∷ []) k ms g) h | inr g ↦ to (choice_has r g.0 ms q g.1 h) ]
     by (of_way k ms e h) = of_way k ms e h
-    by (of_equation terms e) = of_equation terms e
+    by (of_equation x one e) = of_equation x one e
 
 -- a choice of the path
-pub choice_takes : (ways : List (Readings Row)) (p : Path) (at : ℕ) (members : Readings Row) → slice_get p.choices at ≡ Some members → TakesNoMore ways (with_choice p members) p
-choice_takes ways p at members here q (of_fact k e) = of_fact k e
-choice_takes ways p at members here q (of_choice k ms e h) =
+pub choice_takes : (ts : List Sum) (ways : List (Readings Row)) (p : Path) (at : ℕ) (members : Readings Row) → slice_get p.choices at ≡ Some members → TakesNoMore ts ways (with_choice p members) p
+choice_takes ts ways p at members here q (of_fact k e) = of_fact k e
+choice_takes ts ways p at members here q (of_choice k ms e h) =
     elim (in_append p.choices (members ∷ []) k ms e) [ inl g ↦ of_choice k ms g h | inr g ↦ of_choice at members here (subst (AnyHasRow q) (sym (only_last members ms g.0 g.1)) h) ]
-choice_takes ways p at members here q (of_way k ms e h) = of_way k ms e h
-choice_takes ways p at members here q (of_equation terms e) = of_equation terms e
+choice_takes ts ways p at members here q (of_way k ms e h) = of_way k ms e h
+choice_takes ts ways p at members here q (of_equation x one e) = of_equation x one e
 
 -- the ways of a pair
-pub way_takes : (ways : List (Readings Row)) (p : Path) (at : ℕ) (members : Readings Row) → slice_get ways at ≡ Some members → TakesNoMore ways (with_choice p members) p
-way_takes ways p at members here q (of_fact k e) = of_fact k e
-way_takes ways p at members here q (of_choice k ms e h) =
+pub way_takes : (ts : List Sum) (ways : List (Readings Row)) (p : Path) (at : ℕ) (members : Readings Row) → slice_get ways at ≡ Some members → TakesNoMore ts ways (with_choice p members) p
+way_takes ts ways p at members here q (of_fact k e) = of_fact k e
+way_takes ts ways p at members here q (of_choice k ms e h) =
     elim (in_append p.choices (members ∷ []) k ms e) [ inl g ↦ of_choice k ms g h | inr g ↦ of_way at members here (subst (AnyHasRow q) (sym (only_last members ms g.0 g.1)) h) ]
-way_takes ways p at members here q (of_way k ms e h) = of_way k ms e h
-way_takes ways p at members here q (of_equation terms e) = of_equation terms e
+way_takes ts ways p at members here q (of_way k ms e h) = of_way k ms e h
+way_takes ts ways p at members here q (of_equation x one e) = of_equation x one e
 
-pub member_takes : (ways : List (Readings Row)) (p : Path) (members : Nnfs) (items : List Nnf) (i : ℕ) (n : Nnf) → items ≡ nnf_items members → i < length items → n ≡ get_or items i n
-    → TakesNoMore ways (taken p (nnf_view n)) (with_choice p (nnfs_view members))
-member_takes ways p members items i n e l is = reading_takes ways p (nnf_view n) (nnfs_view members) (member_has members items i n e l is)
+pub member_takes : (ts : List Sum) (ways : List (Readings Row)) (p : Path) (members : Nnfs) (items : List Nnf) (i : ℕ) (n : Nnf) → items ≡ nnf_items members → i < length items → n ≡ get_or items i n
+    → TakesNoMore ts ways (taken p (nnf_view n)) (with_choice p (nnfs_view members))
+member_takes ts ways p members items i n e l is = reading_takes ts ways p (nnf_view n) (nnfs_view members) (member_has members items i n e l is)
 
 -- ---- stops
 
 -- where no more is taken, and no larger sizes
-pub reached_before : (ways : List (Readings Row)) (p q : Path) (m n : ℕ) (facts : List Fact) → TakesNoMore ways p q → m ≤ n → MayReach p ways m facts → MayReach q ways n facts
-reached_before ways p q m n facts takes le h = record {
-  each = All-weaker {X = ℕ × Row} (λ r. MayTake p ways r.1) (λ r. MayTake q ways r.1) (λ r. takes r.1) (rows_among facts) h.each;
+pub reached_before : (ts : List Sum) (ways : List (Readings Row)) (p q : Path) (m n : ℕ) (facts : List Fact) → TakesNoMore ts ways p q → m ≤ n → MayReach ts p ways m facts → MayReach ts q ways n facts
+reached_before ts ways p q m n facts takes le h = record {
+  each = All-weaker {X = ℕ × Row} (λ r. MayTake ts p ways r.1) (λ r. MayTake ts q ways r.1) (λ r. takes r.1) (rows_among facts) h.each;
   sizes = let w = h.sizes in omega (arith, w, le);
 }
 
-pub stops_before : (terms limit old_terms old_limit : ℕ) (ever later : List Row) (ways : List (Readings Row)) (p q : Path) (m n : ℕ) (stop : LinearStop) → terms ≡ old_terms → limit ≡ old_limit
-    → TakesNoMore ways p q → All (MayTake q ways) later → m ≤ n → StopsSearch terms limit (ever ++ later) p ways m stop → StopsSearch old_terms old_limit ever q ways n stop
-stops_before terms limit old_terms old_limit ever later ways p q m n stop same_terms same takes each le h =
-    subst (λ k. StopsSearch k old_limit ever q ways n stop) same_terms (subst (λ l. StopsSearch terms l ever q ways n stop) same (by stop h))
+pub stops_before : (ts : List Sum) (terms limit old_terms old_limit : ℕ) (ever later : List Row) (ways : List (Readings Row)) (p q : Path) (m n : ℕ) (stop : LinearStop) → terms ≡ old_terms → limit ≡ old_limit
+    → TakesNoMore ts ways p q → All (MayTake ts q ways) later → m ≤ n → StopsSearch ts terms limit (ever ++ later) p ways m stop → StopsSearch ts old_terms old_limit ever q ways n stop
+stops_before ts terms limit old_terms old_limit ever later ways p q m n stop same_terms same takes each le h =
+    subst (λ k. StopsSearch ts k old_limit ever q ways n stop) same_terms (subst (λ l. StopsSearch ts terms l ever q ways n stop) same (by stop h))
   where
-    on : (stop : LinearStop) → StopsOn terms limit (ever ++ later) p ways m stop → StopsOn terms limit ever q ways n stop
+    on : (stop : LinearStop) → StopsOn ts terms limit (ever ++ later) p ways m stop → StopsOn ts terms limit ever q ways n stop
     on stop h = record {
       facts = h.facts;
-      reached = reached_before ways p q m n h.facts takes le h.reached;
-      stops = may_stop_less (MayTake q ways) terms limit ever later (rows_among h.facts) stop each
-          (may_stop_as (MayTake p ways) (MayTake q ways) terms limit (ever ++ later) (rows_among h.facts) stop takes h.stops);
+      few = h.few;
+      reached = reached_before ts ways p q m n h.facts takes le h.reached;
+      stops = may_stop_less (MayTake ts q ways) terms limit ever later (rows_among h.facts) stop each
+          (may_stop_as (MayTake ts p ways) (MayTake ts q ways) terms limit (ever ++ later) (rows_among h.facts) stop takes h.stops);
     }
 
-    by : (stop : LinearStop) → StopsSearch terms limit (ever ++ later) p ways m stop → StopsSearch terms limit ever q ways n stop
+    by : (stop : LinearStop) → StopsSearch ts terms limit (ever ++ later) p ways m stop → StopsSearch ts terms limit ever q ways n stop
     by Memory h = tt
     by (Number e) h = on (Number e) h
     by (Pivots k) h = on (Pivots k) h
@@ -185,22 +187,22 @@ facts_take P n (objects_fact a b one ∷ fs) h = facts_take P (suc n) fs (λ k. 
 facts_take P n (never ∷ fs) h = facts_take P (suc n) fs (λ k. h (suc k))
 
 -- the facts of a path
-pub reached_here : (path : Path) (ways : List (Readings Row)) (n : ℕ) → constants (rows_among path.facts) ≤ n → MayReach path ways n path.facts
-reached_here path ways n le = record { each = facts_take (MayTake path ways) 1 path.facts (λ k r e. of_fact k e); sizes = le }
+pub reached_here : (ts : List Sum) (path : Path) (ways : List (Readings Row)) (n : ℕ) → constants (rows_among path.facts) ≤ n → MayReach ts path ways n path.facts
+reached_here ts path ways n le = record { each = facts_take (MayTake ts path ways) 1 path.facts (λ k r e. of_fact k e); sizes = le }
 
 -- a row that stands is one of them
-pub standing_take : (path : Path) (ways : List (Readings Row)) (r : Row) → Stands (rows_among path.facts) r → MayTake path ways r
-standing_take path ways = of_standing (MayTake path ways) (rows_among path.facts) (facts_take (MayTake path ways) 1 path.facts (λ k r e. of_fact k e))
+pub standing_take : (ts : List Sum) (path : Path) (ways : List (Readings Row)) (r : Row) → Stands (rows_among path.facts) r → MayTake ts path ways r
+standing_take ts path ways = of_standing (MayTake ts path ways) (rows_among path.facts) (facts_take (MayTake ts path ways) 1 path.facts (λ k r e. of_fact k e))
 
 -- a stop of an engine on them
-pub stops_here : (terms limit : ℕ) (ever : List Row) (path : Path) (ways : List (Readings Row)) (n : ℕ) (stop : LinearStop) → constants (rows_among path.facts) ≤ n
-    → HasStops terms limit ever (MayTake path ways) path.facts stop → StopsSearch terms limit ever path ways n stop
-stops_here terms limit ever path ways n stop le h = by stop h
+pub stops_here : (ts : List Sum) (terms limit : ℕ) (ever : List Row) (path : Path) (ways : List (Readings Row)) (n : ℕ) (stop : LinearStop) → constants (rows_among path.facts) ≤ n
+    → length path.facts < 2 ^ 64 → HasStops terms limit ever (MayTake ts path ways) path.facts stop → StopsSearch ts terms limit ever path ways n stop
+stops_here ts terms limit ever path ways n stop le few h = by stop h
   where
-    on : (stop : LinearStop) → HasStops terms limit ever (MayTake path ways) path.facts stop → StopsOn terms limit ever path ways n stop
-    on stop h = record { facts = path.facts; reached = reached_here path ways n le; stops = h }
+    on : (stop : LinearStop) → HasStops terms limit ever (MayTake ts path ways) path.facts stop → StopsOn ts terms limit ever path ways n stop
+    on stop h = record { facts = path.facts; few = few; reached = reached_here ts path ways n le; stops = h }
 
-    by : (stop : LinearStop) → HasStops terms limit ever (MayTake path ways) path.facts stop → StopsSearch terms limit ever path ways n stop
+    by : (stop : LinearStop) → HasStops terms limit ever (MayTake ts path ways) path.facts stop → StopsSearch ts terms limit ever path ways n stop
     by Memory h = tt
     by (Number e) h = on (Number e) h
     by (Pivots k) h = on (Pivots k) h

@@ -1,17 +1,18 @@
 -- When a search stops: as an engine may on rows that it may take.
-use Rattle.std.specs.Prelude.{◌≡◌, ◌⊎◌, ◌≤◌, ◌+◌, ℕ, List, [], ◌∷◌, All, Some, if◌then◌else◌, slice_get}
+use Rattle.std.specs.Prelude.{◌≡◌, ◌⊎◌, ◌<◌, ◌≤◌, ◌+◌, ◌^◌, ℕ, List, [], ◌∷◌, All, Some, if◌then◌else◌, length, slice_get}
 use Rattle.lq_case.specs.PathState.{HandsMore, HasHanded, HasStops}
 use Rattle.lq_case.specs.RowState.{terms_of}
 use Rattle.lq_combine.specs.Path.{Fact, Path, row_fact, taken}
 use Rattle.lq_combine.specs.Proves.{rows_among}
 use Rattle.lq_diff.specs.Table.{constants}
-use Rattle.lq_equating.specs.Equating.{equation}
+use Rattle.lq_equating.specs.Equating.{AreOneFunction, equation}
 use Rattle.lq_linear.specs.Row.{Row}
 use Rattle.lq_linear.specs.declared.engine.LinearStop.{LinearStop}
 use Rattle.lq_linear.specs.declared.engine.LinearStop.TheVariants.{Number, Pivots, Memory}
 use Rattle.lq_path.specs.declared.choice.Choice.{Choice}
 use Rattle.lq_pred.specs.NnfView.{nnfs_view}
 use Rattle.lq_pred.specs.Reading.{Reading, yes, no, row, flag_is, objects_are, all_of, any_of, Readings, none, more}
+use Rattle.lq_pred.specs.Sum.{Sum}
 use Rattle.lq_search.specs.Scope.{Scope}
 use Rattle.lq_search.specs.SearchPath.{facts_of, path_of, ways_of}
 use Rattle.lq_search.specs.Sizes.{most, most_of_any, row_size}
@@ -35,12 +36,13 @@ abbrev mutual
   AnyHasRow r none = ⊥
   AnyHasRow r (more q rs) = HasRow r q ⊎ AnyHasRow r rs
 
--- The rows that a search may take on a path: those of its facts, of its choices and of the ways of pairs, and that two terms are equal.
-pub data MayTake (path : Path) (ways : List (Readings Row)) (r : Row) : Type 0 where
-  of_fact : (k : ℕ) → slice_get path.facts k ≡ Some (row_fact r) → MayTake path ways r
-  of_choice : (k : ℕ) (members : Readings Row) → slice_get path.choices k ≡ Some members → AnyHasRow r members → MayTake path ways r
-  of_way : (k : ℕ) (members : Readings Row) → slice_get ways k ≡ Some members → AnyHasRow r members → MayTake path ways r
-  of_equation : (terms : ℕ × ℕ) → r ≡ equation terms → MayTake path ways r
+-- The rows that a search may take on a path: those of its facts, of its choices and of the ways of pairs, and that two terms are equal which
+-- apply one function, a length or a measure.
+pub data MayTake (terms : List Sum) (path : Path) (ways : List (Readings Row)) (r : Row) : Type 0 where
+  of_fact : (k : ℕ) → slice_get path.facts k ≡ Some (row_fact r) → MayTake terms path ways r
+  of_choice : (k : ℕ) (members : Readings Row) → slice_get path.choices k ≡ Some members → AnyHasRow r members → MayTake terms path ways r
+  of_way : (k : ℕ) (members : Readings Row) → slice_get ways k ≡ Some members → AnyHasRow r members → MayTake terms path ways r
+  of_equation : (p : ℕ × ℕ) → AreOneFunction terms p → r ≡ equation p → MayTake terms path ways r
 
 -- ---- sizes
 
@@ -59,32 +61,35 @@ most_on s p = constants (rows_among (facts_of s p)) + (most_open p.choices.items
 -- ---- stops
 
 -- facts to which a search may come on the path, whose rows' constants have sizes that sum to at most n
-pub record MayReach (path : Path) (ways : List (Readings Row)) (n : ℕ) (facts : List Fact) : Type 0 where
-  pub each : All (λ r. MayTake path ways r.1) (rows_among facts)
+pub record MayReach (terms : List Sum) (path : Path) (ways : List (Readings Row)) (n : ℕ) (facts : List Fact) : Type 0 where
+  pub each : All (λ r. MayTake terms path ways r.1) (rows_among facts)
   pub sizes : constants (rows_among facts) ≤ n
 
--- a stop of an engine on such facts, over so many terms and with this limit on pivots; the tableau was ever handed some rows, and then rows
--- that the search may take
-pub record StopsOn (terms limit : ℕ) (ever : List Row) (path : Path) (ways : List (Readings Row)) (n : ℕ) (stop : LinearStop) : Type 0 where
+-- a stop of an engine on such facts, fewer than 2^64, over so many terms and with this limit on pivots; the tableau was ever handed some rows,
+-- and then rows that the search may take
+pub record StopsOn (terms : List Sum) (count limit : ℕ) (ever : List Row) (path : Path) (ways : List (Readings Row)) (n : ℕ) (stop : LinearStop) : Type 0 where
   pub facts : List Fact
-  pub reached : MayReach path ways n facts
-  pub stops : HasStops terms limit ever (MayTake path ways) facts stop
+  pub few : length facts < 2 ^ 64
+  pub reached : MayReach terms path ways n facts
+  pub stops : HasStops count limit ever (MayTake terms path ways) facts stop
 
 -- want of memory, or a stop of an engine
-abbrev pub StopsSearch : ℕ → ℕ → List Row → Path → List (Readings Row) → ℕ → LinearStop → Type 0
-StopsSearch terms limit ever path ways n Memory = Unit {0}
-StopsSearch terms limit ever path ways n (Number e) = StopsOn terms limit ever path ways n (Number e)
-StopsSearch terms limit ever path ways n (Pivots k) = StopsOn terms limit ever path ways n (Pivots k)
+abbrev pub StopsSearch : List Sum → ℕ → ℕ → List Row → Path → List (Readings Row) → ℕ → LinearStop → Type 0
+StopsSearch terms count limit ever path ways n Memory = Unit {0}
+StopsSearch terms count limit ever path ways n (Number e) = StopsOn terms count limit ever path ways n (Number e)
+StopsSearch terms count limit ever path ways n (Pivots k) = StopsOn terms count limit ever path ways n (Pivots k)
 
 -- a search with a reading, from one path: a stop, whatever rows the tableau was handed before, the rows that are handed to it besides, and the
 -- facts with which it ends
 abbrev pub StopsFrom : Reading Row → Scope → List Pair → SearchPath → LinearStop → Type 0
 StopsFrom r s pairs p stop =
     (ever : List Row) → HasHanded p.state ever
-    → StopsSearch (terms_of p.state.rows) p.state.rows.pivots ever (taken (path_of s p) r) (ways_of pairs) (most_on s p + most row_size r) stop
+    → StopsSearch s.terms (terms_of p.state.rows) p.state.rows.pivots ever (taken (path_of s p) r) (ways_of pairs) (most_on s p + most row_size r) stop
 
 abbrev pub HandsFrom : Reading Row → Scope → List Pair → SearchPath → SearchPath → Type 0
-HandsFrom r s pairs p q = HandsMore (MayTake (taken (path_of s p) r) (ways_of pairs)) p.state q.state
+HandsFrom r s pairs p q = HandsMore (MayTake s.terms (taken (path_of s p) r) (ways_of pairs)) p.state q.state
 
-abbrev pub ReachesFrom : Reading Row → Scope → List Pair → SearchPath → SearchPath → Type 0
-ReachesFrom r s pairs p q = MayReach (taken (path_of s p) r) (ways_of pairs) (most_on s p + most row_size r) (facts_of s q)
+-- and the rows that were handed until then
+pub record ReachesFrom (r : Reading Row) (s : Scope) (pairs : List Pair) (p q : SearchPath) : Type 0 where
+  pub facts : MayReach s.terms (taken (path_of s p) r) (ways_of pairs) (most_on s p + most row_size r) (facts_of s q)
+  pub handed : HandsFrom r s pairs p q

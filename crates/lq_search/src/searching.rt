@@ -48,6 +48,7 @@ fn search<'a>(
     ensures stop { IfErr result (StopsFrom yes (scope_of givens.now)
         givens.now.pairs.now path.old) }
 {
+    path.state.facts_are_few();
     let before = path.counts();
     let (joints, clash) = equate_all(alloc, &mut path.state, givens.objects, givens.terms)?;
     if let Some(clash) = clash {
@@ -86,6 +87,7 @@ fn search_on<'a>(
     ensures stop { IfErr result (StopsFrom yes (scope_of givens.now)
         givens.now.pairs.now path.old) }
 {
+    path.state.facts_are_few();
     if let Some(clash) = path.state.check()? {
         return Ok(Some(ProofTree::Leaf(clash)));
     }
@@ -261,6 +263,7 @@ fn search_with<'a>(
         givens.now.pairs.now path.old) }
 {
     proved_paths_have_no_point();
+    path.state.facts_are_few();
     let mut parts = Vec::new(alloc);
     let Ok(()) = add_parts(reading, &mut parts, &mut path.choices) else {
         return Err(LinearStop::Memory);

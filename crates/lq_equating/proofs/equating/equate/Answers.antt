@@ -6,7 +6,7 @@ use Rattle.lq_equating.specs.Equating.{Wraps, numbering_by}
 use Rattle.lq_equating.specs.Naming.{name_in, objects_of}
 use Rattle.lq_equating.specs.declared.chain.Joint.{Joint}
 use Rattle.lq_equating.proofs.Chains.{wraps_push}
-use Rattle.lq_equating.proofs.Equations.{adds_one, adds_stops}
+use Rattle.lq_equating.proofs.Equations.{stops_one}
 use Rattle.lq_equating.proofs.Joining.{joint_of, object_within, parts_below, rises}
 use Rattle.lq_equating.proofs.Sides.{if_err, on_ok}
 use Rattle.lq_pred.specs.TableView.{terms_of}
@@ -39,7 +39,7 @@ returns-clause-stop c =
     let facts = facts_in name c.args.state.now in
     let row = c.in-Ok-equal_row.row in
     if_err c.take_row.result
-    (λ e s. adds_stops facts (facts ++ row_fact row ∷ []) e (adds_one facts (facts ++ row_fact row ∷ []) (c.args.first.term, c.args.later.term) (ap (λ r. facts ++ row_fact r ∷ []) c.in-Ok-equal_row.ensures)) (s name))
+    (λ e s. stops_one facts (facts ++ row_fact row ∷ []) (c.args.first.term, c.args.later.term) e (ap (λ r. facts ++ row_fact r ∷ []) c.in-Ok-equal_row.ensures) (s name))
     c.take_row.ensures.stop
 
 pub returns-clause-wraps : goal.returns-clause-wraps

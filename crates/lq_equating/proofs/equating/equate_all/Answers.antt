@@ -68,14 +68,14 @@ pub returns-in_err-clash-clause-stop : goal.returns-in_err-clash-clause-stop
 returns-in_err-clash-clause-stop c =
     let name = name_in (objects_of c.args.objects.now) in
     let p = err_from_is_err_and c.from_residual.result c.from_residual.ensures.1 in
-    rw (p.1, p.2) (adds_stops (facts_in name c.args.state.now) (facts_in name c.loop-index.state) c.in_err-clash.field-0.0 (c.loop-index.invariant.adds name) c.in_err-clash.ensures.stop)
+    rw (p.1, p.2) (adds_stops (terms_of c.args.table.now) (facts_in name c.args.state.now) (facts_in name c.loop-index.state) c.in_err-clash.field-0.0 (c.loop-index.invariant.adds name) c.in_err-clash.ensures.stop)
 
 pub returns-then-is_some-clause-wraps : goal.returns-then-is_some-clause-wraps
 returns-then-is_some-clause-wraps c = λ whole choices w. c.in_ok-clash.ensures.wraps whole choices (c.loop-index.invariant.wraps whole choices w)
 
 pub returns-then-is_some-clause-adds : goal.returns-then-is_some-clause-adds
 returns-then-is_some-clause-adds c = λ name.
-    adds_then (facts_in name c.args.state.now) (facts_in name c.loop-index.state) (facts_in name c.equate_later.new.state) (c.loop-index.invariant.adds name) (c.in_ok-clash.ensures.adds name)
+    adds_then (terms_of c.args.table.now) (facts_in name c.args.state.now) (facts_in name c.loop-index.state) (facts_in name c.equate_later.new.state) (c.loop-index.invariant.adds name) (c.in_ok-clash.ensures.adds name)
 
 pub returns-clause-equated : goal.returns-clause-equated
 returns-clause-equated c =
@@ -94,7 +94,7 @@ returns-in_err-clash-clause-refused c =
     let p = err_from_is_err_and c.from_residual.result c.from_residual.ensures.1 in
     rw p.1 (λ name.
     subst (Grows (facts_in name c.args.state.now)) (sym (c.in_err-clash.ensures.refused name))
-    (adds_grows (facts_in name c.args.state.now) (facts_in name c.loop-index.state) (c.loop-index.invariant.adds name)))
+    (adds_grows (terms_of c.args.table.now) (facts_in name c.args.state.now) (facts_in name c.loop-index.state) (c.loop-index.invariant.adds name)))
 
 pub returns-in_err-clash-clause-handed : goal.returns-in_err-clash-clause-handed
 returns-in_err-clash-clause-handed c = λ ever h. c.equate_later.ensures.handed ever (c.loop-index.invariant.handed ever h)

@@ -4,8 +4,8 @@ use Rattle.lq_combine.specs.Proves.{rows_among}
 use Rattle.lq_equating.specs.Equating.{equation}
 use Rattle.lq_equating.specs.Naming.{name_in, objects_of}
 use Rattle.lq_equating.proofs.Equated.{each_next}
-use Rattle.lq_equating.proofs.Equations.{adds_none, adds_one, adds_solves, equation_says, last_holds}
-use Rattle.lq_equating.proofs.Joining.{fourth, object_within, second_of_four, third_of_four}
+use Rattle.lq_equating.proofs.Equations.{adds_none, adds_one, equation_says, last_holds, solves_one}
+use Rattle.lq_equating.proofs.Joining.{fourth, object_within, one_function, second_of_four, third_of_four}
 use Rattle.lq_equating.proofs.Sides.{on_ok}
 use Rattle.lq_linear.specs.Contradiction.{Solves}
 use Rattle.lq_pred.specs.TableView.{terms_of}
@@ -32,7 +32,13 @@ returns-in-Ok-Some-clause-firsts c =
 
 pub returns-in-Ok-Some-clause-adds : goal.returns-in-Ok-Some-clause-adds
 returns-in-Ok-Some-clause-adds c =
-    on_ok c.equate.result (λ a name. adds_one (facts_in name c.args.state.now) (facts_in name c.equate.new.state) (c.in-Ok-Some.first.term, c.args.later.term) (a name)) c.equate.ensures.adds
+    let objects = objects_of c.args.objects.now in
+    let terms = terms_of c.args.table.now in
+    let first = c.in-Ok-Some.first in
+    let later = c.args.later in
+    let f = (rw c.in-Ok-Some.field-0-is at c.in-Ok-Some.ensures.some) objects terms c.args.classes.now c.requires.firsts in
+    let one = one_function objects terms first later c.requires.distinct f.0 c.requires.later (second_of_four f) (fourth f) in
+    on_ok c.equate.result (λ a name. adds_one terms (facts_in name c.args.state.now) (facts_in name c.equate.new.state) (first.term, later.term) one (a name)) c.equate.ensures.adds
 
 pub returns-in-Ok-Some-clause-equated : goal.returns-in-Ok-Some-clause-equated
 returns-in-Ok-Some-clause-equated c =
@@ -45,7 +51,7 @@ returns-in-Ok-Some-clause-equated c =
     let later = c.args.later in
     on_ok c.equate.result
     (λ a. each_next objects terms c.args.classes.now later.index c.args.equations.now.firsts.entries c.first_of.new.firsts.entries old new later first c.in-Ok-Some.ensures.keeps
-    (λ v. adds_solves v old new (adds_one old new (first.term, later.term) (a name))) c.requires.later refl (rw c.in-Ok-Some.field-0-is at c.in-Ok-Some.ensures.found)
+    (λ v. solves_one v old new (first.term, later.term) (a name)) c.requires.later refl (rw c.in-Ok-Some.field-0-is at c.in-Ok-Some.ensures.found)
     (λ v s. equation_says v first.term later.term (last_holds v 1 old (equation (first.term, later.term)) (subst (λ l. Solves v (rows_among l)) (a name) s))))
     c.equate.ensures.adds
 
@@ -53,7 +59,7 @@ pub returns-in-Ok-None-clause-firsts : goal.returns-in-Ok-None-clause-firsts
 returns-in-Ok-None-clause-firsts c = c.in-Ok-None.ensures.firsts (objects_of c.args.objects.now) (terms_of c.args.table.now) c.args.classes.now refl c.requires.firsts c.requires.later
 
 pub returns-in-Ok-None-clause-adds : goal.returns-in-Ok-None-clause-adds
-returns-in-Ok-None-clause-adds c = λ name. adds_none (facts_in name c.args.state.now)
+returns-in-Ok-None-clause-adds c = λ name. adds_none (terms_of c.args.table.now) (facts_in name c.args.state.now)
 
 pub returns-in-Ok-None-clause-equated : goal.returns-in-Ok-None-clause-equated
 returns-in-Ok-None-clause-equated c =

@@ -1,4 +1,5 @@
-use Rattle.std.proofs.Common.{◌≡◌, ◌∙◌, ◌<◌, IfNone, IfOk, IfSome, Some, false, get_or, length, set, slice_get, true, refl, sym, ap, subst, arith}
+use Rattle.std.proofs.Common.{◌≡◌, ◌∙◌, ◌^◌, ◌<◌, IfNone, IfOk, IfSome, Some, false, get_or, length, set, slice_get, true, refl, sym, ap, subst, arith}
+use Rattle.std.proofs.lemmas.List.{length-map}
 use Rattle.std.proofs.lemmas.Option.{slice_get-get_or, slice_get_within}
 use Rattle.std.proofs.lemmas.Result.{err_from_is_err_and}
 use Rattle.lq_case.specs.PathState.{facts_in, objects_in}
@@ -15,7 +16,7 @@ use Rattle.lq_path.proofs.Readings.{view_items}
 use Rattle.lq_pred.specs.NnfView.{nnf_items, nnf_view, nnfs_view}
 use Rattle.lq_pred.specs.Reading.{any_of, yes}
 use Rattle.lq_search.specs.Branches.{BranchProves, SplitProves}
-use Rattle.lq_search.specs.Parts.{facts_of as part_facts, path_by}
+use Rattle.lq_search.specs.Parts.{facts_of as part_facts, part_fact, path_by}
 use Rattle.lq_search.specs.Scope.{AreWithin, IsWithin}
 use Rattle.lq_search.specs.SearchPath.{Always, EndsMet, IsBack, IsReadyForAny, facts_of, path_of, scope_of}
 use Rattle.lq_search.specs.declared.pair.Pair.{Pair}
@@ -421,7 +422,8 @@ split_pair-returns-in-Some-clause-back t c =
 pub search-returns-in_err-joints-clause-stop : goal.search-returns-in_err-joints-clause-stop
 search-returns-in_err-joints-clause-stop t c =
     let p = err_from_is_err_and c.from_residual.result c.from_residual.ensures.1 in
-    rw (p.1, p.2) (equating_stops (scope_of c.args.givens.now) c.args.givens.now.pairs.now c.args.path.now c.in_err-joints.field-0.0 c.in_err-joints.ensures.stop)
+    rw (p.1, p.2) (equating_stops (scope_of c.args.givens.now) c.args.givens.now.pairs.now c.args.path.now c.in_err-joints.field-0.0
+    (c.facts_are_few.ensures (name_in (scope_of c.args.givens.now).objects)) c.in_err-joints.ensures.stop)
 
 pub search-returns-in_err-tree-clause-stop : goal.search-returns-in_err-tree-clause-stop
 search-returns-in_err-tree-clause-stop t c =
@@ -446,14 +448,15 @@ pub search_on-returns-in_err-clash-clause-stop : goal.search_on-returns-in_err-c
 search_on-returns-in_err-clash-clause-stop t c =
     let r = err_from_is_err_and c.from_residual.result c.from_residual.ensures.1 in
     let s = scope_of c.args.givens.now in
-    rw (r.1, r.2) (check_stops s c.args.givens.now.pairs.now c.args.path.now c.in_err-clash.field-0.0 (c.in_err-clash.ensures.stop (name_in s.objects)))
+    rw (r.1, r.2) (check_stops s c.args.givens.now.pairs.now c.args.path.now c.in_err-clash.field-0.0 (c.facts_are_few.ensures (name_in s.objects))
+    (c.in_err-clash.ensures.stop (name_in s.objects)))
 
 pub search_on-returns-in-None-clause-reached : goal.search_on-returns-in-None-clause-reached
 search_on-returns-in-None-clause-reached t c =
     let s = scope_of c.args.givens.now in
     let p = c.args.path.now in
     let q : SearchPath = record { state = c.check.new.self; choices = p.choices; pairs = p.pairs } in
-    checked_reaches s c.args.givens.now.pairs.now p q (c.in_ok-clash.ensures.facts (name_in s.objects))
+    checked_reaches s c.args.givens.now.pairs.now p q (c.in_ok-clash.ensures.facts (name_in s.objects)) (c.check.ensures.handed (name_in s.objects))
 
 pub refute_each-returns-in_err-refute_with-clause-stop : goal.refute_each-returns-in_err-refute_with-clause-stop
 refute_each-returns-in_err-refute_with-clause-stop t c =
@@ -482,7 +485,11 @@ search_with-returns-in_err-leaf-clause-stop t c =
     let s = scope_of c.args.givens.now in
     let r = nnf_view c.args.reading.now in
     let parts = parts_are r c.new-parts.result.items c.add_parts.new.parts.items c.args.path.now.choices.items c.add_parts.new.choices.items c.new-parts.ensures.items c.in-Ok.ensures.taken in
-    rw (p.1, p.2) (taking_stops s c.args.givens.now.pairs.now r c.args.path.now (part_facts c.deref.result.now) c.in_err-leaf.field-0.0 (ap part_facts c.deref.ensures.value ∙ parts) c.in_err-leaf.ensures.stop)
+    let short : length (part_facts c.deref.result.now) < 2 ^ 63 =
+    (let n = length-map c.deref.result.now part_fact in let m = ap length c.deref.ensures.value in let v = c.add_parts.new.parts.ok in let w = c.add_parts.new.parts.small in
+    omega (arith, n, m, v, w)) in
+    rw (p.1, p.2) (taking_stops s c.args.givens.now.pairs.now r c.args.path.now (part_facts c.deref.result.now) c.in_err-leaf.field-0.0 (ap part_facts c.deref.ensures.value ∙ parts)
+    (c.facts_are_few.ensures (name_in s.objects)) short c.in_err-leaf.ensures.stop)
 
 pub search_with-returns-clause-reached : goal.search_with-returns-clause-reached
 search_with-returns-clause-reached t c =
@@ -734,3 +741,23 @@ search_on-returns-in-Some-Pair-clause-stop t c =
     let q : SearchPath = record { state = c.check.new.self; choices = p.choices; pairs = p.pairs } in
     let back : IsBack p q = record { facts = e.facts; choices_are = refl; pairs_are = refl; limits = e.limits } in
     if_err_more c.split_pair.result (λ stop h. stops_step s pairs yes p yes q stop (step_checked s pairs p q back (c.check.ensures.handed (name_in s.objects))) h) c.split_pair.ensures.stop
+
+pub search_on-returns-in-Some-Choice-clause-reached : goal.search_on-returns-in-Some-Choice-clause-reached
+search_on-returns-in-Some-Choice-clause-reached t c =
+    let s = scope_of c.args.givens.now in
+    let pairs = c.args.givens.now.pairs.now in
+    let p = c.args.path.now in
+    let e = c.in_ok-clash.ensures in
+    let q : SearchPath = record { state = c.check.new.self; choices = p.choices; pairs = p.pairs } in
+    let back : IsBack p q = record { facts = e.facts; choices_are = refl; pairs_are = refl; limits = e.limits } in
+    if_ok_none c.split_choice.result (λ h. reached_step s pairs yes p yes q c.split_choice.new.path (step_checked s pairs p q back (c.check.ensures.handed (name_in s.objects))) h) c.split_choice.ensures.reached
+
+pub search_on-returns-in-Some-Pair-clause-reached : goal.search_on-returns-in-Some-Pair-clause-reached
+search_on-returns-in-Some-Pair-clause-reached t c =
+    let s = scope_of c.args.givens.now in
+    let pairs = c.args.givens.now.pairs.now in
+    let p = c.args.path.now in
+    let e = c.in_ok-clash.ensures in
+    let q : SearchPath = record { state = c.check.new.self; choices = p.choices; pairs = p.pairs } in
+    let back : IsBack p q = record { facts = e.facts; choices_are = refl; pairs_are = refl; limits = e.limits } in
+    if_ok_none c.split_pair.result (λ h. reached_step s pairs yes p yes q c.split_pair.new.path (step_checked s pairs p q back (c.check.ensures.handed (name_in s.objects))) h) c.split_pair.ensures.reached
