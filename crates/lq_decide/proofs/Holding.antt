@@ -68,7 +68,7 @@ fact_holds : (objects : List Sum) (c : Case) (s : PathState) (values : PointValu
     → FactHolds (valuation_of (numbers_of values)) (point_of_values values) f
 fact_holds objects c s values i w below none k (row_fact r) e =
     same_row (valuation_of (numbers_of values)) (row_point s.rows) (length c.terms) r w.numbers (all_below (length c.terms) c.facts below k (row_fact r) e)
-    (row_solved (row_point s.rows) 1 c.facts k r (adds_solves (row_point s.rows) c.facts (facts_in (name_in objects) s) i.adds i.solves) e)
+    (row_solved (row_point s.rows) 1 c.facts k r (adds_solves c.terms (row_point s.rows) c.facts (facts_in (name_in objects) s) i.adds i.solves) e)
 fact_holds objects c s values i w below none k (flag_fact x value) e = ap (λ o. unwrap_or o false) (w.flags k x value e)
 fact_holds objects c s values i w below none k (objects_fact a b true) e =
     let t = i.told k (objects_fact a b true) e in

@@ -7,3 +7,5 @@ pub mod Points
 pub mod Reading
 pub mod Settling
 pub mod Stopped
+pub mod Origin
+pub mod Small

@@ -31,7 +31,7 @@ use Rattle.lq_decide.specs.Deciding.{Fits, HoldsCase, PairsAreDecided}
 use Rattle.lq_equating.specs.Equating.{applied}
 use Rattle.lq_equating.specs.Naming.{HasAllArguments, HasArgument}
 use Rattle.lq_decide.specs.Settled.{AreValuesOf, IsSettled}
-use Rattle.lq_decide.specs.Stopping.{IsPastAtPoint}
+use Rattle.lq_decide.specs.Stopping.{HasOrigin, IsPastAtPoint}
 use Rattle.lq_decide.specs.declared.literals.Literals.{Literals}
 use Rattle.lq_decide.proofs.Holding.{class_is, facts_hold, no_never}
 use Rattle.lq_decide.proofs.Ways.{compare_all}
@@ -155,10 +155,11 @@ pub all_terms : (l : Literals) (values : PointValues) → table_of values ≡ (c
 all_terms l values e fits t h = ap (λ ts. has_term ts t) (e ∙ fits.complete) ∙ h
 
 pub past_at_point : (objects : List Sum) (c : Case) (s : PathState) (values : PointValues) (e : NumberPast) → AreGiven objects c s values → IsPast e
-    → IsStepOf (implication_literals c.implication) (table_of values) (numbers_of values) e → IsPastAtPoint c e
-past_at_point objects c s values e g past step = record {
+    → HasOrigin c (valuation_of (numbers_of values)) → IsStepOf (implication_literals c.implication) (table_of values) (numbers_of values) e → IsPastAtPoint c e
+past_at_point objects c s values e g past origin step = record {
   past = past;
   numbers = numbers_of values;
+  origin = origin;
   solve = solves_rows (valuation_of (numbers_of values)) (point_of_values values) 1 c.facts g.hold;
   step = subst (λ ts. IsStepOf (implication_literals c.implication) ts (numbers_of values) e) g.values_are.table step;
 }

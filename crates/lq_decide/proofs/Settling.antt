@@ -14,12 +14,12 @@ use Rattle.lq_linear.specs.Contradiction.{Solves}
 use Rattle.lq_pred.specs.Sum.{Sum}
 
 pub settled : (objects : List Sum) (c : Case) (s t u : PathState) → facts_in (name_in objects) s ≡ c.facts → AllTold objects (objects_in s) c.facts
-    → AddsEquations (facts_in (name_in objects) s) (facts_in (name_in objects) t) → objects_in t ≡ objects_in s → AreEquated objects c.terms (objects_in t) (facts_in (name_in objects) t)
+    → AddsEquations c.terms (facts_in (name_in objects) s) (facts_in (name_in objects) t) → objects_in t ≡ objects_in s → AreEquated objects c.terms (objects_in t) (facts_in (name_in objects) t)
     → facts_in (name_in objects) u ≡ facts_in (name_in objects) t → objects_in u ≡ objects_in t → is_solved u.rows ≡ true
     → Solves (row_point u.rows) (rows_among (facts_in (name_in objects) u)) → AllFlagsHold u.flags (facts_in (name_in objects) u) → NoObjectsClash u → IsSettled objects c u
 settled objects c s t u stands told adds about equated facts same solved solves flags apart = record {
   solved = solved;
-  adds = subst (λ l. AddsEquations l (facts_in (name_in objects) u)) stands (subst (AddsEquations (facts_in (name_in objects) s)) (sym facts) adds);
+  adds = subst (λ l. AddsEquations c.terms l (facts_in (name_in objects) u)) stands (subst (AddsEquations c.terms (facts_in (name_in objects) s)) (sym facts) adds);
   solves = solves;
   flags = flags;
   apart = apart;

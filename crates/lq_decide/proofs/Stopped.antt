@@ -1,5 +1,5 @@
 -- The stop of an engine is one of deciding.
-use Rattle.std.proofs.Common.{◌≡◌, ◌∙◌, ◌⊎◌, ℕ, List, [], Some, inl, inr, length, slice_get, subst, sym}
+use Rattle.std.proofs.Common.{◌≡◌, ◌∙◌, ◌⊎◌, ◌<◌, ◌^◌, ℕ, List, [], Some, inl, inr, length, slice_get, subst, sym}
 use Rattle.lq_case.specs.RowState.{AreDifferences}
 use Rattle.lq_case.specs.Stored.{Stands, StopsInTableau}
 use Rattle.lq_case.proofs.Handing.{of_standing}
@@ -28,21 +28,21 @@ spent_on limit c k l m i = by m.any
     )
 
 -- the rows of the case and equations after them
-pub added_row : (c : Case) (before after : List Fact) → before ≡ c.facts → AddsEquations before after → (r : Row) → Stands (rows_among after) r → IsItsRow c r
+pub added_row : (c : Case) (before after : List Fact) → before ≡ c.facts → AddsEquations c.terms before after → (r : Row) → Stands (rows_among after) r → IsItsRow c r
 added_row c before after e a =
     of_standing (IsItsRow c) (rows_among after)
-    (added_rows (IsItsRow c) before after a (λ k r at. of_fact k (subst (λ l. slice_get l k ≡ Some (row_fact r)) e at)) (λ terms r is. of_equation terms is))
+    (added_rows c.terms (IsItsRow c) before after a (λ k r at. of_fact k (subst (λ l. slice_get l k ≡ Some (row_fact r)) e at)) (λ p r one is. of_equation p one is))
 
-pub stops : (limit : ℕ) (c : Case) (e : LinearStop) (s : Stop) → StopsOnRows limit c e → IsStopOf e s → StopsDeciding limit c s
-stops limit c (linear.Number e) (Number f) m i = inl (subst (λ x. StopsOnRows limit c (linear.Number x)) i m)
-stops limit c (linear.Number e) (Gather p) m i = absurd i
-stops limit c (linear.Number e) (Pivots l) m i = absurd i
-stops limit c (linear.Number e) Memory m i = absurd i
-stops limit c (linear.Pivots k) (Pivots l) m i = spent_on limit c k l m i
-stops limit c (linear.Pivots k) (Number f) m i = absurd i
-stops limit c (linear.Pivots k) (Gather p) m i = absurd i
-stops limit c (linear.Pivots k) Memory m i = absurd i
-stops limit c linear.Memory Memory m i = tt
-stops limit c linear.Memory (Number f) m i = absurd i
-stops limit c linear.Memory (Gather p) m i = absurd i
-stops limit c linear.Memory (Pivots l) m i = absurd i
+pub stops : (limit : ℕ) (c : Case) (e : LinearStop) (s : Stop) → length c.facts < 2 ^ 63 → StopsOnRows limit c e → IsStopOf e s → StopsDeciding limit c s
+stops limit c (linear.Number e) (Number f) few m i = inl (few, subst (λ x. StopsOnRows limit c (linear.Number x)) i m)
+stops limit c (linear.Number e) (Gather p) few m i = absurd i
+stops limit c (linear.Number e) (Pivots l) few m i = absurd i
+stops limit c (linear.Number e) Memory few m i = absurd i
+stops limit c (linear.Pivots k) (Pivots l) few m i = spent_on limit c k l m i
+stops limit c (linear.Pivots k) (Number f) few m i = absurd i
+stops limit c (linear.Pivots k) (Gather p) few m i = absurd i
+stops limit c (linear.Pivots k) Memory few m i = absurd i
+stops limit c linear.Memory Memory few m i = tt
+stops limit c linear.Memory (Number f) few m i = absurd i
+stops limit c linear.Memory (Gather p) few m i = absurd i
+stops limit c linear.Memory (Pivots l) few m i = absurd i

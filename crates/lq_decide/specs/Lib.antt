@@ -3,4 +3,5 @@ pub mod CaseView
 pub mod Deciding
 pub mod Settled
 pub mod Stopping
+pub mod Small
 pub mod Answer

@@ -20,7 +20,7 @@ use Rattle.lq_pred.specs.declared.symbol.Symbol.{Symbol}
 -- objects clash.
 pub record IsSettled (objects : List Sum) (c : Case) (s : PathState) : Type 0 where
   pub solved : is_solved s.rows ≡ true
-  pub adds : AddsEquations c.facts (facts_in (name_in objects) s)
+  pub adds : AddsEquations c.terms c.facts (facts_in (name_in objects) s)
   pub solves : Solves (row_point s.rows) (rows_among (facts_in (name_in objects) s))
   pub flags : AllFlagsHold s.flags (facts_in (name_in objects) s)
   pub apart : NoObjectsClash s

@@ -1,5 +1,6 @@
 // Deciding a case.
 ghost use Rattle.std.specs.Prelude.{◌≡◌, All, IfErr, IfOk, IsTrue, length};
+ghost use Rattle.lq_case.specs.RowState.{terms_of as row_terms};
 ghost use Rattle.lq_combine.specs.Proves.{Proves};
 ghost use Rattle.lq_combine.specs.TreeView.{tree_view};
 ghost use Rattle.lq_decide.specs.Answer.{HasNoPoint, IfHas, IfNoPoint};
@@ -8,7 +9,8 @@ ghost use Rattle.lq_decide.specs.CaseView.{case_of};
 ghost use Rattle.lq_decide.specs.Deciding.{Fits, HoldsCase, IsChainOfEquals, PairsAreDecided};
 ghost use Rattle.lq_equating.specs.Naming.{HasAllArguments, objects_of};
 ghost use Rattle.lq_decide.specs.Settled.{IsSettled};
-ghost use Rattle.lq_decide.specs.Stopping.{IsStopOf, StopsDeciding};
+ghost use Rattle.lq_decide.specs.Small.{IsNoNumber, IsSmallCase};
+ghost use Rattle.lq_decide.specs.Stopping.{HandsItsRows, IsStopOf, StopsDeciding};
 ghost use Rattle.lq_point.specs.Values.{as_point};
 ghost use Rattle.lq_pred.specs.ClosedImplication.{IsPoint};
 ghost use Rattle.lq_pred.specs.Comparison.{CanGather};
@@ -25,6 +27,8 @@ use lq_equating::ObjectTable;
 use lq_linear::LinearStop;
 use lq_point::{Point, PointError};
 use lq_pred::{Stop, rows_say_what_comparisons_say};
+use lq_small::{rows_are_there, small_rows_fit};
+use lq_work::levels_agree;
 use std::alloc::{AllocError, Global};
 
 /// The stop of an engine, as that of a case.
@@ -51,12 +55,16 @@ fn case_point(
     requires pairs { PairsAreDecided (case_of literals.now) }
     requires arguments { HasAllArguments (objects_of objects.now) (case_of literals.now).terms }
     requires settled { IsSettled (objects_of objects.now) (case_of literals.now) state.now }
+    requires handed { HandsItsRows (case_of literals.now) state.now }
+    requires terms { row_terms state.now.rows ≡ length (case_of literals.now).terms }
     requires count { state.now.objects.count ≡ length (objects_of objects.now) }
     ensures point { IfOk result (λ p. IsPoint (case_of literals.now).implication (as_point p)) }
     ensures case { IfOk result (HoldsCase (case_of literals.now)) }
     ensures stop { IfErr result (StopsDeciding limit (case_of literals.now)) }
 {
     rows_say_what_comparisons_say();
+    state.values_are_placed();
+    state.facts_are_few();
     let _terms = literals.table().len();
     let _count = objects.len();
     let Ok(values) = case_values(alloc, literals, objects, state) else {
@@ -70,13 +78,8 @@ fn case_point(
     }
 }
 
-/// Whether a case has a point: with one at which each literal holds, or with a tree that proves the path of the literals. Lengths and
-/// measures of one object are made equal; of products, quotients and remainders the literals have to say in which way each two stand.
-/// A check makes at most `limit` pivots.
-///
-/// It stops only as an engine on the rows of the case may, or where a literal of the implication has no value of 128 bits at the point,
-/// or for want of memory.
-pub fn decide(alloc: Global, literals: &Literals, limit: u64) -> Result<CaseAnswer, Stop>
+/// The same as `decide`, of any sizes.
+fn decide_case(alloc: Global, literals: &Literals, limit: u64) -> Result<CaseAnswer, Stop>
     requires gathers { All CanGather (implication_literals (case_of literals.now).implication) }
     requires fits { Fits (case_of literals.now) }
     requires pairs { PairsAreDecided (case_of literals.now) }
@@ -108,4 +111,32 @@ pub fn decide(alloc: Global, literals: &Literals, limit: u64) -> Result<CaseAnsw
         },
         Err(stop) => Err(stop_of(stop)),
     }
+}
+
+/// Whether a case has a point: with one at which each literal holds, or with a tree that proves the path of the literals. Lengths and
+/// measures of one object are made equal; of products, quotients and remainders the literals have to say in which way each two stand.
+/// A check makes at most `limit` pivots.
+///
+/// It stops only as an engine on the rows of the case may, or where a literal of the implication has no value of 128 bits at the point,
+/// or for want of memory.
+pub fn decide(alloc: Global, literals: &Literals, limit: u64) -> Result<CaseAnswer, Stop>
+    requires gathers { All CanGather (implication_literals (case_of literals.now).implication) }
+    requires fits { Fits (case_of literals.now) }
+    requires pairs { PairsAreDecided (case_of literals.now) }
+    ensures point { IfOk result (λ answer. IfHas answer (λ p. IsPoint (case_of literals.now).implication
+        (as_point p))) }
+    ensures case { IfOk result (λ answer. IfHas answer (HoldsCase (case_of literals.now))) }
+    ensures tree { IfOk result (λ answer. IfNoPoint answer (λ t. Proves (numbering_of (case_of literals.now))
+        (path_of (case_of literals.now)) (tree_view t))) }
+    ensures form { IfOk result (λ answer. IfNoPoint answer (λ t. IsChainOfEquals (tree_view t))) }
+    ensures none { IfOk result (λ answer. IfNoPoint answer (λ _. HasNoPoint (case_of literals.now))) }
+    ensures stop { IfErr result (StopsDeciding limit (case_of literals.now)) }
+    ensures fits { IfErr result (λ stop. IsSmallCase (case_of literals.now) → IsNoNumber stop) }
+{
+    rows_say_what_comparisons_say();
+    small_rows_fit();
+    rows_are_there();
+    levels_agree();
+    let _terms = literals.table().len();
+    decide_case(alloc, literals, limit)
 }

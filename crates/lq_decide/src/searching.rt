@@ -11,7 +11,7 @@ ghost use Rattle.lq_decide.specs.Deciding.{IsChainOfEquals};
 ghost use Rattle.lq_equating.specs.Equating.{around, numbering_by};
 ghost use Rattle.lq_equating.specs.Naming.{AllBelow, HasAllArguments, HasAllSides, name_in, objects_of};
 ghost use Rattle.lq_decide.specs.Settled.{IsSettled};
-ghost use Rattle.lq_decide.specs.Stopping.{StopsOnRows};
+ghost use Rattle.lq_decide.specs.Stopping.{HandsItsRows, StopsOnRows};
 ghost use Rattle.lq_linear.specs.declared.engine.LinearStop.TheVariants.{Memory};
 
 use crate::literals::Literals;
@@ -52,6 +52,8 @@ pub(crate) fn refute(
     ensures form { IfOk result (λ found. IfSome found (λ t. IsChainOfEquals (tree_view t))) }
     ensures settled { IfOk result (λ found. IfNone found (IsSettled (objects_of objects.now)
         (case_of literals.now) state.new)) }
+    ensures handed { IfOk result (λ found. IfNone found (HandsItsRows (case_of literals.now) state.new)) }
+    ensures terms { row_terms state.new.rows ≡ row_terms state.old.rows }
     ensures count { state.new.objects.count ≡ state.old.objects.count }
     ensures stop { IfErr result (StopsOnRows state.old.rows.pivots (case_of literals.now)) }
 {

@@ -10,3 +10,5 @@ pub mod Ending
 pub mod Literals
 pub mod Stopped
 pub mod Near
+pub mod Origin
+pub mod Small

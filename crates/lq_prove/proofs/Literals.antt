@@ -2,6 +2,8 @@
 use Rattle.std.proofs.Common.{◌≡◌, inl, inr, ℕ, zero, suc, ◌+◌, ◌<◌, ◌≤◌, Bool, true, false, List, [], ◌∷◌, ◌++◌, Some, cond, max, slice_get, refl, ap, subst, arith, unsigned_abs}
 use Rattle.std.specs.List.{Contains, filter}
 use Rattle.std.proofs.lemmas.List.Elements.{Contains-append_left, Contains-append_right, Contains-push}
+use Rattle.lq_equating.specs.Equating.{AreOneFunction, applied, equation}
+use Rattle.lq_equating.proofs.Pairing.{equation_among}
 use Rattle.lq_linear.specs.Row.{Row}
 use Rattle.lq_literals.specs.Gathered.{sizes}
 use Rattle.lq_literals.specs.Parts.{is_application}
@@ -9,7 +11,7 @@ use Rattle.lq_name.specs.declared.operation.CompareOp.{CompareOp}
 use Rattle.lq_name.specs.declared.operation.CompareOp.TheVariants as op
 use Rattle.lq_pred.specs.Comparison.{Comparison, IsRowOf, row_constant}
 use Rattle.lq_pred.specs.Formula.{Formula, truth, falsity, flag, compare, objects, negation, conjunction, disjunction, equivalence}
-use Rattle.lq_pred.specs.Literals.{Signs, positive, negative, both, literals_of, comparisons_of, comparisons_in, all_pairs, pair_rows, rows_with}
+use Rattle.lq_pred.specs.Literals.{Signs, positive, negative, both, literals_of, comparisons_of, comparisons_in, all_pairs, equal_row, pair_rows, rows_with}
 use Rattle.lq_pred.specs.Reading.{Reading, Readings, comparison_reading, reading_of, Gathers, AllGather, gathers_yes, gathers_no, gathers_row, gathers_flag, gathers_objects, gathers_all, gathers_any, gather_none, gather_more}
 use Rattle.lq_pred.specs.Sum.{Sum}
 use Rattle.lq_point.proofs.Literal.{Sub}
@@ -168,3 +170,8 @@ pair_among (x ∷ ts) j k s t l e f = by (pair_among ts) (is_application x) j k 
     by rest true (suc j) zero l e f c m = absurd (omega (arith, l))
     by rest true (suc j) (suc k) l e f c m = let w : j < k = omega (arith, l) in Contains-append_right (rows_with x ts) (all_pairs ts) c (rest j k s t w e f c m)
     by rest false j k l e f c m = Contains-append_right (rows_with x ts) (all_pairs ts) c (rest j k s t l e f c m)
+
+-- ---- the rows that two terms are equal which apply one function
+
+pub equation_row : (terms : List Sum) (p : ℕ × ℕ) → AreOneFunction terms p → IsRowIn terms (all_pairs terms) (equation p)
+equation_row terms p one = record { literal = equal_row (applied one.function one.left) (applied one.function one.right); among = equation_among terms p one; is = one.row }

@@ -7,6 +7,7 @@ use Rattle.lq_case.specs.Stored.{StopsInTableau}
 use Rattle.lq_case.proofs.Handing.{may_stop_as}
 use Rattle.lq_combine.specs.Path.{AreReadings, Fact, nothing, taken}
 use Rattle.lq_combine.specs.Proves.{AreRowsOf, five_ways, rows_among}
+use Rattle.lq_equating.specs.Equating.{equation}
 use Rattle.lq_linear.specs.Contradiction.{Tagged}
 use Rattle.lq_linear.specs.Difference.{IsDifference}
 use Rattle.lq_linear.specs.Row.{Row}
@@ -35,9 +36,8 @@ use Rattle.lq_search.specs.declared.pair.Pair.{Pair}
 use Rattle.lq_search.proofs.PairSizes.{condition_of, sizes-append}
 use Rattle.lq_search.proofs.Stops.{choice_has, fact_has}
 use Rattle.lq_prove.specs.Openings.{IsOpeningReading}
-use Rattle.lq_prove.specs.Stopping as stopping
 use Rattle.lq_prove.specs.Stopping.{AreItsFacts, IsDifferenceImplication, IsItsRow, IsPointStop, IsRowIn, IsSmallDifference, IsSpentOn, IsStopOf, StopsOnFacts, StopsProving, StopsSmall}
-use Rattle.lq_prove.proofs.Literals.{gathered_most, gathered_row, pair_among, row_in_more, under_sign}
+use Rattle.lq_prove.proofs.Literals.{equation_row, gathered_most, gathered_row, pair_among, row_in_more, under_sign}
 
 -- ---- the sizes of the opening reading
 
@@ -149,32 +149,32 @@ begins terms i preds reading pairs e h o each ordered = record {
   ordered = ordered;
 }
 
-its_row : (i : ClosedImplication) (preds : List Pred) (reading : Reading Row) (pairs : List Pair) → Begins i preds reading pairs → (r : Row) → MayTake (taken nothing reading) (ways_of pairs) r
+pub its_row : (i : ClosedImplication) (preds : List Pred) (reading : Reading Row) (pairs : List Pair) → Begins i preds reading pairs → (r : Row) → MayTake (terms_in i) (taken nothing reading) (ways_of pairs) r
     → IsItsRow i r
-its_row i preds reading pairs b r m = by (subst (λ p. MayTake p (ways_of pairs) r) (taking.taken_is nothing reading) m)
+its_row i preds reading pairs b r m = by (subst (λ p. MayTake (terms_in i) p (ways_of pairs) r) (taking.taken_is nothing reading) m)
   where
     of_reading : HasRow r reading → IsItsRow i r
-    of_reading h = stopping.of_literal (opening_row i preds reading r b.hypotheses b.opening h)
+    of_reading h = opening_row i preds reading r b.hypotheses b.opening h
 
-    by : MayTake (taking.path_with nothing (taking.facts_of reading) (taking.choices_of reading)) (ways_of pairs) r → IsItsRow i r
+    by : MayTake (terms_in i) (taking.path_with nothing (taking.facts_of reading) (taking.choices_of reading)) (ways_of pairs) r → IsItsRow i r
     by (of_fact k e) = of_reading (fact_has reading k r e)
     by (of_choice k members e h) = of_reading (choice_has reading k members r e h)
     by (of_way k members e h) =
-        stopping.of_literal (row_in_more (terms_in i) (all_pairs (terms_in i)) (implication_literals i) r (pair_literal i) (way_row (terms_in i) pairs k members r b.each b.ordered e h))
-    by (of_equation terms e) = stopping.of_equation terms e
+        row_in_more (terms_in i) (all_pairs (terms_in i)) (implication_literals i) r (pair_literal i) (way_row (terms_in i) pairs k members r b.each b.ordered e h)
+    by (of_equation p one e) =
+        subst (IsItsRow i) (sym e) (row_in_more (terms_in i) (all_pairs (terms_in i)) (implication_literals i) (equation p) (pair_literal i) (equation_row (terms_in i) p one))
 
 pub its_facts : (i : ClosedImplication) (preds : List Pred) (reading : Reading Row) (pairs : List Pair) (n : ℕ) (facts : List Fact) → Begins i preds reading pairs
-    → n ≤ sizes (all_pairs (terms_in i)) → MayReach (taken nothing reading) (ways_of pairs) (n + most row_size reading) facts → AreItsFacts i facts
+    → n ≤ sizes (all_pairs (terms_in i)) → MayReach (terms_in i) (taken nothing reading) (ways_of pairs) (n + most row_size reading) facts → AreItsFacts i facts
 its_facts i preds reading pairs n facts b le h = record {
-  each = All-weaker {X = ℕ × Row} (λ r. MayTake (taken nothing reading) (ways_of pairs) r.1) (λ r. IsItsRow i r.1) (λ r. its_row i preds reading pairs b r.1) (rows_among facts) h.each;
+  each = All-weaker {X = ℕ × Row} (λ r. MayTake (terms_in i) (taken nothing reading) (ways_of pairs) r.1) (λ r. IsItsRow i r.1) (λ r. its_row i preds reading pairs b r.1) (rows_among facts) h.each;
   sizes = let w = h.sizes in let o = opening_most (terms_in i) i reading b.opening in omega (arith, w, o, le);
 }
 
 -- ---- difference implications
 
 its_difference : (i : ClosedImplication) → IsDifferenceImplication i → (r : Row) → IsItsRow i r → IsDifference r.parts
-its_difference i d r (stopping.of_literal l) = d l.literal r l.among l.is
-its_difference i d r (stopping.of_equation terms e) = subst (λ (x : Row). IsDifference x.parts) (sym e) (inl (refl, refl))
+its_difference i d r l = d l.literal r l.among l.is
 
 pub differences : (i : ClosedImplication) → IsDifferenceImplication i → (rows : Tagged) → All (λ (r : ℕ × Row). IsItsRow i r.1) rows → AreDifferences rows
 differences i d [] a = tt
@@ -197,17 +197,18 @@ spent_on limit i facts k l are h is = by h.any
     )
 
 its_stops : (limit : ℕ) (i : ClosedImplication) (preds : List Pred) (reading : Reading Row) (pairs : List Pair) (facts : List Fact) (stop : LinearStop) → Begins i preds reading pairs
-    → HasStops (length (terms_in i)) limit [] (MayTake (taken nothing reading) (ways_of pairs)) facts stop → HasStops (length (terms_in i)) limit [] (IsItsRow i) facts stop
+    → HasStops (length (terms_in i)) limit [] (MayTake (terms_in i) (taken nothing reading) (ways_of pairs)) facts stop → HasStops (length (terms_in i)) limit [] (IsItsRow i) facts stop
 its_stops limit i preds reading pairs facts stop b h =
-    may_stop_as (MayTake (taken nothing reading) (ways_of pairs)) (IsItsRow i) (length (terms_in i)) limit [] (rows_among facts) stop (its_row i preds reading pairs b) h
+    may_stop_as (MayTake (terms_in i) (taken nothing reading) (ways_of pairs)) (IsItsRow i) (length (terms_in i)) limit [] (rows_among facts) stop (its_row i preds reading pairs b) h
 
 stops_of : (limit : ℕ) (i : ClosedImplication) (preds : List Pred) (reading : Reading Row) (pairs : List Pair) (n : ℕ) (linear_stop : LinearStop) (stop : Stop) → CanBeGathered i
     → Begins i preds reading pairs → n ≤ sizes (all_pairs (terms_in i)) → IsStopOf linear_stop stop
-    → StopsSearch (length (terms_in i)) limit [] (taken nothing reading) (ways_of pairs) (n + most row_size reading) linear_stop → StopsProving limit i stop
+    → StopsSearch (terms_in i) (length (terms_in i)) limit [] (taken nothing reading) (ways_of pairs) (n + most row_size reading) linear_stop → StopsProving limit i stop
 stops_of limit i preds reading pairs n (linear.Number e) (Number f) g b le is h = (
   g,
   inl (record {
     facts = h.facts;
+    few = h.few;
     are = its_facts i preds reading pairs n h.facts b le h.reached;
     stops = subst (λ x. HasStops (length (terms_in i)) limit [] (IsItsRow i) h.facts (linear.Number x)) is (its_stops limit i preds reading pairs h.facts (linear.Number e) b h.stops);
   }),
@@ -228,9 +229,9 @@ stops_of limit i preds reading pairs n linear.Memory (Pivots l) g b le is h = ab
 
 pub search_stops : (terms limit : ℕ) (i : ClosedImplication) (preds : List Pred) (reading : Reading Row) (pairs : List Pair) (n : ℕ) (linear_stop : LinearStop) (stop : Stop)
     → terms ≡ length (terms_in i) → CanBeGathered i → Begins i preds reading pairs → n ≤ sizes (all_pairs (terms_in i)) → IsStopOf linear_stop stop
-    → StopsSearch terms limit [] (taken nothing reading) (ways_of pairs) (n + most row_size reading) linear_stop → StopsProving limit i stop
+    → StopsSearch (terms_in i) terms limit [] (taken nothing reading) (ways_of pairs) (n + most row_size reading) linear_stop → StopsProving limit i stop
 search_stops terms limit i preds reading pairs n linear_stop stop same g b le is h =
-    stops_of limit i preds reading pairs n linear_stop stop g b le is (subst (λ k. StopsSearch k limit [] (taken nothing reading) (ways_of pairs) (n + most row_size reading) linear_stop) same h)
+    stops_of limit i preds reading pairs n linear_stop stop g b le is (subst (λ k. StopsSearch (terms_in i) k limit [] (taken nothing reading) (ways_of pairs) (n + most row_size reading) linear_stop) same h)
 
 pub point_stops : (limit : ℕ) (i : ClosedImplication) (stop : Stop) → CanBeGathered i → IsPointStop i stop → StopsProving limit i stop
 point_stops limit i (Number e) g h = (g, inr h)

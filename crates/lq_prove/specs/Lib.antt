@@ -1,4 +1,5 @@
 pub mod Answers
 pub mod Openings
 pub mod Stopping
+pub mod Small
 pub mod Values

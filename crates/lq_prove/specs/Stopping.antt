@@ -1,13 +1,14 @@
 -- When `valid` stops.
-use Rattle.std.specs.Prelude.{◌≡◌, ◌⊎◌, ◌≤◌, ◌<◌, ℕ, List, [], All, Contains, length}
-use Rattle.lq_case.specs.PathState.{HasStops}
+use Rattle.std.specs.Prelude.{◌≡◌, ◌⊎◌, ◌≤◌, ◌<◌, ◌^◌, ℕ, List, [], All, Contains, length}
+use Rattle.lq_case.specs.PathState.{HasHanded, HasStops, PathState}
 use Rattle.lq_combine.specs.Path.{Fact}
 use Rattle.lq_combine.specs.Proves.{rows_among}
 use Rattle.lq_diff.specs.Table.{constants}
-use Rattle.lq_equating.specs.Equating.{equation}
 use Rattle.lq_linear.specs.Contradiction.{Tagged}
 use Rattle.lq_linear.specs.Difference.{IsDifference}
-use Rattle.lq_linear.specs.Row.{Row}
+use Rattle.lq_linear.specs.Near.{IsNear}
+use Rattle.lq_linear.specs.Row.{Row, Valuation}
+use Rattle.lq_linear.specs.Steps.{valuation_of}
 use Rattle.lq_linear.specs.declared.engine.LinearStop.{LinearStop}
 use Rattle.lq_linear.specs.declared.engine.LinearStop.TheVariants as linear
 use Rattle.lq_linear.specs.declared.limits.TheConstants.{SUM_LIMIT}
@@ -27,6 +28,7 @@ use Rattle.lq_pred.specs.declared.pred.Stop.{Stop}
 use Rattle.lq_pred.specs.declared.pred.Stop.TheVariants.{Number, Gather, Pivots, Memory}
 use Rattle.lq_prove.specs.Answers.{IsCounterexample}
 use Rattle.lq_simplex.specs.Table.{IsSpent}
+use Rattle.lq_simplex.specs.Working.{IsPlaced}
 
 -- ---- difference implications
 
@@ -47,19 +49,19 @@ pub record IsRowIn (terms : List Sum) (cs : List Comparison) (r : Row) : Type 0 
   pub among : Contains cs literal
   pub is : IsRowOf terms literal r
 
--- a row of the implication: that of one of its literals, or that two terms are equal, by their numbers
-pub data IsItsRow (i : ClosedImplication) (r : Row) : Type 0 where
-  of_literal : IsRowIn (terms_in i) (implication_literals i) r → IsItsRow i r
-  of_equation : (terms : ℕ × ℕ) → r ≡ equation terms → IsItsRow i r
+-- a row of the implication: that of one of its literals
+abbrev pub IsItsRow : ClosedImplication → Row → Type 0
+IsItsRow i r = IsRowIn (terms_in i) (implication_literals i) r
 
 -- facts with such rows, whose constants' sizes sum to at most those of the implication's literals
 pub record AreItsFacts (i : ClosedImplication) (facts : List Fact) : Type 0 where
   pub each : All (λ r. IsItsRow i r.1) (rows_among facts)
   pub sizes : constants (rows_among facts) ≤ sizes_of i
 
--- a stop of an engine on such facts, with this limit on pivots; a tableau was ever handed rows of the implication alone
+-- a stop of an engine on such facts, fewer than 2^64, with this limit on pivots; a tableau was ever handed rows of the implication alone
 pub record StopsOnFacts (limit : ℕ) (i : ClosedImplication) (stop : LinearStop) : Type 0 where
   pub facts : List Fact
+  pub few : length facts < 2 ^ 64
   pub are : AreItsFacts i facts
   pub stops : HasStops (length (terms_in i)) limit [] (IsItsRow i) facts stop
 
@@ -73,11 +75,31 @@ pub record IsSpentOn (limit : ℕ) (i : ClosedImplication) : Type 0 where
 
 -- ---- stops of an evaluation
 
+-- Where numbers of the terms come from: from a configuration of a tableau that was ever handed rows of the implication alone, or they are
+-- whole numbers, none of them and no difference of two larger in size than the sizes of the constants sum to of fewer than 2^63 facts with
+-- such rows.
+pub data IsOrigin (i : ClosedImplication) (v : Valuation) : Type 0 where
+  placed : (ever : List Row) → All (IsItsRow i) ever → IsPlaced (length (terms_in i)) ever v → IsOrigin i v
+  near : (facts : List Fact) → AreItsFacts i facts → length facts < 2 ^ 63 → IsNear (constants (rows_among facts)) (length (terms_in i)) v → IsOrigin i v
+
+-- numbers of the terms, whatever they are past these
+pub record HasOrigin (i : ClosedImplication) (v : Valuation) : Type 0 where
+  pub values : Valuation
+  pub same : (t : ℕ) → t < length (terms_in i) → v t ≡ values t
+  pub origin : IsOrigin i values
+
+-- rows of the implication are all that the tableau of a state was ever handed
+pub record HandsItsRows (i : ClosedImplication) (s : PathState) : Type 0 where
+  pub ever : List Row
+  pub each : All (IsItsRow i) ever
+  pub handed : HasHanded s ever
+
 -- An operation without a form of 128 bits, by which a literal is evaluated at the numbers of a counterexample. Where each literal is a
 -- difference row, the sizes are large.
 pub record IsPastAtPoint (i : ClosedImplication) (e : NumberPast) : Type 0 where
   pub past : IsPast e
   pub values : PointValues
+  pub origin : HasOrigin i (valuation_of (numbers_of values))
   pub counterexample : IsCounterexample i (point_of_values values)
   pub step : IsStepOf (implication_literals i) (terms_in i) (numbers_of values) e
   pub large : IsDifferenceImplication i → SUM_LIMIT ≤ sizes_of i

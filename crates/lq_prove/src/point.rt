@@ -11,7 +11,7 @@ ghost use Rattle.lq_pred.specs.NnfView.{nnf_view};
 ghost use Rattle.lq_pred.specs.PredView.{implication_of};
 ghost use Rattle.lq_prove.specs.Answers.{IsCounterexample, IsReadable};
 ghost use Rattle.lq_prove.specs.Openings.{IsOpeningReading};
-ghost use Rattle.lq_prove.specs.Stopping.{AreItsFacts, IsPointStop};
+ghost use Rattle.lq_prove.specs.Stopping.{AreItsFacts, HandsItsRows, IsPointStop};
 ghost use Rattle.lq_prove.specs.Values.{AreValuesOf, HasFlagsOf};
 ghost use Rattle.lq_search.specs.Pairs.{AreAllPairs};
 ghost use Rattle.lq_search.specs.Scope.{IsWithin};
@@ -95,6 +95,7 @@ pub(crate) fn point_of(
     requires all { AreAllPairs (scope_of givens.now).terms givens.now.pairs.now }
     requires met { EndsMet (scope_of givens.now) givens.now.pairs.now (taken nothing (nnf_view reading.now)) path.now }
     requires facts { AreItsFacts (implication_of implication.now) (facts_of (scope_of givens.now) path.now) }
+    requires handed { HandsItsRows (implication_of implication.now) path.now.state }
     ensures point { IfOk result (λ p. IsCounterexample (implication_of implication.now) (as_point p)) }
     ensures readable { IfOk result (IsReadable (implication_of implication.now)) }
     ensures stop { IfErr result (IsPointStop (implication_of implication.now)) }
@@ -103,6 +104,8 @@ pub(crate) fn point_of(
     settled_paths_are_met();
     proved_implications_are_valid();
     path.state.values_are_near();
+    path.state.values_are_placed();
+    path.state.facts_are_few();
     let _terms = givens.terms.len();
     let Ok(values) = values_of(alloc, implication, givens, &path.state) else {
         return Err(Stop::Memory);

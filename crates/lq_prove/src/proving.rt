@@ -15,6 +15,7 @@ ghost use Rattle.lq_pred.specs.Table.{all_differ};
 ghost use Rattle.lq_pred.specs.TableView.{terms_of};
 ghost use Rattle.lq_prove.specs.Answers.{IfFails, IfValid, IsCounterexample, IsReadable, ProvesImplication};
 ghost use Rattle.lq_prove.specs.Openings.{IsOpeningReading};
+ghost use Rattle.lq_prove.specs.Small.{IsNoNumber, IsSmallImplication};
 ghost use Rattle.lq_prove.specs.Stopping.{IsSmallDifference, IsStopOf, StopsProving, StopsSmall};
 ghost use Rattle.lq_search.specs.Pairs.{AreAllPairs, AreOrdered};
 ghost use Rattle.lq_search.specs.Scope.{IsWithin};
@@ -32,6 +33,8 @@ use lq_linear::LinearStop;
 use lq_literals::{first_past, flags, objects, sources_have_the_literals};
 use lq_pred::{Closed, Nnf, Stop, TermTable, rows_say_what_comparisons_say};
 use lq_search::{Givens, SearchPath, Searched, all_pairs, search_reading};
+use lq_small::{rows_are_there, small_rows_fit};
+use lq_work::levels_agree;
 use std::alloc::{AllocError, Global};
 
 /// The stop of an engine.
@@ -152,8 +155,13 @@ pub fn prove(
     ensures readable { IfOk result (λ answer. IfFails answer (IsReadable (implication_of implication.now))) }
     ensures stop { IfErr result (StopsProving limit (implication_of implication.now)) }
     ensures small { IfErr result (λ stop. IsSmallDifference (implication_of implication.now) → StopsSmall stop) }
+    ensures fits { IfErr result (λ stop. IsSmallImplication (implication_of implication.now) → IsNoNumber stop) }
 {
     rows_say_what_comparisons_say();
+    small_rows_fit();
+    rows_are_there();
+    levels_agree();
+    let _terms = table.len();
     let Ok(named) = objects(alloc, implication) else {
         return Err(Stop::Memory);
     };
@@ -185,6 +193,7 @@ fn prove_gathered(alloc: Global, implication: &Closed, limit: u64) -> Result<Ans
     ensures readable { IfOk result (λ answer. IfFails answer (IsReadable (implication_of implication.now))) }
     ensures distinct { OnOk result (IsTrue (all_differ (terms_in (implication_of implication.now)))) }
     ensures stop { IfErr result (StopsProving limit (implication_of implication.now)) }
+    ensures fits { IfErr result (λ stop. IsSmallImplication (implication_of implication.now) → IsNoNumber stop) }
 {
     let Ok(table) = implication.terms(alloc) else {
         return Err(Stop::Memory);
@@ -212,6 +221,7 @@ pub fn valid(alloc: Global, implication: &Closed, limit: u64) -> Result<Answer, 
     ensures gathered { OnOk result (CanBeGathered (implication_of implication.now)) }
     ensures stop { IfErr result (StopsProving limit (implication_of implication.now)) }
     ensures small { IfErr result (λ stop. IsSmallDifference (implication_of implication.now) → StopsSmall stop) }
+    ensures fits { IfErr result (λ stop. IsSmallImplication (implication_of implication.now) → IsNoNumber stop) }
 {
     proved_implications_are_valid();
     sources_have_the_literals();

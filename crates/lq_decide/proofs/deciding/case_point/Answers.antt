@@ -1,6 +1,8 @@
 use Rattle.std.proofs.Common.{◌∙◌, All, inr, ap, sym, subst}
 use Rattle.lq_decide.specs.CaseView.{case_of}
-use Rattle.lq_equating.specs.Naming.{objects_of}
+use Rattle.lq_case.specs.PathState.{facts_in}
+use Rattle.lq_equating.specs.Naming.{name_in, objects_of}
+use Rattle.lq_decide.proofs.Origin.{origin_of}
 use Rattle.lq_decide.proofs.Points.{all_terms, are_point, given, holds_case, past_at_point}
 use Rattle.lq_point.specs.Evaluation.{IsStepOf}
 use Rattle.lq_point.specs.Values.{as_point, numbers_of, point_of_values, table_of}
@@ -46,5 +48,9 @@ returns-in-Err-Past-clause-stop c =
     let distinct = ap all_differ (sym c.table.ensures) ∙ c.len-terms.ensures.distinct in
     let g = given objects c.args.literals.now c.args.state.now values c.requires.settled c.in-Ok.ensures c.requires.arguments c.requires.fits c.requires.pairs distinct
     c.rows_say_what_comparisons_say.ensures.point c.rows_say_what_comparisons_say.ensures.row in
-    inr (past_at_point objects case c.args.state.now values c.in-Err-Past.past g (c.in-Err-Past.ensures.past c.in-Err-Past.past c.in-Err-Past.field-0-is)
+    let name = name_in objects in
+    let handed = c.requires.handed in
+    let origin = origin_of case objects c.args.state.now (facts_in name c.args.state.now) values c.requires.terms c.in-Ok.ensures c.requires.settled.adds (c.facts_are_few.ensures name) handed
+    (c.values_are_placed.ensures name handed.ever handed.handed) in
+    inr (past_at_point objects case c.args.state.now values c.in-Err-Past.past g (c.in-Err-Past.ensures.past c.in-Err-Past.past c.in-Err-Past.field-0-is) origin
     (subst (λ i. IsStepOf (implication_literals i) (table_of values) (numbers_of values) c.in-Err-Past.past) c.implication.ensures (c.in-Err-Past.ensures.step c.in-Err-Past.past c.in-Err-Past.field-0-is)))

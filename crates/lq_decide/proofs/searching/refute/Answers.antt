@@ -1,4 +1,5 @@
 use Rattle.std.proofs.Common.{◌≡◌, ◌∙◌, [], length, map, sym, ap, subst}
+use Rattle.std.proofs.lemmas.List.Elements.{All-weaker}
 use Rattle.std.proofs.lemmas.Result.{err_from_is_err_and}
 use Rattle.lq_case.specs.PathState.{facts_in, objects_in}
 use Rattle.lq_case.specs.RowState.{MayStop, terms_of as row_terms}
@@ -11,7 +12,7 @@ use Rattle.lq_combine.specs.declared.tree.ProofTree as ProofTree
 use Rattle.lq_decide.specs.Case.{fact_of, path_of}
 use Rattle.lq_decide.specs.CaseView.{case_of}
 use Rattle.lq_decide.specs.Deciding.{IsChainOfEquals}
-use Rattle.lq_equating.specs.Equating.{AreEquated, numbering_by}
+use Rattle.lq_equating.specs.Equating.{AddsEquations, AreEquated, numbering_by}
 use Rattle.lq_equating.specs.Naming.{AllTold, name_in, objects_of}
 use Rattle.lq_decide.specs.Stopping.{IsItsRow}
 use Rattle.lq_decide.proofs.Ends.{chain_of}
@@ -100,11 +101,11 @@ returns-in_err-clash-2-clause-stop c =
     let pivots = second c.in_ok-joints.ensures.limits ∙ second c.in_ok-clash.ensures.limits in
     let limit = c.args.state.now.rows.pivots in
     let terms = c.in_ok-joints.ensures.limits.0 ∙ c.in_ok-clash.ensures.limits.0 ∙ c.requires.terms in
-    let adds = c.in_ok-joints.ensures.adds name in
+    let adds = subst (λ ts. AddsEquations ts before after) c.table-table.ensures (c.in_ok-joints.ensures.adds name) in
     let handed = c.in_ok-joints.ensures.handed [] (c.in_ok-clash.ensures.handed [] c.requires.handed) in
     let rows = Stands (rows_among after) in
     rw (p.1, p.2) (subst (λ fs. MayStop (length case.terms) limit [] (IsItsRow case) (rows_among fs) stop) stands
-    (adds_may_stop (length case.terms) limit [] (IsItsRow case) before after stop adds
+    (adds_may_stop case.terms (length case.terms) limit [] (IsItsRow case) before after stop adds
     (may_stop_as rows (IsItsRow case) (length case.terms) limit [] (rows_among after) stop (added_row case before after stands adds)
     (subst (λ m. MayStop m limit [] rows (rows_among after) stop) terms
     (subst (λ n. MayStop (row_terms c.equate_all.new.state.rows) n [] rows (rows_among after) stop) pivots (c.in_err-clash-2.ensures.stop name [] handed))))))
@@ -124,5 +125,21 @@ returns-in-None-clause-settled c =
     let equated = subst (λ ts. AreEquated objects ts (objects_in t) (facts_in name t)) c.table-table.ensures (rw c.in_default-found.is at c.in_ok-joints.ensures.equated) in
     let e = c.in_ok-clash-2.ensures in
     let solves = rw c.in-None.is at e.solves in
-    settled objects case s t u stands told (c.in_ok-joints.ensures.adds name) c.in_ok-joints.ensures.objects equated (e.facts name) e.objects solves.0 (solves.1 name) ((rw c.in-None.is at e.flags) name)
+    settled objects case s t u stands told (subst (λ ts. AddsEquations ts (facts_in name s) (facts_in name t)) c.table-table.ensures (c.in_ok-joints.ensures.adds name)) c.in_ok-joints.ensures.objects equated (e.facts name) e.objects solves.0 (solves.1 name) ((rw c.in-None.is at e.flags) name)
     (rw c.in-None.is at e.apart)
+
+pub returns-in-None-clause-handed : goal.returns-in-None-clause-handed
+returns-in-None-clause-handed c =
+    let case = case_of c.args.literals.now in
+    let name = name_in (objects_of c.args.objects.now) in
+    let facts_are = ap (map fact_of) c.as_slice.ensures ∙ c.facts.ensures in
+    let stands = (rw c.in_default.is at c.in_ok-clash.ensures.stands) ∙ facts_are in
+    let before = facts_in name c.take_facts.new.state in
+    let after = facts_in name c.equate_all.new.state in
+    let adds = subst (λ ts. AddsEquations ts before after) c.table-table.ensures (c.in_ok-joints.ensures.adds name) in
+    let more = c.check.ensures.handed name in
+    record {
+      ever = more.more;
+      each = All-weaker (Stands (rows_among after)) (IsItsRow case) (added_row case before after stands adds) more.more more.each;
+      handed = more.handed [] (c.in_ok-joints.ensures.handed [] (c.in_ok-clash.ensures.handed [] c.requires.handed));
+    }

@@ -8,6 +8,7 @@ use Rattle.lq_pred.specs.NnfView.{nnf_view}
 use Rattle.lq_pred.specs.PredView.{implication_of}
 use Rattle.lq_search.specs.SearchPath.{facts_of, scope_of}
 use Rattle.lq_prove.proofs.Near.{past_is_large}
+use Rattle.lq_prove.proofs.Origin.{origin_of}
 use Rattle.lq_prove.proofs.Points.{all_terms, are_point, counterexample, is_at, known, meets_opening, point_at}
 use Rattle.lq_prove.proofs.point.point_of.Goals as goal
 
@@ -70,6 +71,8 @@ returns-in-Err-Past-clause-stop c =
     record {
       past = past;
       values = values;
+      origin = origin_of s i path.state (facts_of s path) values c.requires.terms c.requires.met.settled.ready.terms_are c.in-Ok.ensures c.requires.facts
+          (c.facts_are_few.ensures (name_in s.objects)) c.requires.handed (c.values_are_placed.ensures (name_in s.objects) c.requires.handed.ever c.requires.handed.handed);
       counterexample = record { is_point = are_point s i pairs path values g met.1; hypotheses = readings.0; goal = readings.1 };
       step = step;
       large = past_is_large c.rows_say_what_comparisons_say.ensures.within s i path.state (facts_of s path) values e c.requires.terms c.requires.met.settled.ready.terms_are c.in-Ok.ensures

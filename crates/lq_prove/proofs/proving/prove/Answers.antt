@@ -1,4 +1,4 @@
-use Rattle.std.proofs.Common.{◌≤◌, All, sym, subst}
+use Rattle.std.proofs.Common.{◌≡◌, ◌≤◌, ◌∙◌, All, true, ap, sym, subst}
 use Rattle.lq_equating.specs.Naming.{Keeps, objects_of}
 use Rattle.lq_literals.specs.Gathered.{sizes}
 use Rattle.lq_point.specs.Agreeing.{HasAllArguments}
@@ -9,6 +9,7 @@ use Rattle.lq_pred.specs.Comparison.{CanGather}
 use Rattle.lq_pred.specs.Literals.{all_pairs, implication_literals}
 use Rattle.lq_pred.specs.NnfView.{nnf_view}
 use Rattle.lq_pred.specs.PredView.{implication_of}
+use Rattle.lq_pred.specs.Table.{all_differ}
 use Rattle.lq_pred.specs.TableView.{terms_of}
 use Rattle.lq_search.specs.Pairs.{AreOrdered, IsPair}
 use Rattle.lq_search.specs.Scope.{Scope}
@@ -17,6 +18,7 @@ use Rattle.lq_search.specs.Sizes.{most_of_each}
 use Rattle.lq_prove.proofs.Naming.{implication_names}
 use Rattle.lq_prove.proofs.Opening.{opening_within}
 use Rattle.lq_prove.proofs.Pairs.{pairs_within}
+use Rattle.lq_prove.proofs.Small.{SizesFit, if_fits}
 use Rattle.lq_prove.proofs.Stopped.{if_small}
 use Rattle.lq_prove.proofs.proving.prove.Goals as goal
 
@@ -52,3 +54,20 @@ prove_given-requires-clause-sizes c =
 
 pub returns-clause-small : goal.returns-clause-small
 returns-clause-small c = if_small c.args.limit (implication_of c.args.implication.now) c.prove_given.result c.prove_given.ensures.stop
+
+pub returns-clause-fits : goal.returns-clause-fits
+returns-clause-fits c =
+    let i = implication_of c.args.implication.now in
+    let e = c.small_rows_fit.ensures in
+    let laws : SizesFit = record {
+      work = e.work;
+      placed = e.placed;
+      near = e.near;
+      sums = e.sums;
+      there = c.rows_are_there.ensures.there;
+      sizes = c.rows_are_there.ensures.sizes;
+      agree = c.levels_agree.ensures;
+      within = c.rows_say_what_comparisons_say.ensures.within;
+    } in
+    let distinct : all_differ (terms_in i) ≡ true = ap all_differ (sym c.requires.terms) ∙ c.len-terms.ensures.distinct in
+    if_fits c.args.limit i c.prove_given.result laws distinct c.prove_given.ensures.stop
