@@ -1,9 +1,8 @@
-mod Turning
-mod Terms
-mod Fewer
-mod Whole
+mod First
 mod Counting
 mod Conjuncts
 mod Those
 mod Below
+mod Bare
+mod Deciding
 mod Stopping

@@ -17,14 +17,18 @@ use Rattle.lq_pred.specs.declared.pred.Pred.{Pred}
 use Rattle.lq_pred.specs.declared.pred.Stop.{Stop}
 use Rattle.lq_pred.specs.declared.pred.Stop.TheVariants.{Number, Gather, Pivots, Memory}
 use Rattle.lq_prove.specs.Answers.{IsCounterexample}
+use Rattle.lq_prove.specs.Small.{IsNoNumber, IsSmallImplication}
 use Rattle.lq_prove.specs.Stopping.{IsSmallDifference, StopsProving, StopsSmall}
 use Rattle.lq_questions.specs.Assigned.{closed_under}
 use Rattle.lq_weakening.specs.Judging.{AreRefuted, FailsThere, HoldsThere, IfUnknown, Instances}
 use Rattle.lq_weakening.specs.declared.judge.Failure.{Failure}
-use Rattle.lq_weaken.proofs.Fewer.{some_gather}
+use Rattle.lq_fewer.specs.Fewer.{HasAll}
+use Rattle.lq_fewer.proofs.Fewer.{some_gather}
+use Rattle.lq_fewer.proofs.Whole.{closed_all}
+use Rattle.lq_weaken.proofs.Deciding.{fewer_decidable, number_beyond, pivots_beyond}
 use Rattle.lq_weaken.proofs.Those.{last_or}
-use Rattle.lq_weaken.proofs.Whole.{closed_all}
-use Rattle.lq_weaken.specs.Gathering.{AreGathered, HasAll, IsFirstUngathered, IsGatheredAt, IsPastAt}
+use Rattle.lq_weaken.specs.Deciding.{IsSolvable}
+use Rattle.lq_weaken.specs.Gathering.{AreGathered, IsFirstUngathered, IsGatheredAt, IsPastAt}
 use Rattle.lq_weaken.specs.Stops.{MayStop, StopsAsking, StopsUnder}
 
 -- ---- the implication of a number
@@ -80,8 +84,8 @@ first_found I cs at p w f h =
 -- ---- stops of the prover
 
 pub may_stop : (limit : ℕ) (I : Instances) (c : Selection) (cs : List Constraint) (at : ℕ) (i : ClosedImplication) (stop : Stop) → at < length cs → IsClosedAs (assigned I c) cs at i
-    → StopsProving limit i stop → (IsSmallDifference i → StopsSmall stop) → MayStop limit I cs at stop
-may_stop limit I c cs at i stop w h s d g = by stop s d
+    → StopsProving limit i stop → (IsSmallDifference i → StopsSmall stop) → (IsSmallImplication i → IsNoNumber stop) → MayStop limit I cs at stop
+may_stop limit I c cs at i stop w h s d n g = by stop s d n
   where
     t : IsThere cs at
     t = there cs at w
@@ -89,23 +93,27 @@ may_stop limit I c cs at i stop w h s d g = by stop s d
     is : i ≡ closed_under (assigned I c) t.constraint
     is = closed_as (assigned I c) cs at i t.constraint h t.here
 
-    under : (s : Stop) → StopsProving limit i s → (IsSmallDifference i → ⊥) → StopsUnder limit I cs at s
-    under s p n = record {
+    under : (s : Stop) → StopsProving limit i s → (IsSmallDifference i → ⊥) → (IsSolvable limit i → ⊥) → StopsUnder limit I cs at s
+    under s p n b = record {
       selection = c;
       constraint = t.constraint;
       here = t.here;
       stops = subst (λ x. StopsProving limit x s) is p;
       large = subst (λ x. IsSmallDifference x → ⊥) is n;
+      beyond = λ all. elim (fewer_decidable limit I c t.constraint all) [
+        | inl d ↦ n (subst IsSmallDifference (sym is) d)
+        | inr s ↦ b (subst (IsSolvable limit) (sym is) s)
+      ];
     }
 
     fits : CanBeGathered i
     fits = subst CanBeGathered (sym is) (some_gather I c t.constraint (g at t.constraint t.here))
 
-    by : (s : Stop) → StopsProving limit i s → (IsSmallDifference i → StopsSmall s) → StopsAsking limit I cs at s
-    by (Gather p) f d = first_not (sources_of i) (formula_of p) f ((sources_gathered i).1 fits)
-    by (Number e) f d = under (Number e) f d
-    by (Pivots n) f d = under (Pivots n) f d
-    by Memory f d = tt
+    by : (s : Stop) → StopsProving limit i s → (IsSmallDifference i → StopsSmall s) → (IsSmallImplication i → IsNoNumber s) → StopsAsking limit I cs at s
+    by (Gather p) f d n = first_not (sources_of i) (formula_of p) f ((sources_gathered i).1 fits)
+    by (Number e) f d n = under (Number e) f d (number_beyond limit i e f n)
+    by (Pivots k) f d n = under (Pivots k) f d (pivots_beyond limit i k f)
+    by Memory f d n = tt
 
 -- ---- answers of the prover
 

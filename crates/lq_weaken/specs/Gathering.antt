@@ -1,16 +1,11 @@
 -- Which implications can be gathered with all instances in place, and the first that can't.
-use Rattle.std.specs.Prelude.{◌≡◌, ℕ, ◌<◌, true, List, length, Some, slice_get}
+use Rattle.std.specs.Prelude.{◌≡◌, ℕ, ◌<◌, List, Some, slice_get}
 use Rattle.lq_literals.specs.Gathered.{CanBeGathered, IsFirstPast}
 use Rattle.lq_literals.specs.Sources.{sources_of}
 use Rattle.lq_parts.specs.Constraint.{Constraint}
-use Rattle.lq_parts.specs.Flowing.{Selection, assigned}
 use Rattle.lq_pred.specs.Formula.{Formula}
 use Rattle.lq_questions.specs.Assigned.{closed_under}
 use Rattle.lq_weakening.specs.Judging.{Instances}
-
--- each instance is chosen
-abbrev pub HasAll : Instances → Selection → Type 0
-HasAll I c = (u k : ℕ) → k < length (I u) → c u k ≡ true
 
 -- the implication of this number can be gathered
 abbrev pub IsGatheredAt : Instances → List Constraint → ℕ → Type 0
@@ -29,10 +24,6 @@ pub record IsFirstUngathered (I : Instances) (cs : List Constraint) (at : ℕ) (
   pub here : slice_get cs at ≡ Some constraint
   pub past : IsFirstPast (sources_of (closed_under I constraint)) p
   pub before : (i : ℕ) → i < at → IsGatheredAt I cs i
-
--- what can be gathered with all instances in place can be gathered with some of them
-abbrev pub SomeGather : Type 0
-SomeGather = (I : Instances) (c : Selection) (k : Constraint) → CanBeGathered (closed_under I k) → CanBeGathered (closed_under (assigned I c) k)
 
 -- where one is the first that can't be gathered, not all can
 abbrev pub FirstIsNot : Type 0

@@ -10,16 +10,18 @@ use Rattle.lq_questions.specs.Assigned.{closed_under}
 use Rattle.lq_weakening.specs.Judging.{Instances}
 use Rattle.lq_weakening.specs.declared.error.SolveError.{SolveError}
 use Rattle.lq_weakening.specs.declared.error.SolveError.TheVariants as error
+use Rattle.lq_weaken.specs.Deciding.{IsDecidable}
 use Rattle.lq_weaken.specs.Gathering.{AreGathered, IsFirstUngathered}
 
 -- The prover, with this limit on pivots, may stop so on the implication of this number under some of its instances. Under these it isn't one
--- of differences whose sizes are small.
+-- of differences whose sizes are small, nor is it decidable with all instances in place.
 pub record StopsUnder (limit : ℕ) (I : Instances) (cs : List Constraint) (at : ℕ) (stop : Stop) : Type 0 where
   pub selection : Selection
   pub constraint : Constraint
   pub here : slice_get cs at ≡ Some constraint
   pub stops : StopsProving limit (closed_under (assigned I selection) constraint) stop
   pub large : IsSmallDifference (closed_under (assigned I selection) constraint) → ⊥
+  pub beyond : IsDecidable limit (closed_under I constraint) → ⊥
 
 -- with what a question about an implication stops, where all can be gathered
 abbrev pub StopsAsking : ℕ → Instances → List Constraint → ℕ → Stop → Type 0

@@ -3,7 +3,8 @@ ghost use Rattle.std.specs.Prelude.{◌≡◌, ◌<◌, length, slice_get, IfOk,
 ghost use Rattle.lq_pred.specs.PredView.{formula_of, implication_of};
 ghost use Rattle.lq_questions.specs.Assigned.{closed_under, constraints_of, instances_in};
 ghost use Rattle.lq_weakening.specs.Chosen.{chosen_in};
-ghost use Rattle.lq_weaken.specs.Gathering.{AreGathered, HasAll, IsFirstUngathered, IsGatheredAt, IsPastAt};
+ghost use Rattle.lq_fewer.specs.Fewer.{HasAll};
+ghost use Rattle.lq_weaken.specs.Gathering.{AreGathered, IsFirstUngathered, IsGatheredAt, IsPastAt};
 
 use crate::counts::instance_counts;
 use lq_fitting::all_fit;

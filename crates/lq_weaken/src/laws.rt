@@ -1,5 +1,6 @@
 // What can be gathered with fewer instances.
-ghost use Rattle.lq_weaken.specs.Gathering.{FirstIsNot, SomeGather};
+ghost use Rattle.lq_fewer.specs.Fewer.{SomeGather};
+ghost use Rattle.lq_weaken.specs.Gathering.{FirstIsNot};
 
 /// What can be gathered with all instances in place can be gathered with some of them, though its terms may come in another order. Where
 /// one implication is the first that can't be gathered, not all can.

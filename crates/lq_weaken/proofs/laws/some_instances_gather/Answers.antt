@@ -1,4 +1,5 @@
-use Rattle.lq_weaken.proofs.Fewer.{first_is_not, some_gather}
+use Rattle.lq_fewer.proofs.Fewer.{some_gather}
+use Rattle.lq_weaken.proofs.First.{first_is_not}
 use Rattle.lq_weaken.proofs.laws.some_instances_gather.Goals as goal
 
 pub returns-clause-fewer : goal.returns-clause-fewer

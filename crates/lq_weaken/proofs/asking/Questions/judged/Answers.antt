@@ -25,7 +25,7 @@ failure-requires-clause-readable c =
 pub returns-clause-stop : goal.returns-clause-stop
 returns-clause-stop c =
     may_stop c.args.self.now.limit (instances_in c.args.self.now.instances.now) (chosen_in c.args.chosen.now) (constraints_of c.args.self.now.implications.now) c.args.at (implication_of c.in-Ok.closed) c.in-Err.stop c.requires
-    c.in-Ok.ensures c.in-Err.ensures.stop c.in-Err.ensures.small
+    c.in-Ok.ensures c.in-Err.ensures.stop c.in-Err.ensures.small c.in-Err.ensures.fits
 
 pub returns-then-follows_nearby-clause-holds : goal.returns-then-follows_nearby-clause-holds
 returns-then-follows_nearby-clause-holds c = c.follows_nearby.ensures c.if-follows_nearby.true
