@@ -9,7 +9,7 @@ use Rattle.lq_included.specs.Symbols.{Symbols, with_symbol, SumOn}
 use Rattle.lq_in_scope.specs.InScope.{with_names}
 use Rattle.lq_in_scope.specs.Laws.{TypesAreOver}
 use Rattle.lq_in_scope.specs.Over as over
-use Rattle.lq_in_scope.specs.Over.{AreSorted, AreWithin, IsWithin, Names, of_any_sort, with_sort}
+use Rattle.lq_in_scope.specs.Over.{AreSorted, IsWithin, Names, of_any_sort, with_sort}
 use Rattle.lq_in_scope.proofs.Assigned.{each_within, or_cases, parts_over, sorted_within, sum_within, wider}
 use Rattle.lq_in_scope.proofs.Symbols.{own_one, within_one}
 use Rattle.lq_inhabits.specs.Truth.{Objects, Scene}
@@ -32,7 +32,7 @@ use Rattle.lq_runs.proofs.Closing.{with_within}
 use Rattle.lq_subtype.specs.Splitting.{first_of, rest_of}
 use Rattle.lq_templates.specs.Scopes.{Unknown}
 use Rattle.lq_tuples.specs.Tuples.{AreComponentsOver}
-use Rattle.lq_scalar.specs.Scalar.{HaveTwins}
+use Rattle.lq_scalar.specs.Scalar.{Arities, HaveTwins}
 use Rattle.lq_scalar.specs.Written.{AreScalar, IsScalar}
 use Rattle.lq_scalar.proofs.Contexts as contexts
 use Rattle.lq_scalar.proofs.Contexts.{good_bind, inside_wide, type_over, wide}
@@ -42,7 +42,7 @@ use Rattle.lq_scalar.proofs.Types.{AreNamed, IsNamed, apart_nameless}
 -- ---- names
 
 -- new names are so beside other entries
-new_names : (xs : List ℕ) (Γ Λ : Context) → ((y : ℕ) → IsNewName y Γ → IsNewName y Λ) → AreNewNames xs Γ → AreNewNames xs Λ
+pub new_names : (xs : List ℕ) (Γ Λ : Context) → ((y : ℕ) → IsNewName y Γ → IsNewName y Λ) → AreNewNames xs Γ → AreNewNames xs Λ
 new_names [] Γ Λ f n = tt
 new_names (x ∷ xs) Γ Λ f n =
     (f x n.0, new_names xs (bind x unit_type Γ) (bind x unit_type Λ) (λ y h. (h.0, f y h.1)) n.1)
@@ -171,13 +171,13 @@ flag_symbol other F x y h = within_one F x y h
 -- ---- components
 
 module _ (P : Basis) (unknowns : ℕ → Unknown) (keep : KeepNames P.setting.constructors unknowns P.setting.scopes) (m : ℕ → Kind)
-    (laws : TypesAreOver) (A : Assignment) (O : Objects)
+    (U : Arities) (laws : TypesAreOver) (A : Assignment) (O : Objects)
     (sorted : AreSorted unknowns A) where
   abbrev Good : Context → Type 0
-  Good = contexts.IsGood P unknowns keep m
+  Good = contexts.IsGood P unknowns keep m U
 
   abbrev Known : Symbols → Refined → Type 0
-  Known = contexts.IsKnown P unknowns keep m
+  Known = contexts.IsKnown P unknowns keep m U
 
   abbrev S : Scene
   S = scene_of P A O
@@ -185,11 +185,11 @@ module _ (P : Basis) (unknowns : ℕ → Unknown) (keep : KeepNames P.setting.co
   -- components of scalar types behind the first j: inside over the first symbols, their tops over the second names
   abbrev AreFine : Symbols → Names → ℕ → Refineds → Type 0
   AreFine own M j ts =
-      AreScalar ts × AllNamesApart own ts × AreNamed m ts × over.ComponentsOver P.setting.constructors unknowns (of_any_sort own) M j ts
+      AreScalar U ts × AllNamesApart own ts × AreNamed U m ts × over.ComponentsOver P.setting.constructors unknowns (of_any_sort own) M j ts
 
   abbrev IsFineFirst : Symbols → Names → Refined → Type 0
   IsFineFirst own M t =
-      IsScalar t × NamesApart own t × IsNamed m t × over.InsideOver P.setting.constructors unknowns (of_any_sort own) t × over.TopOver unknowns M t
+      IsScalar U t × NamesApart own t × IsNamed U m t × over.InsideOver P.setting.constructors unknowns (of_any_sort own) t × over.TopOver unknowns M t
 
   first_fine : (own : Symbols) (M : Names) (j : ℕ) (ts : Refineds) → AreFine own M j ts → IsFineFirst own M (first_of ts)
   first_fine own M j none h = (tt, tt, tt, tt, tt)
@@ -214,9 +214,12 @@ module _ (P : Basis) (unknowns : ℕ → Unknown) (keep : KeepNames P.setting.co
       record { scalar = h.0; own = own; within = w; over = (h.3, tt); apart = h.1; named = h.2 }
   component_known N own w M θ p (array_with e q) h =
       let o = keep.putting (of_any_sort N) M θ p (array_with unit_type q) ((tt, tt), h.4) in
-      let i = inside_wide P unknowns keep m (of_any_sort own) (of_any_sort N) (record { terms = w; flags = w }) (array_with e q) h.3 in
-      record { scalar = h.0; own = N; within = λ y k. k; over = (i, o.1); apart = apart_nameless N e h.0.0 h.0.1; named = tt }
-  component_known N own w M θ p (data_with d ts n q) h = absurd h.0
+      let i = inside_wide P unknowns keep m U (of_any_sort own) (of_any_sort N) (record { terms = w; flags = w }) (array_with e q) h.3 in
+      record { scalar = h.0; own = N; within = λ y k. k; over = (i, o.1); apart = apart_nameless U N e h.0.0 h.0.1; named = tt }
+  component_known N own w M θ p (data_with d ts n q) h =
+      let o = keep.putting (of_any_sort N) M θ p (array_with unit_type q) ((tt, tt), h.4) in
+      let i = inside_wide P unknowns keep m U (of_any_sort own) (of_any_sort N) (record { terms = w; flags = w }) (data_with d ts n q) h.3 in
+      record { scalar = h.0; own = N; within = λ y k. k; over = (i, o.1); apart = apart_nameless U N (data_with d ts n q) h.0 h.0.2; named = tt }
   component_known N own w M θ p (map_with e q) h = absurd h.0
   component_known N own w M θ p (type_variable i) h = absurd h.0
 
@@ -227,9 +230,9 @@ module _ (P : Basis) (unknowns : ℕ → Unknown) (keep : KeepNames P.setting.co
   pub known_opened : (Γ : Context) → Good Γ → (x : ℕ) (t : Refined) → IsNewName x Γ → x < 2 ^ 31 → m x ≡ kind t → Known (names_in Γ) t
       → IsOpened Γ (bind x t Γ)
   known_opened Γ good x t new low is k = (
-    good_bind P unknowns keep m Γ good x t low is k,
+    good_bind P unknowns keep m U Γ good x t low is k,
     (λ c.
-        (refl, new, type_over P unknowns keep m laws A O sorted (names_in Γ) t (wide P unknowns keep m k.own (names_in Γ) k.within t k.over), c)),
+        (refl, new, type_over P unknowns keep m U laws A O sorted (names_in Γ) t (wide P unknowns keep m U k.own (names_in Γ) k.within t k.over), c)),
   )
 
   components_opened : (xs : List ℕ) (ts : Refineds) (θ : Subst) (j : ℕ) (Γ : Context) (own : Symbols) (M : Names) → Good Γ

@@ -31,7 +31,7 @@ use Rattle.lq_renamed.specs.Names.{IsNoVariable, NamesApart, with_twins}
 use Rattle.lq_runs.specs.Closed.{names_in, IsTypeOver, SortedOn}
 use Rattle.lq_runs.proofs.Closing.{new_name, or_left, or_parts, or_right, within_with}
 use Rattle.lq_templates.specs.Scopes.{Unknown}
-use Rattle.lq_scalar.specs.Scalar.{HaveTwins}
+use Rattle.lq_scalar.specs.Scalar.{Arities, HaveTwins}
 use Rattle.lq_scalar.specs.Written.{IsScalar, IsNameless, IsNamedBy, IsFunctionFor, IsBlockFor, IsOperationFor}
 use Rattle.lq_scalar.proofs.NameKinds.{Agree, block_kinds, operation_kinds}
 use Rattle.lq_scalar.proofs.Twins.{AreSmall, big_small, clash, false_unless, twin_big, twin_one}
@@ -106,28 +106,28 @@ new_apart Q Γ y near small new low =
     second (inr k) =
         not_there Γ y new (subst (λ z. names_in Γ (symbol_of z) ≡ true) (sym (twin_one y k.0 low (small k.0 k.1) k.2)) k.1)
 
-module _ (P : Basis) (m : ℕ → Kind) where
+module _ (P : Basis) (m : ℕ → Kind) (U : Arities) where
   -- a result with its own parameter for the name of its argument
   pub own_body : (y : ℕ) (x : Option ℕ) → IsNamedBy y x → (k : Kind) (r : Refined) → renamed P.setting.scopes x (Some y) k r ≡ r
   own_body y None h k r = refl
   own_body y (Some x) h k r = ap (λ b. cond b r (applied P.setting.scopes (Some x) (atom_of k (symbol_of y)) r)) (eq-eqb x y h)
 
   abbrev IsFar : Symbols → Refined → Type 0
-  IsFar Q t = NamesApart Q t × IsNamed m t
+  IsFar Q t = NamesApart Q t × IsNamed U m t
 
-  nameless_far : (Q : Symbols) (t : Refined) → IsNameless t → IsFar Q t
-  nameless_far Q t h = (apart_nameless Q t h.0 h.1, named_nameless m t h.1)
+  nameless_far : (Q : Symbols) (t : Refined) → IsNameless U t → IsFar Q t
+  nameless_far Q t h = (apart_nameless U Q t h.0 h.1, named_nameless U m t h.1)
 
   abbrev BlockFar : Block → Type 0
   BlockFar b =
       (Γ : Context) (t : Refined) (Q : Symbols) → IsNear Q Γ → AreSmall (names_in Γ) → IsReadyBlock P Γ b t → HaveTwins (block_binders b)
-      → Agree m (block_kinds P Γ b t) → IsBlockFor b t → IsFar Q t
+      → Agree m (block_kinds P Γ b t) → IsBlockFor U b t → IsFar Q t
 
   abbrev FunctionFar : ℕ → Block → Type 0
   FunctionFar y b =
       (Γ : Context) (t : Refined) (Q : Symbols) → IsNear Q Γ → AreSmall (names_in Γ) → IsNewName y Γ
       → IsReadyBlock P (body_context Γ y t) b (body_type P.setting.scopes y t) → HaveTwins (y ∷ block_binders b)
-      → Agree m ((y, kind (argument_of t)) ∷ block_kinds P (body_context Γ y t) b (body_type P.setting.scopes y t)) → IsFunctionFor y b t → IsFar Q t
+      → Agree m ((y, kind (argument_of t)) ∷ block_kinds P (body_context Γ y t) b (body_type P.setting.scopes y t)) → IsFunctionFor U y b t → IsFar Q t
 
   function_by : (y : ℕ) (b : Block) → BlockFar b → FunctionFar y b
   function_by y b body Γ (function x a r) Q near small new ready twins kinds w =
@@ -140,10 +140,10 @@ module _ (P : Basis) (m : ℕ → Kind) where
       at_name rest =
           let free = new_apart Q Γ y near small new twins.0 in
           let there = rest (with_twins Q y) (near_twins Q Γ y a near) in
-          ((free.0, free.1, no_variable a w.1.0, apart_nameless Q a w.1.0 w.1.1, there.0), ((λ l. kinds.0), there.1))
+          ((free.0, free.1, no_variable U a w.1.0, apart_nameless U Q a w.1.0 w.1.1, there.0), ((λ l. kinds.0), there.1))
 
       by : (x : Option ℕ) → IsNamedBy y x → ((R : Symbols) → IsNear R (bind y a Γ) → IsFar R r) → IsFar Q (function x a r)
-      by None h rest = let there = rest Q (near_bind Q Γ y a near) in ((apart_nameless Q a w.1.0 w.1.1, there.0), there.1)
+      by None h rest = let there = rest Q (near_bind Q Γ y a near) in ((apart_nameless U Q a w.1.0 w.1.1, there.0), there.1)
       by (Some x) h rest = subst (λ z. IsFar Q (function (Some z) a r)) (sym h) (at_name rest)
   function_by y b body Γ (int_with p) Q near small new ready twins kinds w = nameless_far Q (int_with p) w
   function_by y b body Γ (bool_with p) Q near small new ready twins kinds w = nameless_far Q (bool_with p) w
@@ -161,7 +161,7 @@ module _ (P : Basis) (m : ℕ → Kind) where
     block_far (recursive g p y b c) Γ t Q near small ready twins kinds w = nameless_far Q t w
 
     operation_far : (o : Operation) (Γ : Context) (t : Refined) (Q : Symbols) → IsNear Q Γ → AreSmall (names_in Γ) → IsReadyOperation P Γ o t
-        → HaveTwins (operation_binders o) → Agree m (operation_kinds P Γ o t) → IsOperationFor o t → IsFar Q t
+        → HaveTwins (operation_binders o) → Agree m (operation_kinds P Γ o t) → IsOperationFor U o t → IsFar Q t
     operation_far (fun p y b) Γ t Q near small ready twins kinds w =
         function_by y b (λ Δ s R n z q u k v. block_far b Δ s R n z q u k v) Γ t Q near small ready.0 ready.1 twins kinds w
     operation_far (pure e) Γ t Q near small ready twins kinds w = nameless_far Q t w
@@ -188,7 +188,8 @@ module _ (P : Basis) (m : ℕ → Kind) where
 
 -- ---- types and environments
 
-module _ (P : Basis) (unknowns : ℕ → Unknown) (keep : KeepNames P.setting.constructors unknowns P.setting.scopes) (m : ℕ → Kind) where
+module _ (P : Basis) (unknowns : ℕ → Unknown) (keep : KeepNames P.setting.constructors unknowns P.setting.scopes) (m : ℕ → Kind)
+    (U : Arities) where
   abbrev pub Over : Symbols → Refined → Type 0
   Over N t = TypeOver P.setting.constructors unknowns (of_any_sort N) t
 
@@ -210,19 +211,19 @@ module _ (P : Basis) (unknowns : ℕ → Unknown) (keep : KeepNames P.setting.co
 
   -- scalar, over these names, and its names of arguments apart from them
   pub record IsFine (N : Symbols) (t : Refined) : Type 0 where
-    pub scalar : IsScalar t
+    pub scalar : IsScalar U t
     pub over : Over N t
     pub apart : NamesApart N t
-    pub named : IsNamed m t
+    pub named : IsNamed U m t
 
   -- the same with names of its own, which are among these
   pub record IsKnown (N : Symbols) (t : Refined) : Type 0 where
-    pub scalar : IsScalar t
+    pub scalar : IsScalar U t
     pub own : Symbols
     pub within : IsWithin own N
     pub over : Over own t
     pub apart : NamesApart own t
-    pub named : IsNamed m t
+    pub named : IsNamed U m t
 
   pub fine_known : (N : Symbols) (t : Refined) → IsFine N t → IsKnown N t
   fine_known N t k = record { scalar = k.scalar; own = N; within = λ y h. h; over = k.over; apart = k.apart; named = k.named }
@@ -233,7 +234,7 @@ module _ (P : Basis) (unknowns : ℕ → Unknown) (keep : KeepNames P.setting.co
 
   -- each name is small and has its kind, and its type is known
   pub record IsGood (Γ : Context) : Type 0 where
-    pub kinds : HasKinds m Γ
+    pub kinds : HasKinds U m Γ
     pub clean : HasNoPositions (names_in Γ)
     pub types : (z : ℕ) → names_in Γ (symbol_of z) ≡ true → IsKnown (names_in Γ) (type_in Γ (symbol_of z))
 
@@ -255,7 +256,7 @@ module _ (P : Basis) (unknowns : ℕ → Unknown) (keep : KeepNames P.setting.co
       kinds_at : (z : ℕ) (b : Bool) → (x == z) ≡ b → (names_in Γ (symbol_of z) || b) ≡ true
           → let s = cond b t (type_in Γ (symbol_of z)) in (z < 2 ^ 31) × (kind s ≡ m z) × IsNoVariable s
       kinds_at z true e h =
-          subst (λ y. (y < 2 ^ 31) × (kind t ≡ m y) × IsNoVariable t) (eqb-true x z e) (low, sym is, no_variable t known.scalar)
+          subst (λ y. (y < 2 ^ 31) × (kind t ≡ m y) × IsNoVariable t) (eqb-true x z e) (low, sym is, no_variable U t known.scalar)
       kinds_at z false e h = good.kinds z (or_first (names_in Γ (symbol_of z)) h)
 
       types_at : (z : ℕ) (b : Bool) → (names_in Γ (symbol_of z) || b) ≡ true
@@ -289,28 +290,35 @@ module _ (P : Basis) (unknowns : ℕ → Unknown) (keep : KeepNames P.setting.co
   variable_fine Γ good x h (function z a b) k =
       let t = function z a b in
       record {
-        scalar = scalar_twin P.setting.scopes t k.scalar;
+        scalar = scalar_twin U P.setting.scopes t k.scalar;
         over = keep.twinning (of_any_sort (names_in Γ)) t (wide k.own (names_in Γ) k.within t k.over);
-        apart = apart_twin P.setting.scopes k.own (names_in Γ) (λ y l e. absurd (big_small y y (small_names Γ good y e) l refl)) t k.scalar k.apart;
-        named = named_twin P.setting.scopes m t;
+        apart = apart_twin U P.setting.scopes k.own (names_in Γ) (λ y l e. absurd (big_small y y (small_names Γ good y e) l refl)) t k.scalar k.apart;
+        named = named_twin U P.setting.scopes m t;
       }
   variable_fine Γ good x h (tuple_of ts) k =
       let t = tuple_of ts in
       record {
-        scalar = scalar_twin P.setting.scopes t k.scalar;
+        scalar = scalar_twin U P.setting.scopes t k.scalar;
         over = keep.twinning (of_any_sort (names_in Γ)) t (wide k.own (names_in Γ) k.within t k.over);
-        apart = apart_twin P.setting.scopes k.own (names_in Γ) (λ y l e. absurd (big_small y y (small_names Γ good y e) l refl)) t k.scalar k.apart;
-        named = named_twin P.setting.scopes m t;
+        apart = apart_twin U P.setting.scopes k.own (names_in Γ) (λ y l e. absurd (big_small y y (small_names Γ good y e) l refl)) t k.scalar k.apart;
+        named = named_twin U P.setting.scopes m t;
       }
   variable_fine Γ good x h (array_with e p) k =
       record {
         scalar = k.scalar;
         over = keep.naming (of_any_sort (names_in Γ)) (atom_of object (symbol_of x)) h (array_with e p)
             (wide k.own (names_in Γ) k.within (array_with e p) k.over);
-        apart = apart_nameless (names_in Γ) e k.scalar.0 k.scalar.1;
+        apart = apart_nameless U (names_in Γ) e k.scalar.0 k.scalar.1;
         named = tt;
       }
-  variable_fine Γ good x h (data_with d ts n p) k = absurd k.scalar
+  variable_fine Γ good x h (data_with d ts n p) k =
+      record {
+        scalar = k.scalar;
+        over = keep.naming (of_any_sort (names_in Γ)) (atom_of object (symbol_of x)) h (data_with d ts n p)
+            (wide k.own (names_in Γ) k.within (data_with d ts n p) k.over);
+        apart = apart_nameless U (names_in Γ) (data_with d ts n p) k.scalar k.scalar.2;
+        named = tt;
+      }
   variable_fine Γ good x h (map_with e p) k = absurd k.scalar
   variable_fine Γ good x h (type_variable i) k = absurd k.scalar
 
@@ -370,8 +378,8 @@ module _ (P : Basis) (unknowns : ℕ → Unknown) (keep : KeepNames P.setting.co
           over = k.own;
           on = (type_over k.own t k.over).0;
           apart = k.apart;
-          kinds = kinds_agree m Γ good.kinds t k.scalar k.named;
-          outside = outside (names_in Γ) (small_names Γ good) t k.scalar;
+          kinds = kinds_agree U m Γ good.kinds t k.scalar k.named;
+          outside = outside U (names_in Γ) (small_names Γ good) t k.scalar;
         }
     known_usable Γ good (tuple_of ts) k =
         let t = tuple_of ts in
@@ -379,8 +387,8 @@ module _ (P : Basis) (unknowns : ℕ → Unknown) (keep : KeepNames P.setting.co
           over = k.own;
           on = (type_over k.own t k.over).0;
           apart = k.apart;
-          kinds = kinds_agree m Γ good.kinds t k.scalar k.named;
-          outside = outside (names_in Γ) (small_names Γ good) t k.scalar;
+          kinds = kinds_agree U m Γ good.kinds t k.scalar k.named;
+          outside = outside U (names_in Γ) (small_names Γ good) t k.scalar;
         }
     known_usable Γ good (array_with e p) k = tt
     known_usable Γ good (data_with d ts n p) k = tt

@@ -51,7 +51,7 @@ example_scalar = (
                     tt,
                     (
                       ((tt, (tt, tt)), ((tt, refl), ((tt, tt), tt))),
-                      (tt, (((tt, (tt, tt)), refl), tt, (tt, (tt, (tt, ((tt, refl), (tt, refl)))), tt))),
+                      (tt, (((tt, (tt, tt)), refl), tt, ((tt, (tt, ((tt, refl), (tt, refl)))), tt))),
                     ),
                   ),
                 ),

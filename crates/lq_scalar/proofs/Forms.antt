@@ -13,8 +13,8 @@ use Rattle.lq_refined.specs.Refined.{Refined, int_with, bool_with, unit_type, fu
 use Rattle.lq_safe.specs.Programs.{ArmsUseOnly, BlockUsesOnly, PuresOver, UsesOnly, with_names}
 use Rattle.lq_safe.specs.Scoped.{AreCoveredArms, IsCovered, IsCoveredBlock}
 use Rattle.lq_templates.specs.Scopes.{Unknown}
-use Rattle.lq_scalar.specs.Scalar.{HaveTwins}
-use Rattle.lq_scalar.specs.Written.{ArmsHaveForms, BlockHasForms, HasForms, HasPlainUses, HavePlainUses, IsBlockFor, IsBlockWritten, IsFunctionFor, IsNameless, IsOperationFor, IsOperationWritten, IsScalar}
+use Rattle.lq_scalar.specs.Scalar.{Arities, HaveTwins}
+use Rattle.lq_scalar.specs.Written.{AreArmsWritten, ArmsHaveForms, BlockHasForms, HasForms, HasPlainUses, HavePlainUses, IsBlockFor, IsBlockWritten, IsFunctionFor, IsNameless, IsOperationFor, IsOperationWritten, IsScalar}
 
 -- ---- twins of binders
 
@@ -26,95 +26,98 @@ pub twins_back : (xs ys : List ℕ) → HaveTwins (xs ++ ys) → HaveTwins ys
 twins_back [] ys h = h
 twins_back (x ∷ xs) ys h = twins_back xs ys h.1
 
--- ---- types for what is written
+module _ (U : Arities) where
+  -- ---- types for what is written
 
-mutual
-  pub nameless_block : (b : Block) (t : Refined) → IsNameless t → IsBlockFor b t
-  nameless_block (last l o) t h = nameless_operation o t h
-  nameless_block (binding x l o b) t h = h
-  nameless_block (recursive g p y b c) t h = h
+  mutual
+    pub nameless_block : (b : Block) (t : Refined) → IsNameless U t → IsBlockFor U b t
+    nameless_block (last l o) t h = nameless_operation o t h
+    nameless_block (binding x l o b) t h = h
+    nameless_block (recursive g p y b c) t h = h
 
-  nameless_operation : (o : Operation) (t : Refined) → IsNameless t → IsOperationFor o t
-  nameless_operation (fun p y b) (function None a r) h = (tt, (h.0.0, h.0.1), nameless_block b r (h.0.2, h.1.1))
-  nameless_operation (fun p y b) (function (Some x) a r) h = absurd h.1
-  nameless_operation (fun p y b) (int_with q) h = h
-  nameless_operation (fun p y b) (bool_with q) h = h
-  nameless_operation (fun p y b) unit_type h = h
-  nameless_operation (fun p y b) (tuple_of ts) h = h
-  nameless_operation (fun p y b) (array_with e q) h = h
-  nameless_operation (fun p y b) (data_with d ts m q) h = h
-  nameless_operation (fun p y b) (map_with e q) h = h
-  nameless_operation (fun p y b) (type_variable i) h = h
-  nameless_operation (pure e) t h = h
-  nameless_operation (if_else p c a b) t h = h
-  nameless_operation (match_on p u arms) t h = h
-  nameless_operation (call g a) t h = h
-  nameless_operation (tuple es) t h = h
-  nameless_operation (build p c es) t h = h
-  nameless_operation (make p n e) t h = h
-  nameless_operation (fetch u i) t h = h
-  nameless_operation (store u i e) t h = h
-  nameless_operation (divide x y) t h = h
-  nameless_operation (remainder x y) t h = h
-  nameless_operation (assert e) t h = h
-  nameless_operation (assert_false p) t h = h
-  nameless_operation (read e) t h = h
-  nameless_operation (print e) t h = h
-  nameless_operation (map_empty p) t h = h
-  nameless_operation (map_add p k e m) t h = h
-  nameless_operation (map_find k m) t h = h
+    nameless_operation : (o : Operation) (t : Refined) → IsNameless U t → IsOperationFor U o t
+    nameless_operation (fun p y b) (function None a r) h = (tt, (h.0.0, h.0.1), nameless_block b r (h.0.2, h.1.1))
+    nameless_operation (fun p y b) (function (Some x) a r) h = absurd h.1
+    nameless_operation (fun p y b) (int_with q) h = h
+    nameless_operation (fun p y b) (bool_with q) h = h
+    nameless_operation (fun p y b) unit_type h = h
+    nameless_operation (fun p y b) (tuple_of ts) h = h
+    nameless_operation (fun p y b) (array_with e q) h = h
+    nameless_operation (fun p y b) (data_with d ts m q) h = h
+    nameless_operation (fun p y b) (map_with e q) h = h
+    nameless_operation (fun p y b) (type_variable i) h = h
+    nameless_operation (pure e) t h = h
+    nameless_operation (if_else p c a b) t h = h
+    nameless_operation (match_on p u arms) t h = h
+    nameless_operation (call g a) t h = h
+    nameless_operation (tuple es) t h = h
+    nameless_operation (build p c es) t h = h
+    nameless_operation (make p n e) t h = h
+    nameless_operation (fetch u i) t h = h
+    nameless_operation (store u i e) t h = h
+    nameless_operation (divide x y) t h = h
+    nameless_operation (remainder x y) t h = h
+    nameless_operation (assert e) t h = h
+    nameless_operation (assert_false p) t h = h
+    nameless_operation (read e) t h = h
+    nameless_operation (print e) t h = h
+    nameless_operation (map_empty p) t h = h
+    nameless_operation (map_add p k e m) t h = h
+    nameless_operation (map_find k m) t h = h
 
-mutual
-  pub block_scalar : (b : Block) (t : Refined) → IsBlockFor b t → IsScalar t
-  block_scalar (last l o) t h = operation_scalar o t h
-  block_scalar (binding x l o b) t h = h.0
-  block_scalar (recursive g p y b c) t h = h.0
+  pub nameless_function : (y : ℕ) (b : Block) (t : Refined) → IsNameless U t → IsFunctionFor U y b t
+  nameless_function y b t h = nameless_operation (fun 0 y b) t h
 
-  operation_scalar : (o : Operation) (t : Refined) → IsOperationFor o t → IsScalar t
-  operation_scalar (fun p y b) (function x a r) h = (h.1.0, h.1.1, block_scalar b r h.2)
-  operation_scalar (fun p y b) (int_with q) h = h.0
-  operation_scalar (fun p y b) (bool_with q) h = h.0
-  operation_scalar (fun p y b) unit_type h = h.0
-  operation_scalar (fun p y b) (tuple_of ts) h = h.0
-  operation_scalar (fun p y b) (array_with e q) h = h.0
-  operation_scalar (fun p y b) (data_with d ts m q) h = h.0
-  operation_scalar (fun p y b) (map_with e q) h = h.0
-  operation_scalar (fun p y b) (type_variable i) h = h.0
-  operation_scalar (pure e) t h = h.0
-  operation_scalar (if_else p c a b) t h = h.0
-  operation_scalar (match_on p u arms) t h = h.0
-  operation_scalar (call g a) t h = h.0
-  operation_scalar (tuple es) t h = h.0
-  operation_scalar (build p c es) t h = h.0
-  operation_scalar (make p n e) t h = h.0
-  operation_scalar (fetch u i) t h = h.0
-  operation_scalar (store u i e) t h = h.0
-  operation_scalar (divide x y) t h = h.0
-  operation_scalar (remainder x y) t h = h.0
-  operation_scalar (assert e) t h = h.0
-  operation_scalar (assert_false p) t h = h.0
-  operation_scalar (read e) t h = h.0
-  operation_scalar (print e) t h = h.0
-  operation_scalar (map_empty p) t h = h.0
-  operation_scalar (map_add p k e m) t h = h.0
-  operation_scalar (map_find k m) t h = h.0
+  mutual
+    pub block_scalar : (b : Block) (t : Refined) → IsBlockFor U b t → IsScalar U t
+    block_scalar (last l o) t h = operation_scalar o t h
+    block_scalar (binding x l o b) t h = h.0
+    block_scalar (recursive g p y b c) t h = h.0
 
-pub function_scalar : (y p : ℕ) (b : Block) (t : Refined) → IsFunctionFor y b t → IsScalar t
-function_scalar y p b t h = operation_scalar (fun p y b) t h
+    operation_scalar : (o : Operation) (t : Refined) → IsOperationFor U o t → IsScalar U t
+    operation_scalar (fun p y b) (function x a r) h = (h.1.0, h.1.1, block_scalar b r h.2)
+    operation_scalar (fun p y b) (int_with q) h = h.0
+    operation_scalar (fun p y b) (bool_with q) h = h.0
+    operation_scalar (fun p y b) unit_type h = h.0
+    operation_scalar (fun p y b) (tuple_of ts) h = h.0
+    operation_scalar (fun p y b) (array_with e q) h = h.0
+    operation_scalar (fun p y b) (data_with d ts m q) h = h.0
+    operation_scalar (fun p y b) (map_with e q) h = h.0
+    operation_scalar (fun p y b) (type_variable i) h = h.0
+    operation_scalar (pure e) t h = h.0
+    operation_scalar (if_else p c a b) t h = h.0
+    operation_scalar (match_on p u arms) t h = h.0
+    operation_scalar (call g a) t h = h.0
+    operation_scalar (tuple es) t h = h.0
+    operation_scalar (build p c es) t h = h.0
+    operation_scalar (make p n e) t h = h.0
+    operation_scalar (fetch u i) t h = h.0
+    operation_scalar (store u i e) t h = h.0
+    operation_scalar (divide x y) t h = h.0
+    operation_scalar (remainder x y) t h = h.0
+    operation_scalar (assert e) t h = h.0
+    operation_scalar (assert_false p) t h = h.0
+    operation_scalar (read e) t h = h.0
+    operation_scalar (print e) t h = h.0
+    operation_scalar (map_empty p) t h = h.0
+    operation_scalar (map_add p k e m) t h = h.0
+    operation_scalar (map_find k m) t h = h.0
+
+  pub function_scalar : (y p : ℕ) (b : Block) (t : Refined) → IsFunctionFor U y b t → IsScalar U t
+  function_scalar y p b t h = operation_scalar (fun p y b) t h
 
 -- ---- forms
 
-module _ (P : Basis) where
+module _ (U : Arities) (P : Basis) where
   mutual
-    operation_forms : (o : Operation) → IsOperationWritten P o → HasForms o
+    operation_forms : (o : Operation) → IsOperationWritten U P o → HasForms o
     operation_forms (pure e) w = w
     operation_forms (fun p y b) w = block_forms true b w
     operation_forms (if_else p c a b) w = (w.0, block_forms true a w.1, block_forms true b w.2)
-    operation_forms (match_on p u no_arms) w = absurd w
-    operation_forms (match_on p u (arm q b arms)) w = (w.0, (block_forms true b w.2, w.3))
+    operation_forms (match_on p u arms) w = (w.0, arms_forms arms w.2)
     operation_forms (call g a) w = w
     operation_forms (tuple es) w = w
-    operation_forms (build p c es) w = absurd w
+    operation_forms (build p c es) w = w.0
     operation_forms (make p n e) w = (w.0, w.1)
     operation_forms (fetch u i) w = w
     operation_forms (store u i e) w = w
@@ -128,10 +131,14 @@ module _ (P : Basis) where
     operation_forms (map_add p k e m) w = absurd w
     operation_forms (map_find k m) w = absurd w
 
-    pub block_forms : (g : Bool) (b : Block) → IsBlockWritten P g b → BlockHasForms b
+    pub block_forms : (g : Bool) (b : Block) → IsBlockWritten U P g b → BlockHasForms b
     block_forms g (last l o) w = operation_forms o w.0
     block_forms g (binding x l o b) w = (operation_forms o w.0, block_forms g b w.2)
     block_forms g (recursive f p y b c) w = (block_forms true b w.1, block_forms g c w.2)
+
+    pub arms_forms : (arms : Arms) → AreArmsWritten U P arms → ArmsHaveForms arms
+    arms_forms no_arms w = tt
+    arms_forms (arm q b arms) w = (block_forms true b w.0, arms_forms arms w.1)
 
 mutual
   operation_covered : (o : Operation) → HasForms o → IsCovered o
@@ -199,7 +206,7 @@ module _ (P : Basis) (unknowns : ℕ → Unknown) where
     operation_uses N (match_on p u arms) h w = ((h.1.0, w.0), arms_uses N arms h.2 w.1)
     operation_uses N (call g a) h w = (pure_uses N g h.0 w.0, pure_uses N a h.1 w.1)
     operation_uses N (tuple es) h w = pures_uses N es h w
-    operation_uses N (build p c es) h w = absurd w
+    operation_uses N (build p c es) h w = pures_uses N es h.1 w
     operation_uses N (make p n e) h w = (pure_uses N n h.1 w.0, pure_uses N e h.2 w.1)
     operation_uses N (fetch u i) h w = ((h.0.0, w.0), pure_uses N i h.1 w.1)
     operation_uses N (store u i e) h w = ((h.0.0, w.0), pure_uses N i h.1 w.1, pure_uses N e h.2 w.2)
@@ -224,8 +231,9 @@ module _ (P : Basis) (unknowns : ℕ → Unknown) where
     arms_uses N (arm q b arms) h w =
         (form_uses (with_names N (names_of q)) b (subst (λ M. BlockInScope P unknowns M b) (same_names N (names_of q)) h.0) w.0, arms_uses N arms h.1 w.1)
 
-  pub block_uses : (g : Bool) (N : Symbols) (b : Block) → BlockInScope P unknowns N b → IsBlockWritten P g b → BlockUsesOnly N b
-  block_uses g N b h w = form_uses N b h (block_forms P g b w)
+module _ (U : Arities) (P : Basis) (unknowns : ℕ → Unknown) where
+  pub block_uses : (g : Bool) (N : Symbols) (b : Block) → BlockInScope P unknowns N b → IsBlockWritten U P g b → BlockUsesOnly N b
+  block_uses g N b h w = form_uses P unknowns N b h (block_forms U P g b w)
 
 pub pure_more : (N M : Symbols) → IsWithin N M → (e : Pure) → PureOver N e → PureOver M e
 pure_more N M w (tree.whole n) o = tt

@@ -6,8 +6,16 @@ mod Types
 mod NameKinds
 mod Contexts
 mod Forms
+mod Standing
+mod Fields
+mod Datatypes
+mod Builds
+mod Arms
 mod Fine
 mod Components
+mod Typings
+mod Patterns
 mod Plain
 mod Normal
 mod Example
+mod ListExample

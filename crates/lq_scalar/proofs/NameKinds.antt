@@ -4,13 +4,13 @@ use Rattle.std.proofs.lemmas.Bool.{eqb-true, eq-eqb}
 use Rattle.lq_checks.specs.Basis.{Basis}
 use Rattle.lq_checks.specs.Binders.{AllDiffer, IsNotIn, arms_binders, operation_binders, block_binders, binders}
 use Rattle.lq_checks.specs.Operation.{type_of, body_context, body_type, recursive_context, recursive_type, bind, last_context, last_type}
-use Rattle.lq_checks.specs.Match.{in_arm}
+use Rattle.lq_checks.specs.Match.{fields_by, in_arm, names_for}
 use Rattle.lq_checks.specs.Pure.{formula_of, type_of_use, variable_type}
 use Rattle.lq_checks.specs.Tree.{names_of, Use, Pattern, pattern_any, pattern_name, pattern_unit, pattern_tuple, pattern_build, Arms, no_arms, arm, Operation, pure, fun, if_else, match_on, call, tuple, build, make, fetch, store, divide, remainder, assert, assert_false, read, print, map_empty, map_add, map_find, Block, last, binding, recursive, Program, no_items, define, define_recursive, run_unit, run_any}
 use Rattle.lq_parts.specs.Part.{known}
 use Rattle.lq_pred.specs.Formula.{negation}
 use Rattle.lq_refined.specs.Context.{Context, guard}
-use Rattle.lq_refined.specs.Refined.{Refined, Refineds, none, Kind, other, kind, argument_of, components_of, unit_type}
+use Rattle.lq_refined.specs.Refined.{Refined, Refineds, Kind, other, kind, argument_of, components_of, unit_type}
 use Rattle.lq_subtype.specs.Splitting.{first_of, rest_of}
 use Rattle.lq_scalar.proofs.Twins.{clash, false_unless}
 
@@ -66,13 +66,14 @@ component_kinds [] ts = []
 component_kinds (x ∷ xs) ts = (x, kind (first_of ts)) ∷ component_kinds xs (rest_of ts)
 
 module _ (P : Basis) where
-  -- where a pattern takes values of the use's type
   abbrev pub pattern_kinds : Context → Use → Pattern → Kinds
   pattern_kinds Γ u pattern_any = []
   pattern_kinds Γ u (pattern_name x) = (x, kind (variable_type P.setting.scopes u.name (type_of_use P Γ u))) ∷ []
   pattern_kinds Γ u pattern_unit = []
   pattern_kinds Γ u (pattern_tuple xs) = component_kinds xs (components_of (type_of_use P Γ u))
-  pattern_kinds Γ u (pattern_build c xs) = component_kinds xs none
+  pattern_kinds Γ u (pattern_build c xs) =
+      let t = type_of_use P Γ u in
+      component_kinds xs (fields_by P Γ u.name t c (names_for 0 xs (fields_by P Γ u.name t c [])))
 
   abbrev mutual
     pub operation_kinds : Context → Operation → Refined → Kinds
@@ -126,7 +127,9 @@ module _ (P : Basis) where
   pattern_names Γ u (pattern_name x) = refl
   pattern_names Γ u pattern_unit = refl
   pattern_names Γ u (pattern_tuple xs) = components_names xs (components_of (type_of_use P Γ u))
-  pattern_names Γ u (pattern_build c xs) = components_names xs none
+  pattern_names Γ u (pattern_build c xs) =
+      let t = type_of_use P Γ u in
+      components_names xs (fields_by P Γ u.name t c (names_for 0 xs (fields_by P Γ u.name t c [])))
 
   mutual
     operation_names : (Γ : Context) (o : Operation) (t : Refined) → names_of_kinds (operation_kinds Γ o t) ≡ operation_binders o

@@ -1,5 +1,5 @@
 -- What is read of scalar programs is written as their templates name it.
-use Rattle.std.proofs.Common.{◌≡◌, ℕ, suc, ◌+◌, arith, Bool, true, false, cond, List, [], ◌∷◌, ◌++◌, length, Option, None, Some, refl, sym, subst}
+use Rattle.std.proofs.Common.{◌≡◌, ◌⊎◌, inl, inr, ℕ, suc, ◌+◌, arith, Bool, true, false, cond, List, [], ◌∷◌, ◌++◌, length, Option, None, Some, refl, sym, ap, subst}
 use Rattle.lq_checks.specs.Basis.{Basis}
 use Rattle.lq_checks.specs.Ready.{Where}
 use Rattle.lq_checks.specs.Tree as t
@@ -8,13 +8,13 @@ use Rattle.lq_instances.specs.Scopes.{Scope}
 use Rattle.lq_name.specs.declared.operation.ArithOp.{ArithOp}
 use Rattle.lq_name.specs.declared.place.Place.{Place}
 use Rattle.lq_points.specs.Annotation.{Annotation, argument_name, arguments_at, element_type, type_of_form}
-use Rattle.lq_points.specs.Point.{Point, whole}
+use Rattle.lq_points.specs.Point.{Point, idled, simple_types, whole}
 use Rattle.lq_points.specs.Pure.{Read, after, arithmetic_of, pure_of, pures_of, use_with, variable_of}
 use Rattle.lq_points.specs.Reading as reading
-use Rattle.lq_points.specs.Reading.{all_idled, arms_of, block_of, defined, expecting, is_checked, item, own_point, program_from, program_of, written_names}
+use Rattle.lq_points.specs.Reading.{all_idled, arms_of, block_of, built, defined, expecting, is_checked, item, own_point, program_from, program_of, written_names}
 use Rattle.lq_points.specs.Seen.{Seen, all_seen, seen, seen_until, scope_at}
-use Rattle.lq_points.specs.Templates.{Datatypes, basis_of, made_at, templates_at, templates_from}
-use Rattle.lq_read.specs.Normal.{is_name, IsArm, arm_any, arm_name, arm_unit, arm_tuple, arm_build, ArePure, no_pure, more_pure, AreArms, no_arms, more_arms, IsPure, pure_whole, pure_flag, pure_unit, pure_use, pure_arithmetic, pure_negated, pure_compare, pure_not, pure_and, pure_or, pure_length, IsRing, ring_add, ring_subtract, ring_multiply, IsUse, is_use, IsBlock, block_let, block_let_rec, block_operation, IsOperation, is_pure, is_fun, is_if, is_match, is_tuple, is_build, is_call, is_quotient, is_remainder, is_assert, is_assert_false, is_make, is_fetch, is_store, is_print, is_read, IsItem, item_type, item_name, item_any, item_unit, item_function, AreNormal}
+use Rattle.lq_points.specs.Templates.{Datatypes, all_plain, basis_of, made_at, plain, templates_at, templates_from}
+use Rattle.lq_read.specs.Normal.{is_name, ArePure, no_pure, more_pure, AreArms, no_arms, more_arms, IsPure, pure_whole, pure_flag, pure_unit, pure_use, pure_arithmetic, pure_negated, pure_compare, pure_not, pure_and, pure_or, pure_length, IsRing, ring_add, ring_subtract, ring_multiply, IsUse, is_use, IsBlock, block_let, block_let_rec, block_operation, IsOperation, is_pure, is_fun, is_if, is_match, is_tuple, is_build, is_call, is_quotient, is_remainder, is_assert, is_assert_false, is_make, is_fetch, is_store, is_print, is_read, IsItem, item_type, item_name, item_any, item_unit, item_function, AreNormal}
 use Rattle.lq_refined.specs.Refined.{Refined, Refineds}
 use Rattle.lq_scoped.specs.Numbers.{number_of}
 use Rattle.lq_subtype.specs.Splitting.{first_of}
@@ -22,20 +22,20 @@ use Rattle.lq_templates.specs.Fresh.{fresh}
 use Rattle.lq_tree.specs.Items.{ItemTree, ItemForm}
 use Rattle.lq_tree.specs.MlType as ml
 use Rattle.lq_tree.specs.MlType.{MlType, MlTypes}
-use Rattle.lq_tree.specs.Pattern.{Pattern}
 use Rattle.lq_tree.specs.Tree as form
-use Rattle.lq_tree.specs.Tree.{Tree, Trees, Cases, more_cases}
+use Rattle.lq_tree.specs.Tree.{Tree, Trees, no_trees, more_trees, Cases, more_cases}
 use Rattle.lq_scalar.specs.Laws.{TemplatesAreWritten}
-use Rattle.lq_scalar.specs.Scalar.{AreScalarCases, AreScalarTrees, IsScalarPattern, IsScalarType, IsScalarTree, IsScalarItem, IsScalarProgram}
-use Rattle.lq_scalar.specs.Written.{ArmsHaveForms, BlockHasForms, HasForms, HavePlainUses, IsNameless, IsFunctionFor, IsPlainUse, HasPlainUses, TakesNoFields, IsGivenWritten, IsOperationWritten, IsBlockWritten, IsWritten}
-use Rattle.lq_scalar.proofs.Templates.{function_made, nameless_made}
+use Rattle.lq_scalar.specs.Scalar.{Arities, AreScalarCases, AreScalarTrees, IsScalarType, IsScalarTree, IsScalarItem, IsScalarProgram}
+use Rattle.lq_scalar.specs.Written.{AreArmsWritten, HavePlainUses, IsNameless, IsFunctionFor, IsPlainUse, HasPlainUses, IsGivenWritten, IsOperationWritten, IsBlockWritten, IsWritten}
+use Rattle.lq_scalar.proofs.Forms.{nameless_function}
+use Rattle.lq_scalar.proofs.Templates.{constant_nameless, function_made, inner_nameless, nameless_made, plain_nameless}
 
 -- ---- templates of points
 
 module _ (D : Datatypes) (T : ℕ → Refineds) where
-  -- the templates from the number k on are made for these points
+  -- the templates from the number k on are made for these points, or the points are idle
   abbrev IsMade : ℕ → Point → Type 0
-  IsMade k q = (m : ℕ) × (T k ≡ (made_at D m q).types)
+  IsMade k q = ((m : ℕ) × (T k ≡ (made_at D m q).types)) ⊎ (T k ≡ all_plain (simple_types q))
 
   abbrev AreMade : ℕ → List Point → Type 0
   AreMade k [] = Unit {0}
@@ -50,6 +50,26 @@ module _ (D : Datatypes) (T : ℕ → Refineds) where
   made_second k (p ∷ ps) qs h =
       let e : suc k + length ps ≡ k + suc (length ps) = omega arith in subst (λ (m : ℕ). AreMade m qs) e (made_second (suc k) ps qs h.1)
 
+  made_one : (k : ℕ) (q : Point) → IsMade k (idled q) → IsMade k q
+  made_one k q (inl h) = inr h.1
+  made_one k q (inr h) = inr h
+
+  made_idled : (k : ℕ) (ps : List Point) → AreMade k (all_idled ps) → AreMade k ps
+  made_idled k [] h = tt
+  made_idled k (p ∷ ps) h = (made_one k p h.0, made_idled (suc k) ps h.1)
+
+  idled_length : (ps : List Point) → length (all_idled ps) ≡ length ps
+  idled_length [] = refl
+  idled_length (p ∷ ps) = ap suc (idled_length ps)
+
+  -- points that may be idle, and those behind them
+  made_arm : (b : Bool) (k : ℕ) (ps qs : List Point) → AreMade k (cond b ps (all_idled ps) ++ qs) → AreMade k ps × AreMade (k + length ps) qs
+  made_arm true k ps qs h = (made_first k ps qs h, made_second k ps qs h)
+  made_arm false k ps qs h = (
+    made_idled k ps (made_first k (all_idled ps) qs h),
+    subst (λ (m : ℕ). AreMade m qs) (ap (λ i. k + i) (idled_length ps)) (made_second k (all_idled ps) qs h),
+  )
+
 made_later : (D : Datatypes) (T : ℕ → Refineds) (k : ℕ) (ps : List Point) → AreMade D (λ i. T (suc i)) k ps → AreMade D T (suc k) ps
 made_later D T k [] h = tt
 made_later D T k (p ∷ ps) h = (h.0, made_later D T (suc k) ps h.1)
@@ -58,16 +78,16 @@ all_made : (D : Datatypes) (n : ℕ) (ps : List Point) → AreMade D (templates_
 all_made D n [] = tt
 all_made D n (p ∷ ps) =
     let m = made_at D n p in
-    ((n, refl), made_later D (templates_at (templates_from D n (p ∷ ps))) 0 ps (all_made D (n + length m.unknowns) ps))
+    (inl (n, refl), made_later D (templates_at (templates_from D n (p ∷ ps))) 0 ps (all_made D (n + length m.unknowns) ps))
 
 -- ---- expressions
 
-module _ (n : Annotation) where
+module _ (U : Arities) (n : Annotation) where
   use_plain : (Δ : List Seen) (k i x : ℕ) (o : Option MlTypes) → o ≡ None → IsPlainUse (use_with n Δ k i x o).read
   use_plain Δ k i x None h = refl
   use_plain Δ k i x (Some ts) h = cc
 
-  variable_plain : {e : Tree} → IsUse e → IsScalarTree n e → (Δ : List Seen) (k : ℕ) → IsPlainUse (variable_of n Δ k e).read
+  variable_plain : {e : Tree} → IsUse e → IsScalarTree U n e → (Δ : List Seen) (k : ℕ) → IsPlainUse (variable_of n Δ k e).read
   variable_plain (is_use {i = i} {x = x}) s Δ k = use_plain Δ k i x (arguments_at n i x) s.1
 
   ring_plain : {o : ArithOp} (a b : t.Pure) → IsRing o → HasPlainUses a → HasPlainUses b → HasPlainUses (arithmetic_of o a b)
@@ -75,7 +95,7 @@ module _ (n : Annotation) where
   ring_plain a b ring_subtract h k = (h, k)
   ring_plain a b ring_multiply h k = (h, k)
 
-  pure_plain : {e : Tree} → IsPure e → IsScalarTree n e → (Δ : List Seen) (k : ℕ) → HasPlainUses (pure_of n Δ k e).read
+  pure_plain : {e : Tree} → IsPure e → IsScalarTree U n e → (Δ : List Seen) (k : ℕ) → HasPlainUses (pure_of n Δ k e).read
   pure_plain pure_whole s Δ k = tt
   pure_plain pure_flag s Δ k = tt
   pure_plain pure_unit s Δ k = tt
@@ -90,115 +110,25 @@ module _ (n : Annotation) where
   pure_plain (pure_or {a = a} p q) s Δ k = (pure_plain p s.1.0 Δ k, pure_plain q s.1.1 Δ (after k (pure_of n Δ k a)))
   pure_plain (pure_length p) s Δ k = pure_plain p s.1 Δ k
 
-module _ (n : Annotation) where
-  pures_plain : {es : Trees} → ArePure es → AreScalarTrees n es → (Δ : List Seen) (k : ℕ) → HavePlainUses (pures_of n Δ k es).read
+module _ (U : Arities) (n : Annotation) where
+  pures_plain : {es : Trees} → ArePure es → AreScalarTrees U n es → (Δ : List Seen) (k : ℕ) → HavePlainUses (pures_of n Δ k es).read
   pures_plain no_pure s Δ k = tt
-  pures_plain (more_pure {e = e} p ps) s Δ k = (pure_plain n p s.0 Δ k, pures_plain ps s.1 Δ (after k (pure_of n Δ k e)))
+  pures_plain (more_pure {e = e} p ps) s Δ k = (pure_plain U n p s.0 Δ k, pures_plain ps s.1 Δ (after k (pure_of n Δ k e)))
 
-element_scalar : (t : MlType) → IsScalarType t → IsScalarType (element_type t)
-element_scalar ml.int s = tt
-element_scalar ml.bool s = tt
-element_scalar ml.unit s = tt
-element_scalar (ml.var i) s = absurd s
-element_scalar (ml.arrow a b) s = tt
-element_scalar (ml.tuple ts) s = tt
-element_scalar (ml.array a) s = s
-element_scalar (ml.named d ts) s = absurd s
-element_scalar (ml.map_of a) s = absurd s
-
-takes_none : {q : Pattern} → IsArm q → IsScalarPattern q → TakesNoFields (reading.pattern_of q)
-takes_none arm_any s = tt
-takes_none arm_name s = tt
-takes_none arm_unit s = tt
-takes_none (arm_tuple m) s = tt
-takes_none (arm_build m) s = s
-
--- ---- forms, whatever the templates
-
-module _ (n : Annotation) where
-  -- an operation, and the block that it is alone
-  abbrev FormsRead : t.Block → Type 0
-  FormsRead B = HasForms (last_operation B) × BlockHasForms B
-
-  both : {A : Type 0} → A → A × A
-  both h = (h, h)
-
-  pure_forms : (g : Bool) (k : ℕ) (Δ : List Seen) {e : Tree} → IsPure e → IsScalarTree n e → FormsRead (block_of n g k Δ e).read
-  pure_forms g k Δ (pure_whole {l = l}) s = both tt
-  pure_forms g k Δ (pure_flag {l = l}) s = both tt
-  pure_forms g k Δ (pure_unit {l = l}) s = both tt
-  pure_forms g k Δ (pure_use {i = i} {l = l} {x = x}) s = both (pure_plain n (pure_use {i = i} {l = l} {x = x}) s Δ k)
-  pure_forms g k Δ (pure_arithmetic {i = i} {l = l} ring_add p q) s = both (pure_plain n (pure_arithmetic {i = i} {l = l} ring_add p q) s Δ k)
-  pure_forms g k Δ (pure_arithmetic {i = i} {l = l} ring_subtract p q) s =
-      both (pure_plain n (pure_arithmetic {i = i} {l = l} ring_subtract p q) s Δ k)
-  pure_forms g k Δ (pure_arithmetic {i = i} {l = l} ring_multiply p q) s =
-      both (pure_plain n (pure_arithmetic {i = i} {l = l} ring_multiply p q) s Δ k)
-  pure_forms g k Δ (pure_negated {i = i} {l = l} p) s = both (pure_plain n (pure_negated {i = i} {l = l} p) s Δ k)
-  pure_forms g k Δ (pure_compare {i = i} {l = l} {o = o} p q) s = both (pure_plain n (pure_compare {i = i} {l = l} {o = o} p q) s Δ k)
-  pure_forms g k Δ (pure_not {i = i} {l = l} p) s = both (pure_plain n (pure_not {i = i} {l = l} p) s Δ k)
-  pure_forms g k Δ (pure_and {i = i} {l = l} p q) s = both (pure_plain n (pure_and {i = i} {l = l} p q) s Δ k)
-  pure_forms g k Δ (pure_or {i = i} {l = l} p q) s = both (pure_plain n (pure_or {i = i} {l = l} p q) s Δ k)
-  pure_forms g k Δ (pure_length {i = i} {l = l} p) s = both (pure_plain n (pure_length {i = i} {l = l} p) s Δ k)
-
-  mutual
-    block_forms : (g : Bool) (k : ℕ) (Δ : List Seen) {e : Tree} → IsBlock e → IsScalarTree n e → BlockHasForms (block_of n g k Δ e).read
-    block_forms g k Δ (block_let {i = i} {q = q} {e = e} {b = b} m f r) s =
-        let E : Read t.Block = block_of n false k Δ e in
-        ((operation_forms false k Δ f s.1.0).0, block_forms g (after k E) (seen_until i (reading.parameter_of q) ∷ Δ) r s.1.1)
-    block_forms g k Δ (block_let_rec {i = i} {f = f} {b = b} (is_name {x = x}) r z) s =
-        let Θ : List Seen = seen_until i f ∷ Δ in
-        let B : Read t.Block = block_of n true (suc k) (seen x ∷ Θ) b in
-        (block_forms true (suc k) (seen x ∷ Θ) r s.1.1, block_forms g (after (suc k) B) Θ z s.1.2)
-    block_forms g k Δ (block_operation f) s = (operation_forms g k Δ f s).1
-
-    operation_forms : (g : Bool) (k : ℕ) (Δ : List Seen) {e : Tree} → IsOperation e → IsScalarTree n e → FormsRead (block_of n g k Δ e).read
-    operation_forms g k Δ (is_pure p) s = pure_forms g k Δ p s
-    operation_forms g k Δ (is_fun (is_name {x = x}) r) s = both (block_forms true (suc k) (seen x ∷ Δ) r s.1)
-    operation_forms g k Δ (is_if {c = c} {a = a} p r z) s =
-        let C = pure_of n Δ (suc k) c in
-        let A = block_of n true (after (suc k) C) Δ a in
-        both (
-          pure_plain n p s.1.0 Δ (suc k),
-          block_forms true (after (suc k) C) Δ r s.1.1,
-          block_forms true (after (after (suc k) C) A) Δ z s.1.2,
-        )
-    operation_forms g k Δ (is_match p no_arms) s = absurd s.1
-    operation_forms g k Δ (is_match {e = e} p (more_arms {q = q} {b = b} f r z)) s =
-        let l = after (suc k) (variable_of n Δ (suc k) e) in
-        let Θ = all_seen (names_of (reading.pattern_of q)) Δ in
-        let B = block_of n true l Θ b in
-        both (
-          variable_plain n p s.1.0 Δ (suc k),
-          (block_forms true l Θ r s.1.2.1, arms_forms (after l B) Δ (reading.pattern_of q ∷ []) z s.1.2.2),
-        )
-    operation_forms g k Δ (is_tuple p) s = both (pures_plain n p s.1 Δ k)
-    operation_forms g k Δ (is_build p) s = absurd s.1
-    operation_forms g k Δ (is_call {f = f} p q) s = both (pure_plain n p s.1.0 Δ k, pure_plain n q s.1.1 Δ (after k (pure_of n Δ k f)))
-    operation_forms g k Δ (is_quotient {a = a} p q) s = both (pure_plain n p s.1.0 Δ k, pure_plain n q s.1.1 Δ (after k (pure_of n Δ k a)))
-    operation_forms g k Δ (is_remainder {a = a} p q) s = both (pure_plain n p s.1.0 Δ k, pure_plain n q s.1.1 Δ (after k (pure_of n Δ k a)))
-    operation_forms g k Δ (is_assert p) s = both (pure_plain n p s.1 Δ k)
-    operation_forms g k Δ is_assert_false s = both tt
-    operation_forms g k Δ (is_make {n = a} p q) s =
-        both (pure_plain n p s.1.0 Δ (suc k), pure_plain n q s.1.1 Δ (after (suc k) (pure_of n Δ (suc k) a)))
-    operation_forms g k Δ (is_fetch {a = a} p q) s = both (variable_plain n p s.1.0 Δ k, pure_plain n q s.1.1 Δ (after k (variable_of n Δ k a)))
-    operation_forms g k Δ (is_store {a = a} {n = b} p q r) s =
-        let A = variable_of n Δ k a in
-        let B = pure_of n Δ (after k A) b in
-        both (variable_plain n p s.1.0 Δ k, pure_plain n q s.1.1 Δ (after k A), pure_plain n r s.1.2 Δ (after (after k A) B))
-    operation_forms g k Δ (is_print p) s = both (pure_plain n p s.1 Δ k)
-    operation_forms g k Δ (is_read p) s = both (pure_plain n p s.1 Δ k)
-
-    arms_forms : (k : ℕ) (Δ : List Seen) (qs : List t.Pattern) {cs : Cases} → AreArms cs → AreScalarCases n cs
-        → ArmsHaveForms (arms_of n k Δ qs cs).read
-    arms_forms k Δ qs no_arms s = tt
-    arms_forms k Δ qs (more_arms {q = q} {b = b} f r z) s =
-        let Θ = all_seen (names_of (reading.pattern_of q)) Δ in
-        let B = block_of n true k Θ b in
-        (block_forms true k Θ r s.1, arms_forms (after k B) Δ (qs ++ reading.pattern_of q ∷ []) z s.2)
+element_scalar : (U : Arities) (t : MlType) → IsScalarType U t → IsScalarType U (element_type t)
+element_scalar U ml.int s = tt
+element_scalar U ml.bool s = tt
+element_scalar U ml.unit s = tt
+element_scalar U (ml.var i) s = absurd s
+element_scalar U (ml.arrow a b) s = tt
+element_scalar U (ml.tuple ts) s = tt
+element_scalar U (ml.array a) s = s
+element_scalar U (ml.named d ts) s = tt
+element_scalar U (ml.map_of a) s = absurd s
 
 -- ---- blocks and programs
 
-module _ (D : Datatypes) (n : Annotation) (all : List Point) where
+module _ (U : Arities) (D : Datatypes) (n : Annotation) (all : List Point) where
   abbrev P : Basis
   P = basis_of D all
 
@@ -214,30 +144,33 @@ module _ (D : Datatypes) (n : Annotation) (all : List Point) where
   back : (k : ℕ) (ps qs : List Point) → Made k (ps ++ qs) → Made (k + length ps) qs
   back k ps qs h = made_second D P.type_arguments k ps qs h
 
-  -- the first arm is checked, whatever its pattern
-  first_checked : (k : ℕ) (q : Pattern) (ps qs : List Point) → IsArm q
-      → Made k (cond (is_checked [] (reading.pattern_of q)) ps (all_idled ps) ++ qs) → Made k (ps ++ qs)
-  first_checked k q ps qs arm_any h = h
-  first_checked k q ps qs arm_name h = h
-  first_checked k q ps qs arm_unit h = h
-  first_checked k q ps qs (arm_tuple m) h = h
-  first_checked k q ps qs (arm_build m) h = h
-
-  -- what holds of each fresh template for a point holds of its template
+  -- what holds of each fresh template for a point, and of its simple type, holds of its template
   template_at : (C : Refined → Type 0) (k : ℕ) (Γ : Scope) (xs : List (Option ℕ)) (a : MlType) → At k (whole Γ xs a)
-      → ((m : ℕ) → C (fresh D.constructors D.ordered m Γ xs a).type) → C (P.template k)
-  template_at C k Γ xs a h f = subst (λ ts. C (first_of ts)) (sym h.1) (f h.0)
+      → ((m : ℕ) → C (fresh D.constructors D.ordered m Γ xs a).type) → C (plain a) → C (P.template k)
+  template_at C k Γ xs a (inl h) f z = subst (λ ts. C (first_of ts)) (sym h.1) (f h.0)
+  template_at C k Γ xs a (inr h) f z = subst (λ ts. C (first_of ts)) (sym h) z
+
+  -- of the value of a constructor
+  built_at : (k : ℕ) (Γ : Scope) (a : MlType) (es : Trees) → At k (built Γ a es) → IsScalarType U a → IsNameless U (P.template k)
+  built_at k Γ a no_trees (inl h) s = subst (λ ts. IsNameless U (first_of ts)) (sym h.1) (constant_nameless U D h.0 Γ a s)
+  built_at k Γ a no_trees (inr h) s = subst (λ ts. IsNameless U (first_of ts)) (sym h) (plain_nameless U a s)
+  built_at k Γ a (more_trees e es) (inl h) s = subst (λ ts. IsNameless U (first_of ts)) (sym h.1) (inner_nameless U D h.0 Γ a s)
+  built_at k Γ a (more_trees e es) (inr h) s = subst (λ ts. IsNameless U (first_of ts)) (sym h) (plain_nameless U a s)
 
   -- where no type is expected
   given_at : (C : Refined → Type 0) (g : Bool) (k : ℕ) (Γ : Scope) (xs : List (Option ℕ)) (a : MlType) → At k (expecting g (whole Γ xs a))
-      → ((m : ℕ) → C (fresh D.constructors D.ordered m Γ xs a).type) → Where g (Unit {0}) (C (P.template k))
-  given_at C true k Γ xs a h f = tt
-  given_at C false k Γ xs a h f = template_at C k Γ xs a h f
+      → ((m : ℕ) → C (fresh D.constructors D.ordered m Γ xs a).type) → C (plain a) → Where g (Unit {0}) (C (P.template k))
+  given_at C true k Γ xs a h f z = tt
+  given_at C false k Γ xs a h f z = template_at C k Γ xs a h f z
+
+  -- a function's simple type
+  plain_function : (x : ℕ) (b : t.Block) (a : MlType) → IsScalarType U a → IsFunctionFor U x b (plain a)
+  plain_function x b a s = nameless_function U x b (plain a) (plain_nameless U a s)
 
   -- an operation, and the block that it is alone
   abbrev OperationRead : Bool → t.Block → Type 0
   OperationRead g B =
-      (IsOperationWritten P (last_operation B) × Where g (Unit {0}) (IsGivenWritten P (last_operation B))) × IsBlockWritten P g B
+      (IsOperationWritten U P (last_operation B) × Where g (Unit {0}) (IsGivenWritten U P (last_operation B))) × IsBlockWritten U P g B
 
   twice : {A : Type 0} → A → A × A
   twice h = (h, h)
@@ -246,24 +179,24 @@ module _ (D : Datatypes) (n : Annotation) (all : List Point) where
   nothing_given true = tt
   nothing_given false = tt
 
-  pure_block : (g : Bool) (k : ℕ) (Δ : List Seen) {e : Tree} → IsPure e → IsScalarTree n e → OperationRead g (block_of n g k Δ e).read
+  pure_block : (g : Bool) (k : ℕ) (Δ : List Seen) {e : Tree} → IsPure e → IsScalarTree U n e → OperationRead g (block_of n g k Δ e).read
   pure_block g k Δ (pure_whole {l = l}) s = twice (tt, nothing_given g)
   pure_block g k Δ (pure_flag {l = l}) s = twice (tt, nothing_given g)
   pure_block g k Δ (pure_unit {l = l}) s = twice (tt, nothing_given g)
-  pure_block g k Δ (pure_use {i = i} {l = l} {x = x}) s = twice (pure_plain n (pure_use {i = i} {l = l} {x = x}) s Δ k, nothing_given g)
-  pure_block g k Δ (pure_arithmetic {i = i} {l = l} ring_add p q) s = twice (pure_plain n (pure_arithmetic {i = i} {l = l} ring_add p q) s Δ k, nothing_given g)
-  pure_block g k Δ (pure_arithmetic {i = i} {l = l} ring_subtract p q) s = twice (pure_plain n (pure_arithmetic {i = i} {l = l} ring_subtract p q) s Δ k, nothing_given g)
-  pure_block g k Δ (pure_arithmetic {i = i} {l = l} ring_multiply p q) s = twice (pure_plain n (pure_arithmetic {i = i} {l = l} ring_multiply p q) s Δ k, nothing_given g)
-  pure_block g k Δ (pure_negated {i = i} {l = l} p) s = twice (pure_plain n (pure_negated {i = i} {l = l} p) s Δ k, nothing_given g)
-  pure_block g k Δ (pure_compare {i = i} {l = l} {o = o} p q) s = twice (pure_plain n (pure_compare {i = i} {l = l} {o = o} p q) s Δ k, nothing_given g)
-  pure_block g k Δ (pure_not {i = i} {l = l} p) s = twice (pure_plain n (pure_not {i = i} {l = l} p) s Δ k, nothing_given g)
-  pure_block g k Δ (pure_and {i = i} {l = l} p q) s = twice (pure_plain n (pure_and {i = i} {l = l} p q) s Δ k, nothing_given g)
-  pure_block g k Δ (pure_or {i = i} {l = l} p q) s = twice (pure_plain n (pure_or {i = i} {l = l} p q) s Δ k, nothing_given g)
-  pure_block g k Δ (pure_length {i = i} {l = l} p) s = twice (pure_plain n (pure_length {i = i} {l = l} p) s Δ k, nothing_given g)
+  pure_block g k Δ (pure_use {i = i} {l = l} {x = x}) s = twice (pure_plain U n (pure_use {i = i} {l = l} {x = x}) s Δ k, nothing_given g)
+  pure_block g k Δ (pure_arithmetic {i = i} {l = l} ring_add p q) s = twice (pure_plain U n (pure_arithmetic {i = i} {l = l} ring_add p q) s Δ k, nothing_given g)
+  pure_block g k Δ (pure_arithmetic {i = i} {l = l} ring_subtract p q) s = twice (pure_plain U n (pure_arithmetic {i = i} {l = l} ring_subtract p q) s Δ k, nothing_given g)
+  pure_block g k Δ (pure_arithmetic {i = i} {l = l} ring_multiply p q) s = twice (pure_plain U n (pure_arithmetic {i = i} {l = l} ring_multiply p q) s Δ k, nothing_given g)
+  pure_block g k Δ (pure_negated {i = i} {l = l} p) s = twice (pure_plain U n (pure_negated {i = i} {l = l} p) s Δ k, nothing_given g)
+  pure_block g k Δ (pure_compare {i = i} {l = l} {o = o} p q) s = twice (pure_plain U n (pure_compare {i = i} {l = l} {o = o} p q) s Δ k, nothing_given g)
+  pure_block g k Δ (pure_not {i = i} {l = l} p) s = twice (pure_plain U n (pure_not {i = i} {l = l} p) s Δ k, nothing_given g)
+  pure_block g k Δ (pure_and {i = i} {l = l} p q) s = twice (pure_plain U n (pure_and {i = i} {l = l} p q) s Δ k, nothing_given g)
+  pure_block g k Δ (pure_or {i = i} {l = l} p q) s = twice (pure_plain U n (pure_or {i = i} {l = l} p q) s Δ k, nothing_given g)
+  pure_block g k Δ (pure_length {i = i} {l = l} p) s = twice (pure_plain U n (pure_length {i = i} {l = l} p) s Δ k, nothing_given g)
 
   mutual
-    block_read : (g : Bool) (k : ℕ) (Δ : List Seen) {e : Tree} → IsBlock e → IsScalarTree n e → Made k (block_of n g k Δ e).points
-        → IsBlockWritten P g (block_of n g k Δ e).read
+    block_read : (g : Bool) (k : ℕ) (Δ : List Seen) {e : Tree} → IsBlock e → IsScalarTree U n e → Made k (block_of n g k Δ e).points
+        → IsBlockWritten U P g (block_of n g k Δ e).read
     block_read g k Δ (block_let {i = i} {q = q} {e = e} {b = b} m f r) s h =
         let E : Read t.Block = block_of n false k Δ e in
         let Θ : List Seen = seen_until i (reading.parameter_of q) ∷ Δ in
@@ -274,22 +207,24 @@ module _ (D : Datatypes) (n : Annotation) (all : List Point) where
         let Θ : List Seen = seen_until i f ∷ Δ in
         let B : Read t.Block = block_of n true (suc k) (seen x ∷ Θ) b in
         let E : Read t.Block = block_of n g (after (suc k) B) Θ e in (
-          template_at (IsFunctionFor x B.read) k (scope_at n Θ j) (argument_name n x ∷ written_names n b) (n.names f) h.0
-              (λ m. function_made D.constructors D.ordered n r x (suc k) (seen x ∷ Θ) m (scope_at n Θ j) (n.names f) s.1.0),
+          template_at (IsFunctionFor U x B.read) k (scope_at n Θ j) (argument_name n x ∷ written_names n b) (n.names f) h.0
+              (λ m. function_made U D.constructors D.ordered n r x (suc k) (seen x ∷ Θ) m (scope_at n Θ j) (n.names f) s.1.0)
+              (plain_function x B.read (n.names f) s.1.0),
           block_read true (suc k) (seen x ∷ Θ) r s.1.1 (front (suc k) B.points E.points h.1),
           block_read g (after (suc k) B) Θ z s.1.2 (back (suc k) B.points E.points h.1),
         )
     block_read g k Δ (block_operation f) s h = (operation_read g k Δ f s h).1
 
-    operation_read : (g : Bool) (k : ℕ) (Δ : List Seen) {e : Tree} → IsOperation e → IsScalarTree n e → Made k (block_of n g k Δ e).points
+    operation_read : (g : Bool) (k : ℕ) (Δ : List Seen) {e : Tree} → IsOperation e → IsScalarTree U n e → Made k (block_of n g k Δ e).points
         → OperationRead g (block_of n g k Δ e).read
     operation_read g k Δ (is_pure p) s h = pure_block g k Δ p s
     operation_read g k Δ (is_fun {i = i} {b = b} (is_name {l = l} {x = x}) r) s h =
         let B : Read t.Block = block_of n true (suc k) (seen x ∷ Δ) b in
         twice (
           block_read true (suc k) (seen x ∷ Δ) r s.1 h.1,
-          given_at (IsFunctionFor x B.read) g k (scope_at n Δ i) (argument_name n x ∷ written_names n b) (n.types i) h.0
-              (λ m. function_made D.constructors D.ordered n r x (suc k) (seen x ∷ Δ) m (scope_at n Δ i) (n.types i) s.0),
+          given_at (IsFunctionFor U x B.read) g k (scope_at n Δ i) (argument_name n x ∷ written_names n b) (n.types i) h.0
+              (λ m. function_made U D.constructors D.ordered n r x (suc k) (seen x ∷ Δ) m (scope_at n Δ i) (n.types i) s.0)
+              (plain_function x B.read (n.types i) s.0),
         )
     operation_read g k Δ (is_if {i = i} {c = c} {a = a} {b = b} p r z) s h =
         let C = pure_of n Δ (suc k) c in
@@ -298,42 +233,39 @@ module _ (D : Datatypes) (n : Annotation) (all : List Point) where
         let rest = back (suc k) C.points (A.points ++ B.points) h.1 in
         twice (
           (
-            pure_plain n p s.1.0 Δ (suc k),
+            pure_plain U n p s.1.0 Δ (suc k),
             block_read true (after (suc k) C) Δ r s.1.1 (front (after (suc k) C) A.points B.points rest),
             block_read true (after (after (suc k) C) A) Δ z s.1.2 (back (after (suc k) C) A.points B.points rest),
           ),
-          given_at IsNameless g k (scope_at n Δ i) [] (n.types i) h.0 (λ m. nameless_made D.constructors D.ordered m (scope_at n Δ i) (n.types i) s.0),
+          given_at (IsNameless U) g k (scope_at n Δ i) [] (n.types i) h.0 (λ m. nameless_made U D.constructors D.ordered m (scope_at n Δ i) (n.types i) s.0)
+              (plain_nameless U (n.types i) s.0),
         )
     operation_read g k Δ (is_match p no_arms) s h = absurd s.1
     operation_read g k Δ (is_match {i = i} {e = e} p (more_arms {q = q} {b = b} {cs = cs} f r z)) s h =
         let a = type_of_form n i (form.match_on e (more_cases q b cs)) in
         let V = variable_of n Δ (suc k) e in
         let l = after (suc k) V in
-        let Θ = all_seen (names_of (reading.pattern_of q)) Δ in
-        let B = block_of n true l Θ b in
-        let rest = arms_of n (after l B) Δ (reading.pattern_of q ∷ []) cs in
-        let own = front l B.points rest.points (first_checked l q B.points rest.points f (back (suc k) V.points (arms_of n l Δ [] (more_cases q b cs)).points h.1)) in
+        let A = arms_of n l Δ [] (more_cases q b cs) in
+        let w = arms_read l Δ [] (more_arms {q = q} {b = b} {cs = cs} f r z) s.1.2 (back (suc k) V.points A.points h.1) in
         twice (
-          (
-            variable_plain n p s.1.0 Δ (suc k),
-            takes_none f s.1.2.0,
-            block_read true l Θ r s.1.2.1 own,
-            arms_forms n (after l B) Δ (reading.pattern_of q ∷ []) z s.1.2.2,
-          ),
-          given_at IsNameless g k (scope_at n Δ i) [] a h.0 (λ m. nameless_made D.constructors D.ordered m (scope_at n Δ i) a s.1.1),
+          (variable_plain U n p s.1.0 Δ (suc k), tt, w),
+          given_at (IsNameless U) g k (scope_at n Δ i) [] a h.0 (λ m. nameless_made U D.constructors D.ordered m (scope_at n Δ i) a s.1.1)
+              (plain_nameless U a s.1.1),
         )
-    operation_read g k Δ (is_tuple p) s h = twice (pures_plain n p s.1 Δ k, nothing_given g)
-    operation_read g k Δ (is_build p) s h = absurd s.1
+    operation_read g k Δ (is_tuple p) s h = twice (pures_plain U n p s.1 Δ k, nothing_given g)
+    operation_read g k Δ (is_build {i = i} {es = es} p) s h =
+        twice ((pures_plain U n p s.1 Δ (suc k), built_at k (scope_at n Δ i) (n.types i) es h.0 s.0), nothing_given g)
     operation_read g k Δ (is_call {f = f} p q) s h =
-        twice ((pure_plain n p s.1.0 Δ k, pure_plain n q s.1.1 Δ (after k (pure_of n Δ k f))), nothing_given g)
+        twice ((pure_plain U n p s.1.0 Δ k, pure_plain U n q s.1.1 Δ (after k (pure_of n Δ k f))), nothing_given g)
     operation_read g k Δ (is_quotient {a = a} p q) s h =
-        twice ((pure_plain n p s.1.0 Δ k, pure_plain n q s.1.1 Δ (after k (pure_of n Δ k a))), nothing_given g)
+        twice ((pure_plain U n p s.1.0 Δ k, pure_plain U n q s.1.1 Δ (after k (pure_of n Δ k a))), nothing_given g)
     operation_read g k Δ (is_remainder {a = a} p q) s h =
-        twice ((pure_plain n p s.1.0 Δ k, pure_plain n q s.1.1 Δ (after k (pure_of n Δ k a))), nothing_given g)
-    operation_read g k Δ (is_assert p) s h = twice (pure_plain n p s.1 Δ k, nothing_given g)
+        twice ((pure_plain U n p s.1.0 Δ k, pure_plain U n q s.1.1 Δ (after k (pure_of n Δ k a))), nothing_given g)
+    operation_read g k Δ (is_assert p) s h = twice (pure_plain U n p s.1 Δ k, nothing_given g)
     operation_read g k Δ (is_assert_false {i = i}) s h =
         twice (
-          template_at IsNameless k (scope_at n Δ i) [] (n.types i) h.0 (λ m. nameless_made D.constructors D.ordered m (scope_at n Δ i) (n.types i) s.0),
+          template_at (IsNameless U) k (scope_at n Δ i) [] (n.types i) h.0 (λ m. nameless_made U D.constructors D.ordered m (scope_at n Δ i) (n.types i) s.0)
+              (plain_nameless U (n.types i) s.0),
           nothing_given g,
         )
     operation_read g k Δ (is_make {i = i} {n = a} p q) s h =
@@ -341,31 +273,43 @@ module _ (D : Datatypes) (n : Annotation) (all : List Point) where
         let t = element_type (n.types i) in
         twice (
           (
-            pure_plain n p s.1.0 Δ (suc k),
-            pure_plain n q s.1.1 Δ (after (suc k) A),
-            template_at IsNameless k (scope_at n Δ i) [] t h.0
-                (λ m. nameless_made D.constructors D.ordered m (scope_at n Δ i) t (element_scalar (n.types i) s.0)),
+            pure_plain U n p s.1.0 Δ (suc k),
+            pure_plain U n q s.1.1 Δ (after (suc k) A),
+            template_at (IsNameless U) k (scope_at n Δ i) [] t h.0
+                (λ m. nameless_made U D.constructors D.ordered m (scope_at n Δ i) t (element_scalar U (n.types i) s.0))
+                (plain_nameless U t (element_scalar U (n.types i) s.0)),
           ),
           nothing_given g,
         )
     operation_read g k Δ (is_fetch {a = a} p q) s h =
-        twice ((variable_plain n p s.1.0 Δ k, pure_plain n q s.1.1 Δ (after k (variable_of n Δ k a))), nothing_given g)
+        twice ((variable_plain U n p s.1.0 Δ k, pure_plain U n q s.1.1 Δ (after k (variable_of n Δ k a))), nothing_given g)
     operation_read g k Δ (is_store {a = a} {n = b} p q r) s h =
         let A = variable_of n Δ k a in
         let B = pure_of n Δ (after k A) b in
         twice
-        ((variable_plain n p s.1.0 Δ k, pure_plain n q s.1.1 Δ (after k A), pure_plain n r s.1.2 Δ (after (after k A) B)), nothing_given g)
-    operation_read g k Δ (is_print p) s h = twice (pure_plain n p s.1 Δ k, nothing_given g)
-    operation_read g k Δ (is_read p) s h = twice (pure_plain n p s.1 Δ k, nothing_given g)
+        ((variable_plain U n p s.1.0 Δ k, pure_plain U n q s.1.1 Δ (after k A), pure_plain U n r s.1.2 Δ (after (after k A) B)), nothing_given g)
+    operation_read g k Δ (is_print p) s h = twice (pure_plain U n p s.1 Δ k, nothing_given g)
+    operation_read g k Δ (is_read p) s h = twice (pure_plain U n p s.1 Δ k, nothing_given g)
+
+    arms_read : (k : ℕ) (Δ : List Seen) (qs : List t.Pattern) {cs : Cases} → AreArms cs → AreScalarCases U n cs → Made k (arms_of n k Δ qs cs).points
+        → AreArmsWritten U P (arms_of n k Δ qs cs).read
+    arms_read k Δ qs no_arms s h = tt
+    arms_read k Δ qs (more_arms {q = q} {b = b} {cs = cs} f r z) s h =
+        let p = reading.pattern_of q in
+        let Θ = all_seen (names_of p) Δ in
+        let B = block_of n true k Θ b in
+        let rest = arms_of n (after k B) Δ (qs ++ p ∷ []) cs in
+        let both = made_arm D (P.type_arguments) (is_checked qs p) k B.points rest.points h in
+        (block_read true k Θ r s.0 both.0, arms_read (after k B) Δ (qs ++ p ∷ []) z s.1 both.1)
 
   -- ---- definitions
 
   -- what is behind an item is written so
   abbrev RestRead : (ℕ → List Seen → Read t.Program) → Type 0
-  RestRead rest = (k : ℕ) (Δ : List Seen) → Made k (rest k Δ).points → IsWritten P (rest k Δ).read
+  RestRead rest = (k : ℕ) (Δ : List Seen) → Made k (rest k Δ).points → IsWritten U P (rest k Δ).read
 
-  name_read : (k : ℕ) (Δ : List Seen) (l : Place) (x : ℕ) {e : Tree} → IsBlock e → IsScalarTree n e → (rest : ℕ → List Seen → Read t.Program)
-      → RestRead rest → Made k (defined n k Δ l x e rest).points → IsWritten P (defined n k Δ l x e rest).read
+  name_read : (k : ℕ) (Δ : List Seen) (l : Place) (x : ℕ) {e : Tree} → IsBlock e → IsScalarTree U n e → (rest : ℕ → List Seen → Read t.Program)
+      → RestRead rest → Made k (defined n k Δ l x e rest).points → IsWritten U P (defined n k Δ l x e rest).read
   name_read k Δ l x {e} b s rest r h =
       let B : Read t.Block = block_of n false k Δ e in
       let own : List Point = own_point n (has_template B.read) (whole (scope_at n Δ (number_of e)) [] (n.names x)) in (
@@ -373,8 +317,8 @@ module _ (D : Datatypes) (n : Annotation) (all : List Point) where
         r (after k B + length own) (seen x ∷ Δ) (back (after k B) own _ (back k B.points _ h)),
       )
 
-  item_read : (k : ℕ) (Δ : List Seen) {i : ItemForm} → IsItem i → IsScalarItem n i → (rest : ℕ → List Seen → Read t.Program) → RestRead rest
-      → Made k (item n k Δ i rest).points → IsWritten P (item n k Δ i rest).read
+  item_read : (k : ℕ) (Δ : List Seen) {i : ItemForm} → IsItem i → IsScalarItem U n i → (rest : ℕ → List Seen → Read t.Program) → RestRead rest
+      → Made k (item n k Δ i rest).points → IsWritten U P (item n k Δ i rest).read
   item_read k Δ item_type s rest r h = r k Δ h
   item_read k Δ (item_name {l = l} {x = x} {e = e} b) s rest r h = name_read k Δ l x b s rest r h
   item_read k Δ (item_any {e = e} b) s rest r h =
@@ -387,16 +331,17 @@ module _ (D : Datatypes) (n : Annotation) (all : List Point) where
       let Θ : List Seen = seen f ∷ Δ in
       let y : ℕ = reading.parameter_of z.parameter in
       let B : Read t.Block = block_of n true (suc k) (seen y ∷ Θ) z.body in (
-        template_at (IsFunctionFor y B.read) k (scope_at n Θ z.id) (argument_name n y ∷ written_names n z.body) (n.names f) h.0
-            (λ m. function_made D.constructors D.ordered n b y (suc k) (seen y ∷ Θ) m (scope_at n Θ z.id) (n.names f) s.0),
+        template_at (IsFunctionFor U y B.read) k (scope_at n Θ z.id) (argument_name n y ∷ written_names n z.body) (n.names f) h.0
+            (λ m. function_made U D.constructors D.ordered n b y (suc k) (seen y ∷ Θ) m (scope_at n Θ z.id) (n.names f) s.0)
+            (plain_function y B.read (n.names f) s.0),
         block_read true (suc k) (seen y ∷ Θ) b s.1 (front (suc k) B.points _ h.1),
         r (after (suc k) B) Θ (back (suc k) B.points _ h.1),
       )
 
-  items_read : (is : List ItemTree) → AreNormal is → IsScalarProgram n is → RestRead (λ k Δ. program_from n k Δ is)
+  items_read : (is : List ItemTree) → AreNormal is → IsScalarProgram U n is → RestRead (λ k Δ. program_from n k Δ is)
   items_read [] m s k Δ h = tt
   items_read (i ∷ is) m s k Δ h = item_read k Δ m.0 s.0 (λ j Θ. program_from n j Θ is) (items_read is m.1 s.1) h
 
 pub templates_written : TemplatesAreWritten
-templates_written D n is m s =
-    let ps : List Point = (program_of n is).points in items_read D n ps is m s 0 [] (all_made D 0 ps)
+templates_written D U n is m s =
+    let ps : List Point = (program_of n is).points in items_read U D n ps is m s 0 [] (all_made D 0 ps)

@@ -1,25 +1,32 @@
 // Laws of the definitions. Nothing is run.
 ghost use Rattle.lq_scalar.specs.Example.{ExampleIsScalar};
+ghost use Rattle.lq_scalar.specs.ListExample.{ListExampleIsScalar};
 ghost use Rattle.lq_scalar.specs.Laws.{ScalarNormalFormsArePlain, ScalarProgramsArePlain, TemplatesAreWritten};
 
+use lq_checks::simple_types_are_given;
 use lq_in_scope::{scopes_are_of_unknowns, templates_are_in_scope, types_over_names_are_over_them};
 use lq_names_kept::names_are_kept;
 use lq_plain_scope::recursions_are_over_environments;
 use lq_points::templates_are_of_points;
 use lq_read::what_is_read_is_typed;
+use lq_sorted_matrices::{arguments_lack_fields, matrices_are_sorted};
 
 /// What is read of a scalar program has scalar forms, and templates that name arguments of functions that are written there alone.
 pub fn templates_are_written()
     ensures { TemplatesAreWritten }
 {}
 
-/// A simply typed program with scalar forms and templates that are written so is plain, where it is ready and in scope, and its binders differ.
+/// A simply typed program with scalar forms and templates that are written so is plain, where it is ready and in scope, its binders differ, and
+/// its datatypes are scalar, with measures that are known.
 pub fn scalar_programs_are_plain()
     ensures { ScalarProgramsArePlain }
 {
     types_over_names_are_over_them();
     names_are_kept();
     recursions_are_over_environments();
+    simple_types_are_given();
+    matrices_are_sorted();
+    arguments_lack_fields();
 }
 
 /// So is what is read of a scalar program in normal form that obeys the rules of types, is ready, and whose binders differ.
@@ -37,4 +44,9 @@ pub fn scalar_normal_forms_are_plain()
 /// A recursive function that goes along an array, with a use of it in a tuple that is taken apart, is a scalar program.
 pub fn an_example_is_scalar()
     ensures { ExampleIsScalar }
+{}
+
+/// A recursive function that takes a list apart, with a use of it on `1 :: []`, is a scalar program over lists.
+pub fn an_example_with_lists_is_scalar()
+    ensures { ListExampleIsScalar }
 {}

@@ -4,6 +4,8 @@ use Rattle.std.proofs.Math.Logic.{∥∥₁_elim, ∥∥₁_map}
 use Rattle.lq_annotated.specs.Whole.{program_of}
 use Rattle.lq_checks.specs.Binders.{AllDiffer, binders}
 use Rattle.lq_checks.specs.Tree.{Program}
+use Rattle.lq_declared.specs.Equations.{place_in}
+use Rattle.lq_fields.specs.Fields.{KnowsMeasures}
 use Rattle.lq_inhabits.specs.Truth.{Objects}
 use Rattle.lq_instantiated.specs.declared.instantiated.Instantiated.{Instantiated}
 use Rattle.lq_model.specs.FromTree.{items_of}
@@ -19,15 +21,16 @@ use Rattle.lq_points.specs.Pure.{Read}
 use Rattle.lq_points.specs.Reading as reading
 use Rattle.lq_points.specs.Templates.{Datatypes}
 use Rattle.lq_problem.specs.Posed.{datatypes_of, read_of}
-use Rattle.lq_pures.specs.Pures.{KnowsLengths}
 use Rattle.lq_read.specs.Normal.{AreNormal}
 use Rattle.lq_read_binders.specs.Laws.{BindersOfNormalFormsDiffer}
-use Rattle.lq_safe.specs.Example.{objects_by_length}
 use Rattle.lq_safe.specs.Programs.{no_symbols}
+use Rattle.lq_scalar.specs.Data.{HasDatatypes}
 use Rattle.lq_scalar.specs.Laws.{ScalarNormalFormsArePlain}
+use Rattle.lq_scenes.specs.Scenes.{MeasuresAreKnown}
 use Rattle.lq_scoped.specs.Scoping.{Scoping}
 use Rattle.lq_scoped.specs.Signature.{signature_in}
 use Rattle.lq_sorted.specs.Sorted.{Measure}
+use Rattle.lq_text_measures.specs.Laws.{AreMeasuresOf, IsOver, TextMeasuresFit}
 use Rattle.lq_text_ready.specs.Laws.{IsOfText, IsReadTyped, NotedTextsAreReady, NotedTextsAreTyped}
 use Rattle.lq_text_safe.specs.Safety.{basis_in, normal_in, CheckedTextsAreSafe}
 use Rattle.lq_text_safe.proofs.Outcomes.{safe_prop}
@@ -43,9 +46,15 @@ pub record Laws : Type 1 where
   pub differ : BindersOfNormalFormsDiffer
   pub one_pass : ProgramsAreOnePass
   pub scalar : ScalarNormalFormsArePlain
+  pub fit : TextMeasuresFit
+
+-- a program's basis is over its datatypes and the measures
+is_over : (s : Scoping) (ms : List Measure) (n : Annotation) → IsOver (basis_in s ms n) s.datatypes ms
+is_over s ms n = record { constructors = λ c. refl; ordered = λ d. refl; equations = λ c. refl }
 
 module _ (L : Laws) (i : Instantiated) (n : Annotation) (ms : List Measure) (A : Assignment) (O : Objects) (t : IsOfText (program_of i.annotated))
-    (knows : Knows i n) (scalar : IsScalarText (program_of i.annotated) n) (sorted : IsSortedIn (program_of i.annotated) ms n A) where
+    (knows : Knows i n) (scalar : IsScalarText (program_of i.annotated) n) (sorted : IsSortedIn (program_of i.annotated) ms n A)
+    (measures : AreMeasuresOf (program_of i.annotated).datatypes ms) (known : KnowsMeasures (basis_in (program_of i.annotated) ms n) O) where
   abbrev s : Scoping
   s = program_of i.annotated
 
@@ -69,18 +78,24 @@ module _ (L : Laws) (i : Instantiated) (n : Annotation) (ms : List Measure) (A :
       subst (λ js. AllDiffer (binders (reading.program_of n js).read)) (sym one)
       (L.differ s scoped (L.plain s scoped items_written) (subst AreNormal one normal) n)
 
+  has_datatypes : HasDatatypes scalar.used (basis_in s ms n) O
+  has_datatypes =
+      let fit = L.fit (basis_in s ms n) s.datatypes ms (is_over s ms n) measures in
+      record { scalar = scalar.datatypes; listed = fit.2; equations = fit.1; measures = known }
+
   plain_there : IsReadTyped (signature_in s.datatypes) n is → IsPlainProgram (basis_in s ms n) A O no_symbols [] (read_of n is)
   plain_there r =
-      L.scalar D n r.by is A O r.same r.normal r.obeys r.uses scalar.scalar sorted (L.ready i n D t refl knows) (binders_differ r.normal) scalar.few
+      L.scalar D scalar.used n r.by is A O r.same r.normal r.obeys r.uses scalar.scalar has_datatypes sorted (L.ready i n D t refl knows)
+      (binders_differ r.normal) scalar.few
 
 pub scalar_plain : Laws → ScalarTextsArePlain
-scalar_plain L i n ms A O t knows scalar sorted = ∥∥₁_map (L.typed i n t knows) (plain_there L i n ms A O t knows scalar sorted)
+scalar_plain L i n ms A O t knows scalar sorted measures known =
+    ∥∥₁_map (L.typed i n t knows) (plain_there L i n ms A O t knows scalar sorted measures known)
 
-lengths_known : KnowsLengths objects_by_length
-lengths_known r k = refl
-
-pub scalar_safe : ScalarTextsArePlain → CheckedTextsAreSafe → ScalarTextsAreSafe
-scalar_safe plain checked i n ms A t knows scalar sorted covariant solved =
+pub scalar_safe : ScalarTextsArePlain → CheckedTextsAreSafe → TextMeasuresFit → MeasuresAreKnown → ScalarTextsAreSafe
+scalar_safe plain checked fit know i n ms A t knows scalar sorted measures covariant solved =
     let s = program_of i.annotated in
-    ∥∥₁_elim (plain i n ms A objects_by_length t knows scalar sorted) (safe_prop (items_of s.items))
-    (λ there. checked i n ms A objects_by_length t knows covariant solved lengths_known there)
+    let P = basis_in s ms n in
+    let own = know P ms (place_in s.datatypes) (fit P s.datatypes ms (is_over s ms n) measures).0 in
+    ∥∥₁_elim (plain i n ms A own.objects t knows scalar sorted measures own.measures) (safe_prop (items_of s.items))
+    (λ there. checked i n ms A own.objects t knows covariant solved own.lengths there)

@@ -1,6 +1,7 @@
 -- A scalar text is plain, and safe where its implications are valid.
 use Rattle.std.specs.Prelude.{List, []}
 use Rattle.lq_annotated.specs.Whole.{program_of}
+use Rattle.lq_fields.specs.Fields.{KnowsMeasures}
 use Rattle.lq_inhabits.specs.Datatypes.{AreCovariant}
 use Rattle.lq_inhabits.specs.Truth.{Objects}
 use Rattle.lq_in_scope.specs.Over.{AreSorted, unknown_in}
@@ -14,6 +15,7 @@ use Rattle.lq_safe.specs.Programs.{no_symbols}
 use Rattle.lq_scoped.specs.Scoping.{Scoping}
 use Rattle.lq_scoped.specs.Signature.{signature_in}
 use Rattle.lq_sorted.specs.Sorted.{Measure}
+use Rattle.lq_text_measures.specs.Laws.{AreMeasuresOf}
 use Rattle.lq_text_ready.specs.Laws.{IsOfText}
 use Rattle.lq_text_safe.specs.Safety.{basis_in, normal_in, IsSafe, IsSolvedBy}
 use Rattle.lq_scalar_texts.specs.Scalar.{IsScalarText}
@@ -22,13 +24,16 @@ use Rattle.lq_scalar_texts.specs.Scalar.{IsScalarText}
 abbrev pub IsSortedIn : Scoping → List Measure → Annotation → Assignment → Type 0
 IsSortedIn s ms n A = AreSorted (unknown_in (unknowns_for s.datatypes ms n (normal_in s))) A
 
--- What is read of a typed scalar program of a text is merely plain, under such an assignment.
+-- What is read of a typed scalar program of a text is merely plain, under such an assignment, with the measures of a text of which nothing is
+-- complained, and over objects that know them.
 abbrev pub ScalarTextsArePlain : Type 0
 ScalarTextsArePlain = (i : Instantiated) (n : Annotation) (ms : List Measure) (A : Assignment) (O : Objects) → let s = program_of i.annotated in IsOfText s
-    → Knows i n → IsScalarText s n → IsSortedIn s ms n A → ∥ IsPlainProgram (basis_in s ms n) A O no_symbols [] (read_of n (normal_in s)) ∥₁
+    → Knows i n → IsScalarText s n → IsSortedIn s ms n A → AreMeasuresOf s.datatypes ms → KnowsMeasures (basis_in s ms n) O
+    → ∥ IsPlainProgram (basis_in s ms n) A O no_symbols [] (read_of n (normal_in s)) ∥₁
 
 -- It is safe where the assignment makes all its implications valid, and in its type definitions no parameter stands left of an arrow or under
 -- `array`.
 abbrev pub ScalarTextsAreSafe : Type 0
 ScalarTextsAreSafe = (i : Instantiated) (n : Annotation) (ms : List Measure) (A : Assignment) → let s = program_of i.annotated in IsOfText s → Knows i n
-    → IsScalarText s n → IsSortedIn s ms n A → AreCovariant (signature_in s.datatypes) → IsSolvedBy s ms n A → IsSafe s.items
+    → IsScalarText s n → IsSortedIn s ms n A → AreMeasuresOf s.datatypes ms → AreCovariant (signature_in s.datatypes) → IsSolvedBy s ms n A
+    → IsSafe s.items

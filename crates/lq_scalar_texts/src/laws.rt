@@ -6,6 +6,8 @@ use lq_normal_types::scoped_programs_are_plain;
 use lq_normalize::programs_are_one_pass;
 use lq_read_binders::binders_of_normal_forms_differ;
 use lq_scalar::scalar_normal_forms_are_plain;
+use lq_scenes::measures_are_known;
+use lq_text_measures::text_measures_fit;
 use lq_text_ready::{noted_texts_are_ready, noted_texts_are_typed};
 use lq_text_safe::checked_texts_are_safe;
 
@@ -20,6 +22,7 @@ pub fn scalar_texts_are_plain()
     binders_of_normal_forms_differ();
     programs_are_one_pass();
     scalar_normal_forms_are_plain();
+    text_measures_fit();
 }
 
 /// A scalar program of a text is safe where such an assignment makes all of its implications valid.
@@ -28,4 +31,6 @@ pub fn scalar_texts_are_safe()
 {
     scalar_texts_are_plain();
     checked_texts_are_safe();
+    text_measures_fit();
+    measures_are_known();
 }

@@ -11,4 +11,5 @@ returns c =
       differ = c.binders_of_normal_forms_differ.ensures;
       one_pass = c.programs_are_one_pass.ensures;
       scalar = c.scalar_normal_forms_are_plain.ensures;
+      fit = c.text_measures_fit.ensures;
     })

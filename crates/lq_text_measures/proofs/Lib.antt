@@ -1,0 +1,6 @@
+-- Lemmas.
+mod Lists
+mod Names
+mod Places
+mod Terms
+mod Fitting

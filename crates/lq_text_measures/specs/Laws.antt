@@ -1,0 +1,33 @@
+-- The measures of a text with which nothing is wrong, and what follows for a program over its datatypes.
+use Rattle.std.specs.Prelude.{◌≡◌, ℕ, List, []}
+use Rattle.lq_checks.specs.Basis.{Basis}
+use Rattle.lq_declared.specs.Equations.{place_in}
+use Rattle.lq_fresh.specs.Defined.{ordered_in}
+use Rattle.lq_safe.specs.Scoped.{ListsConstructors}
+use Rattle.lq_scalar.specs.Data.{AreEquationsSorted}
+use Rattle.lq_scenes.specs.Scenes.{HasMeasures, equations_at}
+use Rattle.lq_scoped.specs.Signature.{DataTree, signature_in}
+use Rattle.lq_sorted.specs.Making.{measures_made}
+use Rattle.lq_sorted.specs.Sorted.{Measure}
+use Rattle.lq_sorts.specs.Equations.{of_measures}
+use Rattle.lq_tree.specs.MeasureTrees.{MeasureTree}
+
+-- what is made of the measures of a text of which nothing is complained, where these datatypes are defined
+pub record AreMeasuresOf (ds : List DataTree) (ms : List Measure) : Type 0 where
+  pub names : List (List ℕ)
+  pub trees : List MeasureTree
+  pub none : of_measures names ds trees ≡ []
+  pub made : ms ≡ measures_made ds trees
+
+-- a program is checked over the predeclared datatypes and these, with the equations of these measures
+pub record IsOver (P : Basis) (ds : List DataTree) (ms : List Measure) : Type 0 where
+  pub constructors : (c : ℕ) → P.setting.constructors c ≡ signature_in ds c
+  pub ordered : (d : ℕ) → P.constructors_of d ≡ ordered_in ds d
+  pub equations : (c : ℕ) → P.equations c ≡ equations_at ms (place_in ds) c (signature_in ds c)
+
+-- Its measures have different names and ask of no field past the last one, its equations speak of v and of fields at their sorts, and all
+-- constructors are listed.
+abbrev pub TextMeasuresFit : Type 0
+TextMeasuresFit =
+    (P : Basis) (ds : List DataTree) (ms : List Measure) → IsOver P ds ms → AreMeasuresOf ds ms
+    → HasMeasures P ms (place_in ds) × AreEquationsSorted P × ListsConstructors P

@@ -1,0 +1,2 @@
+-- The measures of a text: definitions and a law.
+pub mod Laws

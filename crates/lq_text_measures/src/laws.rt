@@ -1,0 +1,12 @@
+// What holds of the definitions. Nothing is run.
+ghost use Rattle.lq_text_measures.specs.Laws.{TextMeasuresFit};
+
+use lq_sorted::measures_become;
+
+/// Where nothing is complained of the measures of a text, these have different names and ask of no field past the last one, their equations
+/// speak of `v` and of fields at their sorts, and all constructors are listed.
+pub fn text_measures_fit()
+    ensures { TextMeasuresFit }
+{
+    measures_become();
+}
