@@ -24,16 +24,17 @@ use Rattle.lq_scalar_texts.specs.Scalar.{IsScalarText}
 use Rattle.lq_sorted_instances.specs.Laws.{InstancesAreSorted, QualifiersAreSorted}
 use Rattle.lq_straight_texts.specs.Laws.{StraightTextsAreSafe}
 use Rattle.lq_straight_texts.specs.Straight.{AreStraight}
+use Rattle.lq_text_measures.specs.Laws.{AreMeasuresOf}
 use Rattle.lq_text_ready.specs.Laws.{IsOfText}
 use Rattle.lq_text_safe.specs.Instances.{InstancesAreScoped}
 use Rattle.lq_text_safe.specs.Safety as texts
 use Rattle.lq_text_safe.specs.Safety.{CheckedTextsAreSafe, IsSafe, IsSolvedBy}
-use Rattle.lq_weaken.specs.Stops.{StopsSolving}
+use Rattle.lq_weaken.specs.Stops.{StopsSolving, StopsUnder}
 use Rattle.lq_weakening.specs.declared.error.SolveError.TheVariants.{At}
 use Rattle.lq_judge.specs.Agreeing.{IsOfProver}
 use Rattle.lq_verdict.specs.Judgement.{IsAccepted, instances_of}
 use Rattle.lq_judge.specs.Safety.{IsNotedOf, IsSafeIfPlain, IsSafeIfScalar, IsSafeIfStraight, SmallAreDecided}
-use Rattle.lq_judge.proofs.Texts.{named_text, of_text, sorted_qualifiers}
+use Rattle.lq_judge.proofs.Texts.{measures_text, named_text, of_text, sorted_qualifiers}
 
 pub record Laws : Type 1 where
   pub known : NotedAreKnown
@@ -77,6 +78,9 @@ module _ (laws : Laws) (m : Noted) (b : Bytes) (t : Typed) (types : List ℕ) (n
       subst (λ (s : Scoping). AreCovariant (signature_in s.datatypes)) (sym noted.program)
       (subst (λ ds. AreCovariant (signature_in ds)) (sym named.datatypes) all)
 
+  measures_there : AreMeasuresOf there.datatypes t.bound.texts.measures
+  measures_there = subst (λ (s : Scoping). AreMeasuresOf s.datatypes t.bound.texts.measures) (sym noted.program) (measures_text b t posed)
+
   safe_straight : IsSafeIfStraight t
   safe_straight straight =
       subst (λ (s : Scoping). IsSafe s.items) noted.program
@@ -107,8 +111,8 @@ module _ (laws : Laws) (m : Noted) (b : Bytes) (t : Typed) (types : List ℕ) (n
       let scalar_there : ScalarBy there (annotation_of m) = subst (λ (s : Scoping). ScalarBy s (annotation_of m)) (sym noted.program)
       (subst (λ (n : Annotation). ScalarBy (program_in t) n) (sym noted.annotation) (scalar, sorted)) in
       subst (λ (s : Scoping). IsSafe s.items) noted.program
-      (laws.scalar m.program (annotation_of m) t.bound.texts.measures assignment text_there (laws.known m) scalar_there.0 scalar_there.1 covariant_there
-      solved_there)
+      (laws.scalar m.program (annotation_of m) t.bound.texts.measures assignment text_there (laws.known m) scalar_there.0 scalar_there.1 measures_there
+      covariant_there solved_there)
 
   pub safe : IsSafeIfStraight t × IsSafeIfPlain t is.solution × IsSafeIfScalar t
   safe = (safe_straight, safe_plain, safe_scalar)
@@ -116,8 +120,11 @@ module _ (laws : Laws) (m : Noted) (b : Bytes) (t : Typed) (types : List ℕ) (n
 pub decided : SmallAreDecided
 decided limit t cause is small prover = by_stop is.stop is.stops prover
   where
+    stopped : (s : Stop) → StopsUnder limit (instances_of t) (constraints_in t) is.at s → ⊥
+    stopped s u = u.beyond (small is.at u.constraint u.here)
+
     by_stop : (s : Stop) → StopsSolving limit (instances_of t) (constraints_in t) (At is.at s) → IsOfProver s → ⊥
-    by_stop (Number e) stops p = stops.1.large (small stops.1.selection is.at stops.1.constraint stops.1.here)
-    by_stop (Pivots n) stops p = stops.1.large (small stops.1.selection is.at stops.1.constraint stops.1.here)
+    by_stop (Number e) stops p = stopped (Number e) stops.1
+    by_stop (Pivots n) stops p = stopped (Pivots n) stops.1
     by_stop (Gather q) stops p = p
     by_stop MemoryStop stops p = p

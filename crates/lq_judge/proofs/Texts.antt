@@ -8,6 +8,9 @@ use Rattle.lq_scope.specs.Uses.{of_program}
 use Rattle.lq_scoped.specs.Scoping.{Scoping}
 use Rattle.lq_sorted_instances.specs.Laws.{QualifiersAreSorted}
 use Rattle.lq_sorted_instances.specs.Sorts.{AreSortedQualifiers}
+use Rattle.lq_sorted.specs.Making.{measures_made}
+use Rattle.lq_sorts.specs.Equations.{of_measures}
+use Rattle.lq_text_measures.specs.Laws.{AreMeasuresOf}
 use Rattle.lq_text_ready.specs.Laws.{IsOfText}
 use Rattle.lq_tree.specs.Items.{ItemTree}
 
@@ -55,6 +58,23 @@ named_text bytes t posed =
       datatypes = ap (λ x. x.program.datatypes) resolved.3;
     } in
     subst (λ (b : Bound). IsNamed b.texts.program) (sym bound ∙ sym (ap (λ x. x.bound) same)) there
+
+-- the measures are those of a text of which nothing is complained
+pub measures_text : (bytes : Bytes) (t : Typed) → PosesTo bytes (Ok t) → AreMeasuresOf (program_in t).datatypes t.bound.texts.measures
+measures_text bytes t posed =
+    let typed = posed.1 in
+    let same : t ≡ posed.0 = posed.2.0 in
+    let bound : posed.0.bound ≡ typed.0 = typed.2.0 in
+    let r = typed.0.read in
+    let resolved = typed.1.2.1 in
+    let ds : typed.0.texts.program.datatypes ≡ datatypes_in r.items = ap (λ x. x.program.datatypes) resolved.3 in
+    let there : AreMeasuresOf typed.0.texts.program.datatypes typed.0.texts.measures = record {
+      names = r.names;
+      trees = r.measures;
+      none = ap (λ l. of_measures r.names l r.measures) ds ∙ resolved.1;
+      made = ap (λ x. x.measures) resolved.3 ∙ sym (ap (λ l. measures_made l r.measures) ds);
+    } in
+    subst (λ (b : Bound). AreMeasuresOf b.texts.program.datatypes b.texts.measures) (sym bound ∙ sym (ap (λ x. x.bound) same)) there
 
 -- the qualifiers are sorted
 pub sorted_qualifiers : QualifiersAreSorted → (bytes : Bytes) (t : Typed) → PosesTo bytes (Ok t) → AreSortedQualifiers t.bound.texts.qualifiers

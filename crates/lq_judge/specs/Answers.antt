@@ -5,7 +5,7 @@ use Rattle.lq_posed_texts.specs.Stages.{PosesTo, Typed}
 use Rattle.lq_judge.specs.Agreeing.{Agree, IsOfProver, IsStopped}
 use Rattle.lq_verdict.specs.Counting.{HasCounts}
 use Rattle.lq_verdict.specs.Judgement.{IsJudgement, IsUndecided, IsVerdictOn}
-use Rattle.lq_judge.specs.Safety.{AreSmall, IsSafelyAccepted}
+use Rattle.lq_judge.specs.Safety.{AreDecidable, IsSafelyAccepted}
 use Rattle.lq_verdict.specs.declared.judgement.Judged.{Judged}
 use Rattle.lq_verdict.specs.declared.judgement.Judgement.{Judgement}
 use Rattle.lq_verdict.specs.declared.judgement.Judgement.TheVariants.{Accepted, Rejected, Undecided}
@@ -37,10 +37,10 @@ IfUndecided (Undecided cause) P = P cause
 abbrev pub IsSafe : Bytes → Judgement → Type 0
 IsSafe b j = IfAccepted j (IsSafelyAccepted b)
 
--- where all implications are of differences and small, the prover didn't stop
+-- where all implications are of differences and small, or solvable, the prover didn't stop
 abbrev pub IsByGathering : ℕ → Bytes → List ℕ → Type 0
 IsByGathering limit b cause =
-    (t : Typed) × PosesTo b (Ok t) × ((is : IsUndecided limit t cause) × (AreSmall t → IsOfProver is.stop → ⊥))
+    (t : Typed) × PosesTo b (Ok t) × ((is : IsUndecided limit t cause) × (AreDecidable limit t → IsOfProver is.stop → ⊥))
 
 abbrev pub IsDecided : ℕ → Bytes → Judgement → Type 0
 IsDecided limit b j = IfUndecided j (IsByGathering limit b)

@@ -9,13 +9,13 @@ use Rattle.lq_parts.specs.Constraint.{Constraint}
 use Rattle.lq_parts.specs.Flowing.{Selection, assigned}
 use Rattle.lq_plain.specs.Plain.{IsPlainProgram}
 use Rattle.lq_posed_texts.specs.Stages.{PosesTo, Typed, basis_in, constraints_in, program_in, read_in}
-use Rattle.lq_prove.specs.Stopping.{IsSmallDifference}
 use Rattle.lq_pures.specs.Pures.{KnowsLengths}
 use Rattle.lq_questions.specs.Assigned.{closed_under}
 use Rattle.lq_safe.specs.Programs.{no_symbols}
 use Rattle.lq_scalar_texts.specs.Scalar.{IsScalarText}
 use Rattle.lq_straight_texts.specs.Straight.{AreStraight}
 use Rattle.lq_text_safe.specs.Safety.{IsSafe}
+use Rattle.lq_weaken.specs.Deciding.{IsDecidable}
 use Rattle.lq_judge.specs.Agreeing.{IsOfProver}
 use Rattle.lq_verdict.specs.Judgement.{IsAccepted, IsUndecided, instances_of}
 
@@ -52,12 +52,12 @@ AcceptedAreSafe =
 
 -- ---- the prover
 
--- under any instances each implication is of differences, with sizes that are small
-abbrev pub AreSmall : Typed → Type 0
-AreSmall t =
-    (c : Selection) (at : ℕ) (k : Constraint) → slice_get (constraints_in t) at ≡ Some k
-    → IsSmallDifference (closed_under (assigned (instances_of t) c) k)
+-- with all instances in place each implication is of differences with sizes that are small, or its sizes are so small that no number is past
+-- 128 bits, and the limit on pivots is enough
+abbrev pub AreDecidable : ℕ → Typed → Type 0
+AreDecidable limit t =
+    (at : ℕ) (k : Constraint) → slice_get (constraints_in t) at ≡ Some k → IsDecidable limit (closed_under (instances_of t) k)
 
 -- then the prover stops on none
 abbrev pub SmallAreDecided : Type 0
-SmallAreDecided = (limit : ℕ) (t : Typed) (cause : List ℕ) (is : IsUndecided limit t cause) → AreSmall t → IsOfProver is.stop → ⊥
+SmallAreDecided = (limit : ℕ) (t : Typed) (cause : List ℕ) (is : IsUndecided limit t cause) → AreDecidable limit t → IsOfProver is.stop → ⊥

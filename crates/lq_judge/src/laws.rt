@@ -37,7 +37,8 @@ pub fn accepted_are_safe()
     named_programs_are_covariant();
 }
 
-/// Where all implications are of differences and their constants small, the prover stops on none.
+/// Where each implication, with all instances in place, is of differences and its constants small, or its sizes are small and the limit on
+/// pivots is enough, the prover stops on none.
 pub fn small_are_decided()
     ensures { SmallAreDecided }
 {}
