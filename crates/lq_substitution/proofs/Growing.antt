@@ -1,5 +1,5 @@
 -- Scopes that grow, and what is in them.
-use Rattle.std.proofs.Common.{◌≡◌, ℕ, zero, suc, ◌+◌, ◌-◌, ◌<◌, ◌≤◌, List, [], ◌∷◌, ◌++◌, All, filter, length, slice_get, slice_index_or, Option, Some, None, MatchOption, IfSome, Bool, true, false, not, ◌||◌, if◌then◌else◌, ◌⊎◌, inl, inr, refl, sym, ap, ap₂, subst, ◌∙◌, arith}
+use Rattle.std.proofs.Common.{◌≡◌, ℕ, zero, suc, ◌+◌, ◌-◌, ◌<◌, ◌≤◌, List, [], ◌∷◌, ◌++◌, length, slice_get, Option, Some, None, MatchOption, IfSome, Bool, true, false, not, ◌||◌, if◌then◌else◌, ◌⊎◌, inl, inr, refl, sym, ap, ap₂, subst, ◌∙◌, arith}
 use Rattle.std.proofs.lemmas.Bool.{eqb-true, eq-eqb}
 use Rattle.std.proofs.lemmas.List.{get_or_append_left, get_or_past, get_or_push, length-append}
 use Rattle.std.proofs.lemmas.List.Elements.{All-filter, All-head, All-push, All-tail}
@@ -13,7 +13,7 @@ use Rattle.lq_substitution.specs.declared.scopes.Entry.{Entry}
 abbrev Lists : Type 0
 Lists = List (List Symbol)
 
-same_symbol-is : (x y : Symbol) → same_symbol x y ≡ true → x ≡ y
+pub same_symbol-is : (x y : Symbol) → same_symbol x y ≡ true → x ≡ y
 same_symbol-is Value Value h = refl
 same_symbol-is (Bound x) (Bound y) h = ap (λ n. Bound (record { 0 = n })) (eqb-true x.0 y.0 h)
 same_symbol-is (Position i) (Position j) h = ap Position (eqb-true i j h)
@@ -73,7 +73,7 @@ grown-entry (x ∷ es) all (suc k) e h b =
     let i : length all + suc k ≡ length next + k = omega arith in
     ap (list_at (grown next es)) i ∙ grown-entry es next k e h (omega arith)
 
-within : (es : List Entry) (k : ℕ) (x : Entry) → slice_get es k ≡ Some x → k < length es
+pub within : (es : List Entry) (k : ℕ) (x : Entry) → slice_get es k ≡ Some x → k < length es
 within [] k x h = absurd (cc)
 within (y ∷ es) zero x h = omega arith
 within (y ∷ es) (suc k) x h = let r = within es k x h in omega arith
@@ -83,7 +83,7 @@ past [] k h = omega arith
 past (y ∷ es) zero h = absurd (cc)
 past (y ∷ es) (suc k) h = let r = past es k h in omega arith
 
-one_more : (es : List Entry) (e x : Entry) (k : ℕ) → slice_get (es ++ e ∷ []) k ≡ Some x → (slice_get es k ≡ Some x) ⊎ ((k ≡ length es) × (e ≡ x))
+pub one_more : (es : List Entry) (e x : Entry) (k : ℕ) → slice_get (es ++ e ∷ []) k ≡ Some x → (slice_get es k ≡ Some x) ⊎ ((k ≡ length es) × (e ≡ x))
 one_more [] e x zero h = inr (refl, cc)
 one_more [] e x (suc k) h = absurd (cc)
 one_more (y ∷ es) e x zero h = inl h
@@ -94,7 +94,7 @@ one_more (y ∷ es) e x (suc k) h = by (one_more es e x k h)
     by (inr p) = inr (ap suc p.0, p.1)
 
 -- a scope is there as soon as it was added
-early : (es : List Entry) (e : Entry) (i : ℕ) → i ≤ length es → list_at (grown ([] ∷ []) (es ++ e ∷ [])) i ≡ list_at (grown ([] ∷ []) es) i
+pub early : (es : List Entry) (e : Entry) (i : ℕ) → i ≤ length es → list_at (grown ([] ∷ []) (es ++ e ∷ [])) i ≡ list_at (grown ([] ∷ []) es) i
 early es e i h =
     let k = length-grown ([] ∷ []) es in
     let new = shown e (list_at (grown ([] ∷ []) es) e.parent) in
@@ -141,7 +141,7 @@ within-pushed false es fs e h below all p new = subst AreWithin (sym h) all
 
 -- ---- one scope by its number
 
-number-of : (at : ℕ) → ¬ (at ≡ 0) → at ≡ 1 + (at - 1)
+pub number-of : (at : ℕ) → ¬ (at ≡ 0) → at ≡ 1 + (at - 1)
 number-of zero z = absurd (z refl)
 number-of (suc at) z = omega arith
 

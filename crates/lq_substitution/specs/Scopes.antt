@@ -1,5 +1,6 @@
 -- Scopes of which each but the first, which is empty, names an earlier one: what it adds to that one's symbols, and what it hides of them.
-use Rattle.std.specs.Prelude.{◌≡◌, ℕ, ◌+◌, ◌≤◌, not, List, [], ◌∷◌, ◌++◌, All, filter, slice_get, slice_index_or, Option, Some, None}
+use Rattle.std.specs.Prelude.{◌≡◌, ℕ, ◌+◌, ◌<◌, ◌≤◌, not, List, [], ◌∷◌, ◌++◌, All, filter, slice_get, slice_index_or, Option, Some, None}
+use Rattle.lq_parts.specs.Substitution.{is_in}
 use Rattle.lq_pred.specs.Sum.{same_symbol}
 use Rattle.lq_pred.specs.declared.symbol.Symbol.{Symbol}
 use Rattle.lq_pred.specs.declared.symbol.Symbol.TheVariants.{Value, Bound, Position}
@@ -44,3 +45,12 @@ IsWithin n xs = All (λ y. rank y ≤ n) xs
 -- each scope keeps a number that is as high as those of its symbols
 abbrev pub AreWithin : List Entry → Type 0
 AreWithin es = (k : ℕ) (e : Entry) → slice_get es k ≡ Some e → IsWithin e.highest (shown e (list_at (grown ([] ∷ []) es) e.parent))
+
+-- they have the same symbols below this number
+abbrev pub AgreeBelow : ℕ → List Symbol → List Symbol → Type 0
+AgreeBelow n xs ys = (x : Symbol) → rank x < n → is_in xs x ≡ is_in ys x
+
+-- each scope keeps an earlier scope that has the same symbols below a number that it keeps too
+abbrev pub AreJumps : List Entry → Type 0
+AreJumps es = (k : ℕ) (e : Entry) → slice_get es k ≡ Some e
+    → (e.jump.to ≤ k) × AgreeBelow e.jump.lowest (shown e (list_at (grown ([] ∷ []) es) e.parent)) (list_at (grown ([] ∷ []) es) e.jump.to)

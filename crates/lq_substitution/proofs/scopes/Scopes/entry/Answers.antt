@@ -1,7 +1,7 @@
-use Rattle.std.proofs.Common.{◌≡◌, ◌∙◌, [], ◌∷◌, ap, arith}
-use Rattle.lq_substitution.specs.Scopes.{list_at}
+use Rattle.std.proofs.Common.{◌∙◌, [], ◌∷◌, ap, arith}
 use Rattle.lq_substitution.specs.Views.{scope_at}
 use Rattle.lq_substitution.proofs.Growing.{entry-is, entry-within, entry-earlier, grown-keeps}
+use Rattle.lq_substitution.proofs.Jumps.{entry-agrees, entry-outward}
 use Rattle.lq_substitution.proofs.scopes.Scopes.entry.Goals as goal
 
 pub returns-then-at-eq0-clause-symbols : goal.returns-then-at-eq0-clause-symbols
@@ -19,3 +19,11 @@ returns-clause-within c =
 pub returns-clause-earlier : goal.returns-clause-earlier
 returns-clause-earlier c =
     let self = c.args.self.now in entry-earlier self.entries.items c.args.at c.if-at-eq0.false self.parents c.added.result c.added.ensures
+
+pub returns-clause-outward : goal.returns-clause-outward
+returns-clause-outward c =
+    let self = c.args.self.now in entry-outward self.entries.items c.args.at c.if-at-eq0.false self.parents self.jumps c.added.result c.added.ensures
+
+pub returns-clause-agree : goal.returns-clause-agree
+returns-clause-agree c =
+    let self = c.args.self.now in entry-agrees self.entries.items c.args.at c.if-at-eq0.false self.parents self.jumps c.added.result c.added.ensures

@@ -1,4 +1,4 @@
-use Rattle.std.proofs.Common.{◌≡◌, ◌<◌, ◌∙◌, sym, subst}
+use Rattle.std.proofs.Common.{◌<◌, ◌∙◌, sym, subst}
 use Rattle.lq_substitution.specs.Scopes.{rank}
 use Rattle.lq_substitution.specs.Views.{scope_at}
 use Rattle.lq_substitution.proofs.Growing.{above}
