@@ -16,23 +16,21 @@ use Rattle.lq_model.specs.Operations.{World, gives, fetch_act}
 use Rattle.lq_model.specs.Step.{goes, in_left, in_right}
 use Rattle.lq_model.specs.StepFunction.{step}
 use Rattle.lq_inhabits.specs.Truth.{Givens, value_at, as_object, meaning_of, Scene}
-use Rattle.lq_inhabits.specs.Shut.{shut, Shuts}
+use Rattle.lq_inhabits.specs.Shut.{shut}
 use Rattle.lq_inhabits.specs.Inhabits.{Slot, Table, SameBelow, Inhabits, Agrees}
 use Rattle.lq_inhabits.specs.Runs.{RunsWell, LandsIn}
 use Rattle.lq_inhabits.proofs.Running.{runs_value, runs_step}
 use Rattle.lq_inhabits.proofs.Numbers.{same_at}
-use Rattle.lq_included.specs.Laws.{IsScene}
 use Rattle.lq_included.proofs.Truths as below
 use Rattle.lq_included.proofs.Truths.{implied_true}
-use Rattle.lq_runs.specs.Closed.{names_in, IsClosed}
-use Rattle.lq_runs.specs.Meets.{pairs, Meets}
+use Rattle.lq_runs.specs.Meets.{pairs, Variables, Meets}
 use Rattle.lq_runs.specs.Runs.{Exactly, RunsTo, RunsToNumber}
 use Rattle.lq_runs.proofs.Framing.{runs_in}
 use Rattle.lq_runs.proofs.Lower.{Lower}
-use Rattle.lq_runs.proofs.Meeting.{look, extends_self}
+use Rattle.lq_runs.proofs.Meeting.{extends_self}
 use Rattle.lq_pures.specs.Pures.{KnowsLengths}
 use Rattle.lq_pures.proofs.Pures.{runs_variable}
-use Rattle.lq_arrays.specs.Arrays.{index_in, IsArrayIn}
+use Rattle.lq_arrays.specs.Arrays.{index_in, IsArrayAt}
 use Rattle.lq_arrays.proofs.Lists.{get_within}
 
 abbrev pub predicates : Lower → below.Lower
@@ -44,7 +42,7 @@ in_bounds (pos k) n h = (k, refl, ltb-true k n (and_parts (not (ltb k 0)) (ltb k
 in_bounds (negsuc k) n h = absurd (cc)
 
 -- what is found at an index of the array of a variable: the array, its slot, its elements, and the element
-pub record Found (S : Scene) (by : Shuts) (n : ℕ) (W : Table) (σ : Givens) (w : World) (x : ℕ) (e : Refined) (i : ℤ) : Type 0 where
+pub record Found (S : Scene) (by : Variables) (n : ℕ) (W : Table) (σ : Givens) (w : World) (x : ℕ) (e : Refined) (i : ℤ) : Type 0 where
   pub reference : ℕ
   pub size : ℕ
   pub place : ℕ
@@ -56,10 +54,10 @@ pub record Found (S : Scene) (by : Shuts) (n : ℕ) (W : Table) (σ : Givens) (w
   pub has_slot : slice_get W reference ≡ Some slot
   pub has_row : slice_get w.arrays reference ≡ Some row
   pub has_element : slice_get row place ≡ Some element
-  pub kept : SameBelow S (suc n) W slot (shut σ by e)
+  pub kept : SameBelow S (suc n) W slot (shut σ by.types e)
 
-module _ (law : Lower) (S : Scene) (is : IsScene S) (lengths : KnowsLengths S.objects) (by : Shuts) (Γ : Context) (x : ℕ) (i : Sum) (e : Refined) (p : Parts) (closed : IsClosed S Γ) (named : names_in Γ (symbol_of x) ≡ true) (array : IsArrayIn Γ x e p) (demanded : Implied S.assignment (facts S.setting Γ) (known (index_in x i))) where
-  found_at : (n : ℕ) (W : Table) (σ : Givens) (w : World) → Agrees S n W w → (v : Value) → value_at σ (symbol_of x) ≡ Some v → Inhabits S (suc n) W (shut σ by (array_with e p)) v → truth_of (meaning_of S.objects σ) (index_in x i) ≡ true → Found S by n W σ w x e (term_value (meaning_of S.objects σ) i)
+module _ (law : Lower) (S : Scene) (lengths : KnowsLengths S.objects) (by : Variables) (Γ : Context) (x : ℕ) (i : Sum) (e : Refined) (p : Parts) (array : IsArrayAt S by Γ x e p) (demanded : Implied S.assignment (facts S.setting Γ) (known (index_in x i))) where
+  found_at : (n : ℕ) (W : Table) (σ : Givens) (w : World) → Agrees S n W w → (v : Value) → value_at σ (symbol_of x) ≡ Some v → Inhabits S (suc n) W (shut σ by.types (array_with e p)) v → truth_of (meaning_of S.objects σ) (index_in x i) ≡ true → Found S by n W σ w x e (term_value (meaning_of S.objects σ) i)
   found_at n W σ w ag (v_array r z) at h t =
       let size_is : S.objects.length (as_object S.objects (value_at σ (symbol_of x))) ≡ pos z = ap (λ o. S.objects.length (as_object S.objects o)) at ∙ lengths r z in
       let b = in_bounds (term_value (meaning_of S.objects σ) i) z (subst (λ l. not (lt_z (term_value (meaning_of S.objects σ) i) (pos 0)) && lt_z (term_value (meaning_of S.objects σ) i) l ≡ true) size_is t) in
@@ -71,8 +69,8 @@ module _ (law : Lower) (S : Scene) (is : IsScene S) (lengths : KnowsLengths S.ob
 
   pub found : (n : ℕ) (W : Table) (σ : Givens) (w : World) → Meets S by (suc n) W Γ σ → Agrees S n W w → Found S by n W σ w x e (term_value (meaning_of S.objects σ) i)
   found n W σ w m ag =
-      let l = look law S is by (suc n) W Γ σ closed m.named (symbol_of x) named in
-      found_at n W σ w ag l.value l.is (subst (λ t. Inhabits S (suc n) W (shut σ by t) l.value) array l.fits) (implied_true (predicates law) S σ (facts S.setting Γ) (known (index_in x i)) demanded m.known.true_facts).0
+      let l = array (suc n) W σ m in
+      found_at n W σ w ag l.value l.is l.fits (implied_true (predicates law) S σ (facts S.setting Γ) (known (index_in x i)) demanded m.known.true_facts).0
 
   pub fetch_ok : (l : Place) (c : Core) → RunsToNumber S by Γ c i → RunsTo S by Γ (two (fetch l) (use_of x) c) e
   fetch_ok l c runs n W σ w m ag =
@@ -80,7 +78,7 @@ module _ (law : Lower) (S : Scene) (is : IsScene S) (lengths : KnowsLengths S.ob
       let C = close (pairs σ) c in
       let a = v_array f.reference f.size in
       let k = v_whole (term_value (meaning_of S.objects σ) i) in
-      let R = LandsIn S W (shut σ by e) in
+      let R = LandsIn S W (shut σ by.types e) in
       runs_in law (in_left (fetch l) C) tt n (close (pairs σ) (use_of x)) w (Exactly a w) R (runs_variable n σ x a w f.is) (λ j d u z le at q.
       let at1 : as_value d ≡ Some a = at ∙ ap Some q.0 in
       subst (λ y. RunsWell j (two (fetch l) d C) y R) (sym q.1) (runs_in law (in_right (fetch l) d) (a, at1) j C w (Exactly k w) R (runs n W σ m j w) (λ g h u2 z2 le2 is2 q2.
@@ -89,5 +87,5 @@ module _ (law : Lower) (S : Scene) (is : IsScene S) (lengths : KnowsLengths S.ob
       let go : step (two (fetch l) d h) w ≡ Some (goes (val f.element) w) = rw (at1, at2, act) in
       subst (λ y. RunsWell g (two (fetch l) d h) y R) (sym q2.1) (runs_step g (two (fetch l) d h) (val f.element) w w R refl go (λ b eq.
       let own : Inhabits S b W f.slot.kind f.element = (law.elements S n W w).0 ag.1 b (omega (numbers, le, le2, eq)) f.reference f.place f.slot f.row f.element f.has_slot f.has_row f.has_element in
-      let same = same_at S W f.slot (shut σ by e) (suc n) b (omega (numbers, le, le2, eq)) f.kept W f.element (extends_self W) in
+      let same = same_at S W f.slot (shut σ by.types e) (suc n) b (omega (numbers, le, le2, eq)) f.kept W f.element (extends_self W) in
       runs_value b (val f.element) w f.element R refl (W, extends_self W, same.0 own, law.stores S n b W w (omega (numbers, le, le2, eq)) ag))))))

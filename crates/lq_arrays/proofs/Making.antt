@@ -30,7 +30,7 @@ use Rattle.lq_included.specs.Apart.{IsKnown}
 use Rattle.lq_included.specs.Symbols.{other_than, SumOn}
 use Rattle.lq_included.proofs.Truths.{implied_true, value_same, same_agree, agree_back, agree_other, false_not}
 use Rattle.lq_runs.specs.Closed.{names_in, IsClosed}
-use Rattle.lq_runs.specs.Meets.{pairs}
+use Rattle.lq_runs.specs.Meets.{pairs, Variables}
 use Rattle.lq_runs.specs.Runs.{Exactly, RunsTo, RunsToNumber, RunsToValue}
 use Rattle.lq_runs.proofs.Closing.{sum_more, value_apart}
 use Rattle.lq_runs.proofs.Framing.{runs_in}
@@ -88,24 +88,24 @@ module _ (law : Lower) (S : Scene) where
           let same : x ≡ v = get_copies k v j x (subst (λ z. slice_get z j ≡ Some x) i.1 a) in
           subst (λ s. Inhabits S m (W ++ slot_of k E ∷ []) s.kind x) (sym h.1) (subst (Inhabits S m (W ++ slot_of k E ∷ []) E) (sym same) (law.extended S m W (W ++ slot_of k E ∷ []) E v wide (fit m lt)))
 
-  pub make_ok : KnowsLengths S.objects → (by : Shuts) (Γ : Context) (l : Place) (c d : Core) (z : Sum) (t e : Refined) → IsClosed S Γ → SumOn (names_in Γ) z → RunsToNumber S by Γ c z → RunsToValue S by Γ d t → ((σ : Givens) → IsKnown S Γ σ → Below S (shut σ by t) (shut σ by e)) → Implied S.assignment (facts S.setting Γ) (known (compare Le (literal 0) z)) → RunsTo S by Γ (two (make l) c d) (array_with e (known (compare Eq (len value) z) ∷ []))
+  pub make_ok : KnowsLengths S.objects → (by : Variables) (Γ : Context) (l : Place) (c d : Core) (z : Sum) (t e : Refined) → IsClosed S Γ → SumOn (names_in Γ) z → RunsToNumber S by Γ c z → RunsToValue S by Γ d t → ((σ : Givens) → IsKnown S Γ σ → Below S (shut σ by.types t) (shut σ by.types e)) → Implied S.assignment (facts S.setting Γ) (known (compare Le (literal 0) z)) → RunsTo S by Γ (two (make l) c d) (array_with e (known (compare Eq (len value) z) ∷ []))
   make_ok lengths by Γ l c d z t e closed over first second leq demanded n W σ w m ag =
       let k = term_value (meaning_of S.objects σ) z in
       let b = not_negative k (implied_true (predicates law) S σ (facts S.setting Γ) (known (compare Le (literal 0) z)) demanded m.known.true_facts).0 in
       let a = second n W σ m in
       let D = close (pairs σ) d in
-      let R = LandsIn S W (shut σ by (array_with e (known (compare Eq (len value) z) ∷ []))) in
+      let R = LandsIn S W (shut σ by.types (array_with e (known (compare Eq (len value) z) ∷ []))) in
       let r = length w.arrays in
       let u : World = record w { arrays = w.arrays ++ copies b.0 a.0 ∷ [] } in
-      let V = W ++ slot_of b.0 (shut σ by e) ∷ [] in
+      let V = W ++ slot_of b.0 (shut σ by.types e) ∷ [] in
       runs_in law (in_left (make l) D) tt n (close (pairs σ) c) w (Exactly (v_whole k) w) R (first n W σ m n w) (λ j g x y le at q.
       let at1 : as_value g ≡ Some (v_whole (pos b.0)) = at ∙ ap Some q.0 ∙ ap (λ s. Some (v_whole s)) b.1 in
       subst (λ s. RunsWell j (two (make l) g D) s R) (sym q.1) (runs_in law (in_right (make l) g) (v_whole (pos b.0), at1) j D w (Exactly a.0 w) R (a.2 j w) (λ i h x2 y2 le2 is2 q2.
       let at2 : as_value h ≡ Some a.0 = is2 ∙ ap Some q2.0 in
       let go : step (two (make l) g h) w ≡ Some (goes (val (v_array r b.0)) u) = rw (at1, at2) in
       subst (λ s. RunsWell i (two (make l) g h) s R) (sym q2.1) (runs_step i (two (make l) g h) (val (v_array r b.0)) w u R refl go (λ f eq.
-      let fit : (p : ℕ) → p ≤ n → Inhabits S p W (shut σ by e) a.0 = λ p lp. leq σ m.known p W a.0 (law.smaller S (suc n) p W (shut σ by t) a.0 (omega (numbers, lp)) a.1) in
-      runs_value f (val (v_array r b.0)) u (v_array r b.0) R refl (V, (slot_of b.0 (shut σ by e) ∷ [], refl), made f σ by W w r b.0 e z k closed over lengths ag.0.0 b.1 refl, grown f W w b.0 (shut σ by e) a.0 (law.stores S n f W w (omega (numbers, le, le2, eq)) ag) (λ p lp. fit p (omega (numbers, le, le2, eq, lp)))))))))
+      let fit : (p : ℕ) → p ≤ n → Inhabits S p W (shut σ by.types e) a.0 = λ p lp. leq σ m.known p W a.0 (law.smaller S (suc n) p W (shut σ by.types t) a.0 (omega (numbers, lp)) a.1) in
+      runs_value f (val (v_array r b.0)) u (v_array r b.0) R refl (V, (slot_of b.0 (shut σ by.types e) ∷ [], refl), made f σ by.types W w r b.0 e z k closed over lengths ag.0.0 b.1 refl, grown f W w b.0 (shut σ by.types e) a.0 (law.stores S n f W w (omega (numbers, le, le2, eq)) ag) (λ p lp. fit p (omega (numbers, le, le2, eq, lp)))))))))
     where
       -- the new array inhabits the type
       made : (f : ℕ) (σ : Givens) (by : Shuts) (W : Table) (w : World) (r q : ℕ) (e : Refined) (z : Sum) (k : ℤ) → IsClosed S Γ → SumOn (names_in Γ) z → KnowsLengths S.objects → length W ≡ length w.arrays → k ≡ pos q → k ≡ term_value (meaning_of S.objects σ) z → Inhabits S f (W ++ slot_of q (shut σ by e) ∷ []) (shut σ by (array_with e (known (compare Eq (len value) z) ∷ []))) (v_array (length w.arrays) q)

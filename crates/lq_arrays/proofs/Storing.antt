@@ -1,12 +1,11 @@
 -- A store at an index of an array.
-use Rattle.std.proofs.Common.{◌≡◌, ℕ, suc, ◌<◌, pos, true, List, length, slice_get, slice_set, Some, ◌⊎◌, inl, inr, refl, sym, ap, ◌∙◌, subst, arith as numbers}
+use Rattle.std.proofs.Common.{◌≡◌, ℕ, suc, ◌<◌, pos, List, length, slice_get, slice_set, Some, ◌⊎◌, inl, inr, refl, sym, ap, ◌∙◌, subst, arith as numbers}
 use Rattle.lq_name.specs.declared.place.Place.{Place}
 use Rattle.lq_pred.specs.Sum.{Sum}
 use Rattle.lq_pred.specs.Truth.{term_value}
 use Rattle.lq_parts.specs.Assignment.{Implied}
 use Rattle.lq_parts.specs.Part.{Parts, known}
 use Rattle.lq_refined.specs.Context.{Context}
-use Rattle.lq_refined.specs.Operations.{symbol_of}
 use Rattle.lq_refined.specs.Refined.{Refined, unit_type}
 use Rattle.lq_subtype.specs.Subtype.{facts}
 use Rattle.lq_model.specs.Core.{Core, val, use_of, three, store, Value, v_whole, v_unit, v_array, close, as_value}
@@ -14,23 +13,21 @@ use Rattle.lq_model.specs.Operations.{World, gives, store_act}
 use Rattle.lq_model.specs.Step.{goes, in_start, in_middle, in_end}
 use Rattle.lq_model.specs.StepFunction.{step}
 use Rattle.lq_inhabits.specs.Truth.{Givens, meaning_of, Scene}
-use Rattle.lq_inhabits.specs.Shut.{shut, Shuts}
+use Rattle.lq_inhabits.specs.Shut.{shut}
 use Rattle.lq_inhabits.specs.Inhabits.{Slot, Table, Inhabits, Agrees}
 use Rattle.lq_inhabits.specs.Runs.{RunsWell, LandsIn}
 use Rattle.lq_inhabits.specs.Below.{Below}
 use Rattle.lq_inhabits.proofs.Running.{runs_value, runs_step}
 use Rattle.lq_inhabits.proofs.Numbers.{same_at}
 use Rattle.lq_included.specs.Apart.{IsKnown}
-use Rattle.lq_included.specs.Laws.{IsScene}
-use Rattle.lq_runs.specs.Closed.{names_in, IsClosed}
-use Rattle.lq_runs.specs.Meets.{pairs}
+use Rattle.lq_runs.specs.Meets.{pairs, Variables}
 use Rattle.lq_runs.specs.Runs.{Exactly, RunsTo, RunsToNumber, RunsToValue}
 use Rattle.lq_runs.proofs.Framing.{runs_in}
 use Rattle.lq_runs.proofs.Lower.{Lower}
 use Rattle.lq_runs.proofs.Meeting.{extends_self}
 use Rattle.lq_pures.specs.Pures.{KnowsLengths}
 use Rattle.lq_pures.proofs.Pures.{runs_variable}
-use Rattle.lq_arrays.specs.Arrays.{index_in, IsArrayIn}
+use Rattle.lq_arrays.specs.Arrays.{index_in, IsArrayAt}
 use Rattle.lq_arrays.proofs.Fetching.{found}
 use Rattle.lq_arrays.proofs.Lists.{length_set, get_set, set_get}
 
@@ -64,16 +61,16 @@ module _ (law : Lower) (S : Scene) where
           let same : K ≡ L = some_same Slot K L (sym has_slot ∙ ap (slice_get W) (sym i.0) ∙ h) in
           subst (λ s. Inhabits S m W s.kind x) same (within_row m lt k x (get_set Value row j u k x (subst (λ z. slice_get z k ≡ Some x) i.1 a)))
 
-  module _ (is : IsScene S) (lengths : KnowsLengths S.objects) (by : Shuts) (Γ : Context) (x : ℕ) (i : Sum) (e : Refined) (p : Parts) (closed : IsClosed S Γ) (named : names_in Γ (symbol_of x) ≡ true) (array : IsArrayIn Γ x e p) (demanded : Implied S.assignment (facts S.setting Γ) (known (index_in x i))) where
-    pub store_ok : (l : Place) (c d : Core) (t : Refined) → RunsToNumber S by Γ c i → RunsToValue S by Γ d t → ((σ : Givens) → IsKnown S Γ σ → Below S (shut σ by t) (shut σ by e)) → RunsTo S by Γ (three (store l) (use_of x) c d) unit_type
+  module _ (lengths : KnowsLengths S.objects) (by : Variables) (Γ : Context) (x : ℕ) (i : Sum) (e : Refined) (p : Parts) (array : IsArrayAt S by Γ x e p) (demanded : Implied S.assignment (facts S.setting Γ) (known (index_in x i))) where
+    pub store_ok : (l : Place) (c d : Core) (t : Refined) → RunsToNumber S by Γ c i → RunsToValue S by Γ d t → ((σ : Givens) → IsKnown S Γ σ → Below S (shut σ by.types t) (shut σ by.types e)) → RunsTo S by Γ (three (store l) (use_of x) c d) unit_type
     store_ok l c d t first second leq n W σ w m ag =
-        let f = found law S is lengths by Γ x i e p closed named array demanded n W σ w m ag in
+        let f = found law S lengths by Γ x i e p array demanded n W σ w m ag in
         let u = second n W σ m in
         let C = close (pairs σ) c in
         let D = close (pairs σ) d in
         let a = v_array f.reference f.size in
         let k = v_whole (term_value (meaning_of S.objects σ) i) in
-        let R = LandsIn S W (shut σ by unit_type) in
+        let R = LandsIn S W (shut σ by.types unit_type) in
         let z = with_arrays w (slice_set w.arrays f.reference (slice_set f.row f.place u.0)) in
         runs_in law (in_start (store l) C D) tt n (close (pairs σ) (use_of x)) w (Exactly a w) R (runs_variable n σ x a w f.is) (λ j g v1 z1 le at q.
         let at1 : as_value g ≡ Some a = at ∙ ap Some q.0 in
@@ -85,5 +82,5 @@ module _ (law : Lower) (S : Scene) where
         let go : step (three (store l) g h y) w ≡ Some (goes (val v_unit) z) = rw (at1, at2, at3, act) in
         subst (λ s. RunsWell o (three (store l) g h y) s R) (sym q3.1) (runs_step o (three (store l) g h y) (val v_unit) w z R refl go (λ s eq.
         let fit : (m2 : ℕ) → m2 < s → Inhabits S m2 W f.slot.kind u.0 = λ m2 lt2.
-        (same_at S W f.slot (shut σ by e) (suc n) m2 (omega (numbers, le, le2, le3, eq, lt2)) f.kept W u.0 (extends_self W)).1 (leq σ m.known m2 W u.0 (law.smaller S (suc n) m2 W (shut σ by t) u.0 (omega (numbers, le, le2, le3, eq, lt2)) u.1)) in
+        (same_at S W f.slot (shut σ by.types e) (suc n) m2 (omega (numbers, le, le2, le3, eq, lt2)) f.kept W u.0 (extends_self W)).1 (leq σ m.known m2 W u.0 (law.smaller S (suc n) m2 W (shut σ by.types t) u.0 (omega (numbers, le, le2, le3, eq, lt2)) u.1)) in
         runs_value s (val v_unit) z v_unit R refl (W, extends_self W, (tt, tt), stored s W w f.reference f.place f.slot f.row u.0 f.has_slot f.has_row (law.stores S n s W w (omega (numbers, le, le2, le3, eq)) ag) fit))))))))

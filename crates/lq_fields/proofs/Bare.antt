@@ -1,19 +1,18 @@
 -- A simple type with closed types for its variables, and with types for them.
-use Rattle.std.proofs.Common.{ℕ, zero, suc, ◌<◌, [], ◌∷◌, arith as numbers}
+use Rattle.std.proofs.Common.{ℕ, zero, suc, [], ◌∷◌}
 use Rattle.lq_pred.specs.declared.symbol.Symbol.{Symbol}
 use Rattle.lq_pred.specs.declared.symbol.Symbol.TheVariants as symbol
 use Rattle.lq_pred.specs.Sum.{same_symbol}
 use Rattle.lq_model.specs.Core.{Value, Values, no_values, more_values}
 use Rattle.lq_tree.specs.MlType as ml
 use Rattle.lq_tree.specs.MlType.{MlType, MlTypes}
-use Rattle.lq_refined.specs.Refined.{Refined, Refineds, int_with, bool_with, unit_type, function, tuple_of, array_with, data_with, map_with, type_variable, none, more, top, type_at, count}
+use Rattle.lq_refined.specs.Refined.{Refined, Refineds, int_with, bool_with, unit_type, function, tuple_of, array_with, data_with, map_with, type_variable, none, more, top, type_at}
 use Rattle.lq_refined.specs.Unfolding.{bare, all_bare}
 use Rattle.lq_inhabits.specs.Truth.{Givens, given, Scene, AreTrue}
-use Rattle.lq_inhabits.specs.Shut.{Tops, read_at, Shuts, shut_all, no_form, tops_by, position, components, unrefined, all_unrefined}
-use Rattle.lq_inhabits.specs.Inhabits.{Table, TopsTrue, CallsBelow, SameBelow}
+use Rattle.lq_inhabits.specs.Shut.{Tops, read_at, Shuts, shut_all, tops_by, position, components, unrefined, all_unrefined}
+use Rattle.lq_inhabits.specs.Inhabits.{Table, TopsTrue}
 use Rattle.lq_inhabits.specs.Below.{Below, AllBelow}
-use Rattle.lq_inhabits.specs.Datatypes.{AreCovariant, DatatypesFit, NoVariable, CovariantIn, AllCovariantIn}
-use Rattle.lq_inhabits.proofs.Topped.{form_has}
+use Rattle.lq_inhabits.specs.Datatypes.{AreCovariant, DatatypesFit}
 use Rattle.lq_inhabits.proofs.Keeping.{AllFit}
 use Rattle.lq_included.specs.Symbols.{Symbols, other_than, with_symbol, Lacks, Agree}
 use Rattle.lq_included.proofs.Truths.{parts_same, agree_with, agree_other, agree_back}
@@ -57,70 +56,64 @@ module _ (fit : DatatypesFit) (S : Scene) (cov : AreCovariant S.setting.construc
       )
 
   variable_forth : (Us : Refineds) (i : ℕ) (κ μ : Givens) → ((v : Value) → AreTrue S (given symbol.Value v ∷ σ) (top (type_at Us i)) → AreTrue S (given symbol.Value v ∷ μ) (top (type_at Us i))) → Below S (read_at κ [] (shut_all σ by Us) (type_variable i)) (read_at μ σ by (type_at Us i))
-  variable_forth none i κ μ f n W v h = absurd (form_has S (CallsBelow S n) (SameBelow S n) W no_form v h.0)
+  variable_forth none i κ μ f n W v h = h
   variable_forth (more U Us) zero κ μ f n W v h = (h.0, retop S _ σ μ v U (f v) h.1)
   variable_forth (more U Us) (suc i) κ μ f n W v h = variable_forth Us i κ μ f n W v h
 
-  variable_back : (Us : Refineds) (i : ℕ) (κ μ : Givens) → i < count Us → ((v : Value) → AreTrue S (given symbol.Value v ∷ μ) (top (type_at Us i)) → AreTrue S (given symbol.Value v ∷ σ) (top (type_at Us i))) → Below S (read_at μ σ by (type_at Us i)) (read_at κ [] (shut_all σ by Us) (type_variable i))
-  variable_back none i κ μ lt f n W v h = absurd (omega (numbers, lt))
-  variable_back (more U Us) zero κ μ lt f n W v h = (h.0, retop S _ μ σ v U (f v) h.1)
-  variable_back (more U Us) (suc i) κ μ lt f n W v h = variable_back Us i κ μ (omega (numbers, lt)) f n W v h
-
-  abbrev pub Within : (ℕ → Type 0) → Type 0
-  Within P = (i : ℕ) → P i → i < count Ts
-
-  no_within : Within NoVariable
-  no_within i h = absurd h
+  variable_back : (Us : Refineds) (i : ℕ) (κ μ : Givens) → ((v : Value) → AreTrue S (given symbol.Value v ∷ μ) (top (type_at Us i)) → AreTrue S (given symbol.Value v ∷ σ) (top (type_at Us i))) → Below S (read_at μ σ by (type_at Us i)) (read_at κ [] (shut_all σ by Us) (type_variable i))
+  variable_back none i κ μ f n W v h = h
+  variable_back (more U Us) zero κ μ f n W v h = (h.0, retop S _ μ σ v U (f v) h.1)
+  variable_back (more U Us) (suc i) κ μ f n W v h = variable_back Us i κ μ f n W v h
 
   mutual
-    pub bare_forth : (f : MlType) (P : ℕ → Type 0) → Within P → CovariantIn P f → (κ μ : Givens) → Moves μ → Below S (read_at κ [] As (unrefined f)) (read_at μ σ by (bare Ts f))
-    bare_forth ml.int P w o κ μ m n W v h = (h.0, (tt, tt))
-    bare_forth ml.bool P w o κ μ m n W v h = (h.0, (tt, tt))
-    bare_forth ml.unit P w o κ μ m n W v h = h
-    bare_forth (ml.var i) P w o κ μ m n W v h = variable_forth Ts i κ μ (λ u. (m i u).0) n W v h
-    bare_forth (ml.arrow a b) P w o κ μ m n W v h =
-        function_below S κ μ [] σ As by _ _ (unrefined a) (unrefined b) (bare Ts a) (bare Ts b) (bare_back a NoVariable no_within o.0 [] σ moves_self) (λ k Y u fits. bare_forth b P w o.1 [] σ moves_self) n W v h
-    bare_forth (ml.tuple ts) P w o κ μ m n W v h =
-        tuple_below S κ μ [] σ As by (all_unrefined ts) (all_bare Ts ts) (λ k Y vs q. components_forth ts P w o 0 [] σ moves_self k Y vs q) n W v h
-    bare_forth (ml.array a) P w o κ μ m n W v h =
-        array_below S κ μ [] σ As by (unrefined a) (bare Ts a) [] [] (λ u has q. tt) (bare_forth a NoVariable no_within o [] σ moves_self) (bare_back a NoVariable no_within o [] σ moves_self) n W v h
-    bare_forth (ml.named d ts) P w o κ μ m n W v h =
-        data_by fit S cov κ μ [] σ As by d (all_unrefined ts) (all_bare Ts ts) [] [] [] [] (λ c k vs is tops j i u arg x. x) (all_forth ts P w o) (λ u has q. tt) n W v h
-    bare_forth (ml.map_of a) P w o κ μ m n W v h = map_below S κ μ [] σ As by (unrefined a) (bare Ts a) [] [] n W v h
+    pub bare_forth : (f : MlType) (κ μ : Givens) → Moves μ → Below S (read_at κ [] As (unrefined f)) (read_at μ σ by (bare Ts f))
+    bare_forth ml.int κ μ m n W v h = (h.0, (tt, tt))
+    bare_forth ml.bool κ μ m n W v h = (h.0, (tt, tt))
+    bare_forth ml.unit κ μ m n W v h = h
+    bare_forth (ml.var i) κ μ m n W v h = variable_forth Ts i κ μ (λ u. (m i u).0) n W v h
+    bare_forth (ml.arrow a b) κ μ m n W v h =
+        function_below S κ μ [] σ As by _ _ (unrefined a) (unrefined b) (bare Ts a) (bare Ts b) (bare_back a [] σ moves_self) (λ k Y u fits. bare_forth b [] σ moves_self) n W v h
+    bare_forth (ml.tuple ts) κ μ m n W v h =
+        tuple_below S κ μ [] σ As by (all_unrefined ts) (all_bare Ts ts) (λ k Y vs q. components_forth ts 0 [] σ moves_self k Y vs q) n W v h
+    bare_forth (ml.array a) κ μ m n W v h =
+        array_below S κ μ [] σ As by (unrefined a) (bare Ts a) [] [] (λ u has q. tt) (bare_forth a [] σ moves_self) (bare_back a [] σ moves_self) n W v h
+    bare_forth (ml.named d ts) κ μ m n W v h =
+        data_by fit S cov κ μ [] σ As by d (all_unrefined ts) (all_bare Ts ts) [] [] [] [] (λ c k vs is tops j i u arg x. x) (all_forth ts) (λ u has q. tt) n W v h
+    bare_forth (ml.map_of a) κ μ m n W v h = map_below S κ μ [] σ As by (unrefined a) (bare Ts a) [] [] n W v h
 
-    all_forth : (ts : MlTypes) (P : ℕ → Type 0) → Within P → AllCovariantIn P ts → AllBelow S (shut_all [] As (all_unrefined ts)) (shut_all σ by (all_bare Ts ts))
-    all_forth ml.no_types P w o = tt
-    all_forth (ml.more_types t ts) P w o = (bare_forth t P w o.0 [] σ moves_self, all_forth ts P w o.1)
+    all_forth : (ts : MlTypes) → AllBelow S (shut_all [] As (all_unrefined ts)) (shut_all σ by (all_bare Ts ts))
+    all_forth ml.no_types = tt
+    all_forth (ml.more_types t ts) = (bare_forth t [] σ moves_self, all_forth ts)
 
-    components_forth : (ts : MlTypes) (P : ℕ → Type 0) → Within P → AllCovariantIn P ts → (k : ℕ) (κ μ : Givens) → Moves μ → (n : ℕ) (W : Table) (vs : Values) → AllFit S n W (components [] As κ k (all_unrefined ts) vs) vs → AllFit S n W (components σ by μ k (all_bare Ts ts) vs) vs
-    components_forth ml.no_types P w o k κ μ m n W no_values h = h
-    components_forth ml.no_types P w o k κ μ m n W (more_values v vs) h = h
-    components_forth (ml.more_types t ts) P w o k κ μ m n W no_values h = absurd h
-    components_forth (ml.more_types t ts) P w o k κ μ m n W (more_values v vs) h =
-        (bare_forth t P w o.0 κ μ m n W v h.0, components_forth ts P w o.1 (suc k) (position k v κ) (position k v μ) (moves_on k v μ m) n W vs h.1)
+    components_forth : (ts : MlTypes) (k : ℕ) (κ μ : Givens) → Moves μ → (n : ℕ) (W : Table) (vs : Values) → AllFit S n W (components [] As κ k (all_unrefined ts) vs) vs → AllFit S n W (components σ by μ k (all_bare Ts ts) vs) vs
+    components_forth ml.no_types k κ μ m n W no_values h = h
+    components_forth ml.no_types k κ μ m n W (more_values v vs) h = h
+    components_forth (ml.more_types t ts) k κ μ m n W no_values h = absurd h
+    components_forth (ml.more_types t ts) k κ μ m n W (more_values v vs) h =
+        (bare_forth t κ μ m n W v h.0, components_forth ts (suc k) (position k v κ) (position k v μ) (moves_on k v μ m) n W vs h.1)
 
-    pub bare_back : (f : MlType) (P : ℕ → Type 0) → Within P → CovariantIn P f → (κ μ : Givens) → Moves μ → Below S (read_at μ σ by (bare Ts f)) (read_at κ [] As (unrefined f))
-    bare_back ml.int P w o κ μ m n W v h = (h.0, (tt, tt))
-    bare_back ml.bool P w o κ μ m n W v h = (h.0, (tt, tt))
-    bare_back ml.unit P w o κ μ m n W v h = h
-    bare_back (ml.var i) P w o κ μ m n W v h = variable_back Ts i κ μ (w i o) (λ u. (m i u).1) n W v h
-    bare_back (ml.arrow a b) P w o κ μ m n W v h =
-        function_below S μ κ σ [] by As _ _ (bare Ts a) (bare Ts b) (unrefined a) (unrefined b) (bare_forth a NoVariable no_within o.0 [] σ moves_self) (λ k Y u fits. bare_back b P w o.1 [] σ moves_self) n W v h
-    bare_back (ml.tuple ts) P w o κ μ m n W v h =
-        tuple_below S μ κ σ [] by As (all_bare Ts ts) (all_unrefined ts) (λ k Y vs q. components_back ts P w o 0 [] σ moves_self k Y vs q) n W v h
-    bare_back (ml.array a) P w o κ μ m n W v h =
-        array_below S μ κ σ [] by As (bare Ts a) (unrefined a) [] [] (λ u has q. tt) (bare_back a NoVariable no_within o [] σ moves_self) (bare_forth a NoVariable no_within o [] σ moves_self) n W v h
-    bare_back (ml.named d ts) P w o κ μ m n W v h =
-        data_by fit S cov μ κ σ [] by As d (all_bare Ts ts) (all_unrefined ts) [] [] [] [] (λ c k vs is tops j i u arg x. x) (all_back ts P w o) (λ u has q. tt) n W v h
-    bare_back (ml.map_of a) P w o κ μ m n W v h = map_below S μ κ σ [] by As (bare Ts a) (unrefined a) [] [] n W v h
+    pub bare_back : (f : MlType) (κ μ : Givens) → Moves μ → Below S (read_at μ σ by (bare Ts f)) (read_at κ [] As (unrefined f))
+    bare_back ml.int κ μ m n W v h = (h.0, (tt, tt))
+    bare_back ml.bool κ μ m n W v h = (h.0, (tt, tt))
+    bare_back ml.unit κ μ m n W v h = h
+    bare_back (ml.var i) κ μ m n W v h = variable_back Ts i κ μ (λ u. (m i u).1) n W v h
+    bare_back (ml.arrow a b) κ μ m n W v h =
+        function_below S μ κ σ [] by As _ _ (bare Ts a) (bare Ts b) (unrefined a) (unrefined b) (bare_forth a [] σ moves_self) (λ k Y u fits. bare_back b [] σ moves_self) n W v h
+    bare_back (ml.tuple ts) κ μ m n W v h =
+        tuple_below S μ κ σ [] by As (all_bare Ts ts) (all_unrefined ts) (λ k Y vs q. components_back ts 0 [] σ moves_self k Y vs q) n W v h
+    bare_back (ml.array a) κ μ m n W v h =
+        array_below S μ κ σ [] by As (bare Ts a) (unrefined a) [] [] (λ u has q. tt) (bare_back a [] σ moves_self) (bare_forth a [] σ moves_self) n W v h
+    bare_back (ml.named d ts) κ μ m n W v h =
+        data_by fit S cov μ κ σ [] by As d (all_bare Ts ts) (all_unrefined ts) [] [] [] [] (λ c k vs is tops j i u arg x. x) (all_back ts) (λ u has q. tt) n W v h
+    bare_back (ml.map_of a) κ μ m n W v h = map_below S μ κ σ [] by As (bare Ts a) (unrefined a) [] [] n W v h
 
-    all_back : (ts : MlTypes) (P : ℕ → Type 0) → Within P → AllCovariantIn P ts → AllBelow S (shut_all σ by (all_bare Ts ts)) (shut_all [] As (all_unrefined ts))
-    all_back ml.no_types P w o = tt
-    all_back (ml.more_types t ts) P w o = (bare_back t P w o.0 [] σ moves_self, all_back ts P w o.1)
+    all_back : (ts : MlTypes) → AllBelow S (shut_all σ by (all_bare Ts ts)) (shut_all [] As (all_unrefined ts))
+    all_back ml.no_types = tt
+    all_back (ml.more_types t ts) = (bare_back t [] σ moves_self, all_back ts)
 
-    components_back : (ts : MlTypes) (P : ℕ → Type 0) → Within P → AllCovariantIn P ts → (k : ℕ) (κ μ : Givens) → Moves μ → (n : ℕ) (W : Table) (vs : Values) → AllFit S n W (components σ by μ k (all_bare Ts ts) vs) vs → AllFit S n W (components [] As κ k (all_unrefined ts) vs) vs
-    components_back ml.no_types P w o k κ μ m n W no_values h = h
-    components_back ml.no_types P w o k κ μ m n W (more_values v vs) h = h
-    components_back (ml.more_types t ts) P w o k κ μ m n W no_values h = absurd h
-    components_back (ml.more_types t ts) P w o k κ μ m n W (more_values v vs) h =
-        (bare_back t P w o.0 κ μ m n W v h.0, components_back ts P w o.1 (suc k) (position k v κ) (position k v μ) (moves_on k v μ m) n W vs h.1)
+    components_back : (ts : MlTypes) (k : ℕ) (κ μ : Givens) → Moves μ → (n : ℕ) (W : Table) (vs : Values) → AllFit S n W (components σ by μ k (all_bare Ts ts) vs) vs → AllFit S n W (components [] As κ k (all_unrefined ts) vs) vs
+    components_back ml.no_types k κ μ m n W no_values h = h
+    components_back ml.no_types k κ μ m n W (more_values v vs) h = h
+    components_back (ml.more_types t ts) k κ μ m n W no_values h = absurd h
+    components_back (ml.more_types t ts) k κ μ m n W (more_values v vs) h =
+        (bare_back t κ μ m n W v h.0, components_back ts (suc k) (position k v κ) (position k v μ) (moves_on k v μ m) n W vs h.1)

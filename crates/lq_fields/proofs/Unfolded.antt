@@ -1,5 +1,5 @@
 -- The fields of a constructor's value, with the matrix pushed into recursive ones.
-use Rattle.std.proofs.Common.{◌≡◌, ◌↔◌, ℕ, suc, ◌<◌, Bool, true, false, cond, [], ◌∷◌, ◌++◌, refl, sym, ap, subst}
+use Rattle.std.proofs.Common.{◌≡◌, ◌↔◌, ℕ, suc, Bool, true, false, cond, [], ◌∷◌, ◌++◌, refl, sym, ap, subst}
 use Rattle.lq_pred.specs.ClosedImplication.{EachTrueIn}
 use Rattle.lq_pred.specs.declared.symbol.Symbol.TheVariants as symbol
 use Rattle.lq_model.specs.Core.{Value, Values, no_values, more_values}
@@ -16,7 +16,7 @@ use Rattle.lq_inhabits.specs.Truth.{Givens, given, meaning_of, Scene, AreTrue}
 use Rattle.lq_inhabits.specs.Shut.{closed, shut, also, Shuts, shut_all, count_shuts, form, tops, pushed, field_by, unfolded}
 use Rattle.lq_inhabits.specs.Inhabits.{Table}
 use Rattle.lq_inhabits.specs.Below.{Below, AllBelow}
-use Rattle.lq_inhabits.specs.Datatypes.{AreCovariant, DatatypesFit, CovariantIn, AllCovariantIn}
+use Rattle.lq_inhabits.specs.Datatypes.{AreCovariant, DatatypesFit}
 use Rattle.lq_inhabits.proofs.Topped.{tops_append, tops_first, for_top_true}
 use Rattle.lq_inhabits.proofs.Keeping.{AllFit}
 use Rattle.lq_included.proofs.Truths.{each_first, each_second, under-append, parts_append}
@@ -109,41 +109,41 @@ module _ (fit : DatatypesFit) (S : Scene) (cov : AreCovariant S.setting.construc
     abbrev opened : ℕ → MlType → Bool → Refined
     opened j f b = cond b (data_with d (open_types.pushed S.setting.scopes θ M c j 0 Ts) M []) (bare Ts f)
 
-    field_forth : (j : ℕ) (f : MlType) → CovariantIn (λ i. i < count Ts) f → (x y : Bool) → x ≡ y → Below S (field_by x κ d As M c j f) (shut σ by (opened j f y))
-    field_forth j f o true true e n W v h =
+    field_forth : (j : ℕ) (f : MlType) → (x y : Bool) → x ≡ y → Below S (field_by x κ d As M c j f) (shut σ by (opened j f y))
+    field_forth j f true true e n W v h =
         let r = fit S cov d (pushed κ M c j 0 As) (shut_all σ by (open_types.pushed S.setting.scopes θ M c j 0 Ts)) M M (λ b k vs is tops a i u arg x. x) (pushed_forth j 0 Ts (entries j)) n W v h in
         (r.0, (tt, tt))
-    field_forth j f o false false e n W v h = bare_forth fit S cov σ by Ts m.tops f (λ i. i < count Ts) (λ i p. p) o [] σ (moves_self fit S cov σ by Ts m.tops) n W v h
-    field_forth j f o true false e n W v h = absurd (cc)
-    field_forth j f o false true e n W v h = absurd (cc)
+    field_forth j f false false e n W v h = bare_forth fit S cov σ by Ts m.tops f [] σ (moves_self fit S cov σ by Ts m.tops) n W v h
+    field_forth j f true false e n W v h = absurd (cc)
+    field_forth j f false true e n W v h = absurd (cc)
 
-    field_back : (j : ℕ) (f : MlType) → CovariantIn (λ i. i < count Ts) f → (x y : Bool) → x ≡ y → Below S (shut σ by (opened j f y)) (field_by x κ d As M c j f)
-    field_back j f o true true e n W v h =
+    field_back : (j : ℕ) (f : MlType) → (x y : Bool) → x ≡ y → Below S (shut σ by (opened j f y)) (field_by x κ d As M c j f)
+    field_back j f true true e n W v h =
         let r = fit S cov d (shut_all σ by (open_types.pushed S.setting.scopes θ M c j 0 Ts)) (pushed κ M c j 0 As) M M (λ b k vs is tops a i u arg x. x) (pushed_back j 0 Ts (m.variables j) (entries j)) n W v (h.0, tt) in
         (r.0, tt)
-    field_back j f o false false e n W v h = bare_back fit S cov σ by Ts m.tops f (λ i. i < count Ts) (λ i p. p) o [] σ (moves_self fit S cov σ by Ts m.tops) n W v h
-    field_back j f o true false e n W v h = absurd (cc)
-    field_back j f o false true e n W v h = absurd (cc)
+    field_back j f false false e n W v h = bare_back fit S cov σ by Ts m.tops f [] σ (moves_self fit S cov σ by Ts m.tops) n W v h
+    field_back j f true false e n W v h = absurd (cc)
+    field_back j f false true e n W v h = absurd (cc)
 
     same_test : (f : MlType) → is_again d (count_shuts As) f ≡ is_again d (count Ts) f
     same_test f = ap (λ k. is_again d k f) (count-shut Ts)
 
-    rows_forth : (gs : MlTypes) → AllCovariantIn (λ i. i < count Ts) gs → (j n : ℕ) (W : Table) (ws : Values) → AllFit S n W (unfolded κ d As M c j gs) ws → AllFit S n W (shut_all σ by (unfolded_from S.setting.scopes θ d Ts M c j gs)) ws
-    rows_forth ml.no_types o j n W no_values h = h
-    rows_forth ml.no_types o j n W (more_values v vs) h = h
-    rows_forth (ml.more_types f gs) o j n W no_values h = absurd h
-    rows_forth (ml.more_types f gs) o j n W (more_values v vs) h =
-        (field_forth j f o.0 (is_again d (count_shuts As) f) (is_again d (count Ts) f) (same_test f) n W v h.0, rows_forth gs o.1 (suc j) n W vs h.1)
+    rows_forth : (gs : MlTypes) → (j n : ℕ) (W : Table) (ws : Values) → AllFit S n W (unfolded κ d As M c j gs) ws → AllFit S n W (shut_all σ by (unfolded_from S.setting.scopes θ d Ts M c j gs)) ws
+    rows_forth ml.no_types j n W no_values h = h
+    rows_forth ml.no_types j n W (more_values v vs) h = h
+    rows_forth (ml.more_types f gs) j n W no_values h = absurd h
+    rows_forth (ml.more_types f gs) j n W (more_values v vs) h =
+        (field_forth j f (is_again d (count_shuts As) f) (is_again d (count Ts) f) (same_test f) n W v h.0, rows_forth gs (suc j) n W vs h.1)
 
-    rows_back : (gs : MlTypes) → AllCovariantIn (λ i. i < count Ts) gs → (j n : ℕ) (W : Table) (ws : Values) → AllFit S n W (shut_all σ by (unfolded_from S.setting.scopes θ d Ts M c j gs)) ws → AllFit S n W (unfolded κ d As M c j gs) ws
-    rows_back ml.no_types o j n W no_values h = h
-    rows_back ml.no_types o j n W (more_values v vs) h = h
-    rows_back (ml.more_types f gs) o j n W no_values h = absurd h
-    rows_back (ml.more_types f gs) o j n W (more_values v vs) h =
-        (field_back j f o.0 (is_again d (count_shuts As) f) (is_again d (count Ts) f) (same_test f) n W v h.0, rows_back gs o.1 (suc j) n W vs h.1)
+    rows_back : (gs : MlTypes) → (j n : ℕ) (W : Table) (ws : Values) → AllFit S n W (shut_all σ by (unfolded_from S.setting.scopes θ d Ts M c j gs)) ws → AllFit S n W (unfolded κ d As M c j gs) ws
+    rows_back ml.no_types j n W no_values h = h
+    rows_back ml.no_types j n W (more_values v vs) h = h
+    rows_back (ml.more_types f gs) j n W no_values h = absurd h
+    rows_back (ml.more_types f gs) j n W (more_values v vs) h =
+        (field_back j f (is_again d (count_shuts As) f) (is_again d (count Ts) f) (same_test f) n W v h.0, rows_back gs (suc j) n W vs h.1)
 
     pub fields_fit : (n : ℕ) (W : Table) (vs : Values) → AllFit S n W (unfolded κ d As M c 0 fs) vs ↔ AllFit S n W (shut_all σ by (open_types.unfolded S.setting.scopes θ d Ts M c fs)) vs
-    fields_fit n W vs = (rows_forth fs m.within 0 n W vs, rows_back fs m.within 0 n W vs)
+    fields_fit n W vs = (rows_forth fs 0 n W vs, rows_back fs 0 n W vs)
 
 -- ---- as many fields as types
 

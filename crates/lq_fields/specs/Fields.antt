@@ -1,5 +1,5 @@
 -- The fields of a constructor's value: what they inhabit by the relation, and by the typing rules.
-use Rattle.std.specs.Prelude.{◌≡◌, ◌↔◌, ℕ, suc, ◌<◌, false, [], ◌∷◌}
+use Rattle.std.specs.Prelude.{◌≡◌, ◌↔◌, ℕ, suc, false, [], ◌∷◌}
 use Rattle.lq_pred.specs.ClosedImplication.{EachTrueIn}
 use Rattle.lq_pred.specs.declared.symbol.Symbol.{Symbol}
 use Rattle.lq_pred.specs.declared.symbol.Symbol.TheVariants as symbol
@@ -8,7 +8,7 @@ use Rattle.lq_parts.specs.Assignment.{parts_under}
 use Rattle.lq_parts.specs.Substitution.{Subst}
 use Rattle.lq_tree.specs.MlType.{MlTypes}
 use Rattle.lq_tree.specs.Types.{Constructor}
-use Rattle.lq_refined.specs.Refined.{Matrix, Refined, int_with, bool_with, unit_type, function, tuple_of, array_with, data_with, map_with, type_variable, Refineds, none, more, Kind, number, truth_value, object, other, kind, top, type_at, arguments_of, matrix_of, count}
+use Rattle.lq_refined.specs.Refined.{Matrix, Refined, int_with, bool_with, unit_type, function, tuple_of, array_with, data_with, map_with, type_variable, Refineds, none, more, Kind, number, truth_value, object, other, kind, top, type_at, arguments_of, matrix_of}
 use Rattle.lq_refined.specs.Unfolding.{cell}
 use Rattle.lq_refined.specs.Unfolding as open_types
 use Rattle.lq_checks.specs.Basis.{Basis}
@@ -16,7 +16,6 @@ use Rattle.lq_checks.specs.Operation.{datatype_of, equations_by}
 use Rattle.lq_inhabits.specs.Truth.{Givens, given, Objects, meaning_of, Scene, AreTrue}
 use Rattle.lq_inhabits.specs.Shut.{Shuts, shut_all, field_values, unfolded}
 use Rattle.lq_inhabits.specs.Inhabits.{Table, AllFitBy, CallsBelow, SameBelow, Makes}
-use Rattle.lq_inhabits.specs.Datatypes.{AllCovariantIn}
 use Rattle.lq_included.specs.Laws.{IsScene}
 use Rattle.lq_included.specs.Symbols.{Symbols, with_symbol, Lacks}
 use Rattle.lq_runs.specs.Closed.{with_value, EachSorted}
@@ -85,13 +84,11 @@ module _ (S : Scene) (d : ℕ) (Ts : Refineds) (M : Matrix) where
       (u : Value)
       → StandsOn S.objects θ (with_value (terms_from 0 (field_types [] c fs))) (with_value (flags_from 0 (field_types [] c fs))) (given symbol.Value u ∷ σ) (given symbol.Value u ∷ field_values 0 vs)
 
--- The matrix is one for the fields of the constructor, the tops of the arguments don't speak of fields, and each variable of the fields' types
--- has an argument.
+-- The matrix is one for the fields of the constructor, and the tops of the arguments don't speak of fields.
 pub record IsMatrixFor (S : Scene) (d : ℕ) (Ts : Refineds) (M : Matrix) (c : ℕ) (fs : MlTypes) : Type 0 where
   pub entries : AreEntriesSorted S d Ts M c fs
   pub variables : (j : ℕ) → HaveNoEntries S d Ts M c j 0 Ts
   pub tops : (i j : ℕ) → Lacks S.assignment (symbol.Position (suc j)) (top (type_at Ts i))
-  pub within : AllCovariantIn (λ i. i < count Ts) fs
 
 -- The fields of a constructor's value inhabit what the datatype unfolds to exactly where they inhabit the types that the typing rules give
 -- them.

@@ -57,7 +57,7 @@ module _ (S : Scene) (σ : Givens) (by : Shuts) (Ls : Refineds) where
   type_tops (type_variable a) v h = (tt, tt)
 
   argument_tops : (Ts : Refineds) (i : ℕ) (v : Value) → HasTops S (shut [] (shut_all σ by Ts) (type_variable i)) v → TypeHas (type_at Ts i) v × AreTrue S (given symbol.Value v ∷ σ) (top (type_at Ts i))
-  argument_tops none i v h = absurd h.0
+  argument_tops none i v h = (tt, tt)
   argument_tops (more T Ts) zero v h = type_tops T v h
   argument_tops (more T Ts) (suc i) v h = argument_tops Ts i v h
 

@@ -48,7 +48,8 @@ count_shuts (more_shuts T Ts) = suc (count_shuts Ts)
 
 -- ---- form and top
 
--- The form of a closed type, without the parts of its top. A variable has the form of the type that is put for it. No value is a map yet.
+-- The form of a closed type, without the parts of its top. A variable has the form of the type that is put for it, and of
+-- unit where none is. No value is a map yet.
 pub data Form : Type 0 where
   int_form : Form
   bool_form : Form
@@ -78,7 +79,7 @@ abbrev mutual
   form (also T q) = form T
 
   pub form_at : Shuts → ℕ → Form
-  form_at no_shuts a = no_form
+  form_at no_shuts a = unit_form
   form_at (more_shuts T Ts) zero = form T
   form_at (more_shuts T Ts) (suc a) = form_at Ts a
 

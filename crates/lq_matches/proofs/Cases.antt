@@ -15,7 +15,7 @@ use Rattle.lq_parts.specs.Substitution.{of_sum, Subst}
 use Rattle.lq_tree.specs.MlType as ml
 use Rattle.lq_tree.specs.MlType.{MlType, MlTypes}
 use Rattle.lq_tree.specs.Types.{Constructor, count_types}
-use Rattle.lq_refined.specs.Context.{Context, type_in}
+use Rattle.lq_refined.specs.Context.{Context}
 use Rattle.lq_refined.specs.Operations.{symbol_of}
 use Rattle.lq_refined.specs.Refined.{Matrix, Refined, Refineds, int_with, bool_with, unit_type, function, tuple_of, array_with, data_with, map_with, type_variable, object, count, erased}
 use Rattle.lq_refined.specs.Unfolding as open_types
@@ -26,35 +26,34 @@ use Rattle.lq_checks.specs.Fitting.{Fits}
 use Rattle.lq_checks.specs.Match.{is_datatype, is_data_match, in_arm, arm_context, names_for, bind_all, value_as, missing_context}
 use Rattle.lq_checks.specs.Operation.{datatype_of, equations_by, bind}
 use Rattle.lq_checks.specs.Ready.{Where}
-use Rattle.lq_checks.specs.Pure.{pure_type}
+use Rattle.lq_checks.specs.Pure.{variable_type, pure_type}
 use Rattle.lq_checks.specs.Pure as pures
 use Rattle.lq_checks.specs.Tree as tree
 use Rattle.lq_checks.specs.Tree.{Use, Pattern, pattern_any, pattern_name, pattern_unit, pattern_tuple, pattern_build, has_default, Arms, no_arms, arm, Block}
 use Rattle.lq_checks.specs.Typing as typing
-use Rattle.lq_checks.specs.Typing.{Points, Types, HaveArms, have_no_arms, have_arm}
+use Rattle.lq_checks.specs.Typing.{Points, AreTemplates, Types, HaveArms, have_no_arms, have_arm}
 use Rattle.lq_inhabits.specs.Truth.{Givens, given, value_at, as_number, as_object, Objects, Scene, AreTrue}
 use Rattle.lq_inhabits.specs.Shut.{shut, shut_all, Shuts, field_values, unfolded}
 use Rattle.lq_inhabits.specs.Inhabits.{Table, Inhabits, Agrees, Makes}
 use Rattle.lq_inhabits.specs.Runs.{RunsWell, LandsIn}
 use Rattle.lq_inhabits.proofs.Keeping.{AllFit}
 use Rattle.lq_included.specs.Laws.{IsScene}
-use Rattle.lq_included.specs.Symbols.{Symbols, TypeOn, Agree}
+use Rattle.lq_included.specs.Symbols.{Symbols, InsideOn, TypeOn, Agree}
 use Rattle.lq_included.proofs.Truths.{implied_true, parts_same}
-use Rattle.lq_runs.specs.Closed.{names_in, with_value, IsClosed}
-use Rattle.lq_runs.specs.Meets.{pairs, Meets}
+use Rattle.lq_runs.specs.Closed.{names_in, with_value, IsClosed, Binds}
+use Rattle.lq_runs.specs.Meets.{pairs, Variables, Meets}
 use Rattle.lq_runs.specs.Runs.{RunsTo}
 use Rattle.lq_runs.proofs.Closing.{agree_new, facts_on}
 use Rattle.lq_runs.proofs.Lower.{Lower}
-use Rattle.lq_runs.proofs.Meeting.{look, extends_self, meets_less, meets_bind}
+use Rattle.lq_runs.proofs.Meeting.{extends_self, meets_less, meets_bind}
 use Rattle.lq_fields.specs.Fields.{KnowsMeasures, IsDatatypeFor, FieldsFit, EquationsAreTrue, terms_from, flags_from}
 use Rattle.lq_fields.specs.Standing.{StandsOn}
 use Rattle.lq_fields.proofs.Stands.{HaveValues, stands_cons, names_stand, names_put, terms_not_value, flags_not_value}
 use Rattle.lq_fields.proofs.Unfolded.{count-unfolded}
 use Rattle.lq_pures.specs.Cores.{arm_pattern, name_patterns, block_core, arms_core}
-use Rattle.lq_pures.specs.Pures.{KnowsLengths, scene_of, UseOver}
-use Rattle.lq_pures.proofs.Pures.{type_fits}
+use Rattle.lq_pures.specs.Pures.{KnowsLengths, scene_of, UseIn}
+use Rattle.lq_pures.proofs.Pures.{Instancing, no_position, use_type, look_up}
 use Rattle.lq_calls.specs.Operands.{IsUsable, OperandsRun}
-use Rattle.lq_calls.proofs.Operands.{no_position}
 use Rattle.lq_tuples.proofs.Arms.{Closings, match_goes, arm_runs}
 use Rattle.lq_tuples.proofs.Binding.{onto, count_values, agree_all, have_values, meets_all, zipped, names_fit, same_pairs}
 use Rattle.lq_tuples.proofs.Matching.{predicates, exact_is, PatternHas, pattern_has}
@@ -122,24 +121,21 @@ no_tuple (type_variable i) us h e = absurd (cc)
 false_true : false ≡ true → ⊥
 false_true e = cc
 
-module _ (law : Lower) (closings : Closings) (operands : OperandsRun) (fields : FieldsFit) (equations : EquationsAreTrue) (P : Basis) (A : Assignment) (O : Objects) (is : IsScene (scene_of P A O)) (lengths : KnowsLengths O) (knows : KnowsMeasures P O) (by : Shuts) (Q : Points) (Δ : Types) (Γ : Context) (fits_in : Fits Δ Γ) (closed : IsClosed (scene_of P A O) Γ) (l : Place) (u : Use) (over : UseOver (names_in Γ) u) (t : Refined) (on : TypeOn A t (names_in Γ)) where
+module _ (law : Lower) (inst : Instancing) (closings : Closings) (operands : OperandsRun) (fields : FieldsFit) (equations : EquationsAreTrue) (P : Basis) (A : Assignment) (O : Objects) (is : IsScene (scene_of P A O)) (lengths : KnowsLengths O) (knows : KnowsMeasures P O) (by : Variables) (Q : Points) (are : AreTemplates P Q) (Δ : Types) (Γ : Context) (fits_in : Fits Δ Γ) (closed : IsClosed (scene_of P A O) Γ) (l : Place) (u : Use) (over : UseIn P A by Γ u) (t : Refined) (on : TypeOn A t (names_in Γ)) where
   abbrev S : Scene
   S = scene_of P A O
 
   abbrev own : Refined
-  own = type_in Γ (symbol_of u.name)
-
-  use-is : pures.type_of_use P Γ u ≡ own
-  use-is = ap (λ i. pures.instance_of P Γ i own) over.1
+  own = pures.type_of_use P Γ u
 
   simple-is : erased own ≡ typing.type_of_use Q Δ u
-  simple-is = type_fits Δ Γ fits_in u.name ∙ sym (ap (λ i. typing.instance_of Q i (typing.simple_type_in Δ u.name)) over.1)
+  simple-is = use_type law inst P A O is lengths by Q are Δ Γ fits_in closed u
 
   -- where the match goes, in a world in which as many steps are left
   pub record Goes (n : ℕ) (W : Table) (σ : Givens) (w : World) (v : Value) (arms : core.Arms) : Type 0 where
     pub next : Core
     pub step : first_arm l (close_arms (pairs σ) arms) v w ≡ goes next w
-    pub runs : (k : ℕ) → n ≡ suc k → RunsWell k next w (LandsIn S W (shut σ by t))
+    pub runs : (k : ℕ) → n ≡ suc k → RunsWell k next w (LandsIn S W (shut σ by.types t))
 
   -- an arm whose pattern fits and whose names have good values
   taken : (q : core.Pattern) (b : Core) (rest : core.Arms) (Θ : Context) → RunsTo S by Θ b t → (n : ℕ) (W : Table) (σ τ : Givens) (w : World) → Agrees S n W w → (v : Value) (ps : Pairs) → fits q v ≡ Some ps → Agree (names_in Γ) τ σ → ((y : ℕ) → core.value_in (ps ++ pairs σ) y ≡ core.value_in (pairs τ) y) → Meets S by (suc n) W Θ τ → Goes n W σ w v (core.more_arms q b rest)
@@ -150,7 +146,7 @@ module _ (law : Lower) (closings : Closings) (operands : OperandsRun) (fields : 
   skipped : (q : core.Pattern) (b : Core) (rest : core.Arms) (n : ℕ) (W : Table) (σ : Givens) (w : World) (v : Value) → fits q v ≡ None → Goes n W σ w v rest → Goes n W σ w v (core.more_arms q b rest)
   skipped q b rest n W σ w v absent g = record { next = g.next; step = rw (absent, g.step); runs = g.runs }
 
-  module _ (d : ℕ) (Ts : Refineds) (M : Matrix) (p : Parts) (shape : own ≡ data_with d Ts M p) (good : (c : ℕ) (k : Constructor) → Makes P.setting.constructors d c k → IsDatatypeFor S P c k (data_with d Ts M p)) (n : ℕ) (W : Table) (σ : Givens) (w : World) (ag : Agrees S n W w) (m : Meets S by (suc n) W Γ σ) (c : ℕ) (vs : Values) (k : Constructor) (makes : Makes P.setting.constructors d c k) (at : value_at σ (symbol_of u.name) ≡ Some (v_build c vs)) (fit : Inhabits S (suc n) W (shut σ by (data_with d Ts M p)) (v_build c vs)) (own_on : TypeOn A (data_with d Ts M p) (names_in Γ)) where
+  module _ (d : ℕ) (Ts : Refineds) (M : Matrix) (p : Parts) (shape : own ≡ data_with d Ts M p) (good : (c : ℕ) (k : Constructor) → Makes P.setting.constructors d c k → IsDatatypeFor S P c k (data_with d Ts M p)) (n : ℕ) (W : Table) (σ : Givens) (w : World) (ag : Agrees S n W w) (m : Meets S by (suc n) W Γ σ) (c : ℕ) (vs : Values) (k : Constructor) (makes : Makes P.setting.constructors d c k) (at : value_at σ (symbol_of u.name) ≡ Some (v_build c vs)) (fit : Inhabits S (suc n) W (shut σ by.types (data_with d Ts M p)) (v_build c vs)) (own_on : TypeOn A (data_with d Ts M p) (names_in Γ)) where
     abbrev N : Symbols
     N = names_in Γ
 
@@ -165,13 +161,13 @@ module _ (law : Lower) (closings : Closings) (operands : OperandsRun) (fields : 
     ts = open_types.unfolded P.setting.scopes [] d Ts M c k.fields
 
     -- the fields' values at other values of names that agree
-    fields_at : (τ : Givens) → Agree N σ τ → AllFit S (suc n) W (unfolded (field_values 0 vs) d (shut_all τ by Ts) M c 0 k.fields) vs
+    fields_at : (τ : Givens) → Agree N σ τ → AllFit S (suc n) W (unfolded (field_values 0 vs) d (shut_all τ by.types Ts) M c 0 k.fields) vs
     fields_at τ agree =
-        let h = law.thin S is (data_with d Ts M p) N own_on σ τ by agree (suc n) W v fit in
-        subst (λ j. AllFit S (suc n) W (unfolded (field_values 0 vs) d (shut_all τ by Ts) M c 0 j.fields) vs) (same_constructor h.0.0 h.0.1) h.0.2
+        let h = law.thin S is (data_with d Ts M p) N own_on σ τ by.types agree (suc n) W v fit in
+        subst (λ j. AllFit S (suc n) W (unfolded (field_values 0 vs) d (shut_all τ by.types Ts) M c 0 j.fields) vs) (same_constructor h.0.0 h.0.1) h.0.2
 
     counted : count_types k.fields ≡ count_values vs
-    counted = count-fields S (suc n) W (field_values 0 vs) d (shut_all σ by Ts) M c 0 k.fields vs (fields_at σ (λ y h. refl))
+    counted = count-fields S (suc n) W (field_values 0 vs) d (shut_all σ by.types Ts) M c 0 k.fields vs (fields_at σ (λ y h. refl))
 
     -- the constructor's equations, where the variable and the fields have these values
     equations_true : (θ : Subst) (τ : Givens) → value_at τ (symbol_of u.name) ≡ Some v → StandsOn O θ (terms_from 0 ts) (flags_from 0 ts) τ (field_values 0 vs) → AreTrue S τ (equations_by P c (value_as u.name ∷ θ))
@@ -195,7 +191,7 @@ module _ (law : Lower) (closings : Closings) (operands : OperandsRun) (fields : 
         let us = open_types.unfolded P.setting.scopes θ d Ts M c k.fields in
         let gs = equations_by P c (value_as u.name ∷ θ) in
         let Θ = with_guards gs (bind_all xs us Γ) in
-        let E : in_arm P Γ u (pattern_build c xs) ≡ Θ = ap (λ z. arm_context P Γ u.name z (pattern_build c xs)) (use-is ∙ shape) ∙ ap (λ o. with_guards (equations_by P c (value_as u.name ∷ names_for 0 xs (open_types.unfolded P.setting.scopes [] d Ts M c (fields_of o)))) (bind_all xs (open_types.unfolded P.setting.scopes (names_for 0 xs (open_types.unfolded P.setting.scopes [] d Ts M c (fields_of o))) d Ts M c (fields_of o)) Γ)) makes.0 in
+        let E : in_arm P Γ u (pattern_build c xs) ≡ Θ = ap (λ z. arm_context P Γ u.name z (pattern_build c xs)) shape ∙ ap (λ o. with_guards (equations_by P c (value_as u.name ∷ names_for 0 xs (open_types.unfolded P.setting.scopes [] d Ts M c (fields_of o)))) (bind_all xs (open_types.unfolded P.setting.scopes (names_for 0 xs (open_types.unfolded P.setting.scopes [] d Ts M c (fields_of o))) d Ts M c (fields_of o)) Γ)) makes.0 in
         let c2 : IsClosed S Θ = subst (IsClosed S) E c1 in
         let c3 : IsClosed S (bind_all xs us Γ) = closed_without S gs (bind_all xs us Γ) c2 in
         let τ = onto xs vs σ in
@@ -205,9 +201,9 @@ module _ (law : Lower) (closings : Closings) (operands : OperandsRun) (fields : 
         let sized : length xs ≡ count us = e ∙ sym (count-unfolded P.setting.scopes θ d Ts M c 0 k.fields) in
         let tsized : length xs ≡ count ts = e ∙ sym (count-unfolded P.setting.scopes [] d Ts M c 0 k.fields) in
         let have : HaveValues τ xs vs = have_values S xs us vs Γ σ valued c3 in
-        let opened = (fields S is d Ts M c k makes (good c k makes).matrix θ τ by vs (names_put O τ xs ts vs tsized have) (suc n) W).0 (fields_at τ back) in
-        let bound = meets_all S law is by (suc n) (suc n) W (omega numbers) xs us vs sized Γ σ c3 m opened in
-        let here : value_at τ (symbol_of u.name) ≡ Some v = agree (symbol_of u.name) over.0 ∙ at in
+        let opened = (fields S is d Ts M c k makes (good c k makes).matrix θ τ by.types vs (names_put O τ xs ts vs tsized have) (suc n) W).0 (fields_at τ back) in
+        let bound = meets_all S law is by (suc n) (suc n) W (omega numbers) xs us vs sized Γ σ closed c3 m opened in
+        let here : value_at τ (symbol_of u.name) ≡ Some v = agree (symbol_of u.name) over.0.0 ∙ at in
         let eqs = equations_true θ τ here (names_stand O τ xs ts vs tsized have 0) in
         let met = meets_guards law S is by (suc n) W gs (bind_all xs us Γ) τ c2 bound eqs in
         taken (arm_pattern (pattern_build c xs)) b rest Θ (subst (λ z. RunsTo S by z b t) E runs) n W σ τ w ag v (zipped xs vs) (fitting ∙ names_fit xs vs valued) agree (same_pairs S xs us vs Γ σ c3) met
@@ -228,9 +224,12 @@ module _ (law : Lower) (closings : Closings) (operands : OperandsRun) (fields : 
         taken core.any (block_core b) (arms_core arms) Γ default.1 n W σ σ w ag v [] refl (λ y i. refl) (λ y. refl) m
     arms_go (arm (pattern_name y) b arms) h k is_data case default =
         let T = pure_type P Γ (tree.use_of u) in
-        let r = operands P A O is lengths by Q Δ Γ fits_in closed (tree.use_of u) (typing.type_of_use Q Δ u) typing.has_use over k n W σ m in
-        let own_fit : Inhabits S (suc n) W (shut σ by T) v = subst (Inhabits S (suc n) W (shut σ by T)) (sym (exact_is σ u.name v r.0 w at (r.3 0 w))) r.1 in
-        taken (core.bind y) (block_core b) (arms_core arms) (bind y T Γ) default.1 n W σ (given (symbol_of y) v ∷ σ) w ag v ((y, v) ∷ []) refl (agree_new Γ (symbol_of y) v σ default.0.1) (λ z. refl) (meets_bind law S is by (suc n) (suc n) W W Γ σ (symbol_of y) T v (omega numbers) (extends_self W) default.0 m own_fit)
+        let inner : InsideOn A T N = subst (λ z. InsideOn A (variable_type P.setting.scopes u.name z) N) (sym shape) own_on.0 in
+        let c1 = default.0 in
+        let binds : Binds S (symbol_of y) T Γ = (c1.0, c1.1, ((inner, c1.2.0.1), c1.2.1), closed) in
+        let r = operands P A O is lengths by Q are Δ Γ fits_in closed (tree.use_of u) (typing.type_of_use Q Δ u) typing.has_use over k n W σ m in
+        let own_fit : Inhabits S (suc n) W (shut σ by.types T) v = subst (Inhabits S (suc n) W (shut σ by.types T)) (sym (exact_is σ u.name v r.0 w at (r.3 0 w))) r.1 in
+        taken (core.bind y) (block_core b) (arms_core arms) (bind y T Γ) default.1 n W σ (given (symbol_of y) v ∷ σ) w ag v ((y, v) ∷ []) refl (agree_new Γ (symbol_of y) v σ default.0.1) (λ z. refl) (meets_bind law S is by (suc n) (suc n) W W Γ σ (symbol_of y) T v (omega numbers) (extends_self W) binds m own_fit)
     arms_go (arm pattern_unit b arms) h k is_data case default = absurd (no_unit own is_data (simple-is ∙ h.0))
     arms_go (arm (pattern_tuple xs) b arms) h k is_data case default = absurd (no_tuple own h.0.0 is_data (simple-is ∙ h.0.1))
     arms_go (arm (pattern_build i xs) b arms) h k1 is_data case default =
@@ -239,15 +238,15 @@ module _ (law : Lower) (closings : Closings) (operands : OperandsRun) (fields : 
   -- the whole match
   pub match_runs : (arms : Arms) → PatternsHave P (typing.type_of_use Q Δ u) arms → IsUsable S Γ own → is_data_match P Γ u ≡ true → ((c : ℕ) (k : Constructor) → Makes P.setting.constructors (datatype_of own) c k → IsDatatypeFor S P c k own) → ((c : ℕ) (k : Constructor) → Makes P.setting.constructors (datatype_of own) c k → CaseRuns P A O by Γ u t (has_default arms) c arms) → DefaultRuns P A O by Γ u t arms → RunsTo S by Γ (match_on l (use_of u.name) (arms_core arms)) t
   match_runs arms h usable known_data good cases default n W σ w m ag =
-      let f = look law S is by (suc n) W Γ σ closed m.named (symbol_of u.name) over.0 in
-      let is_data : is_datatype own ≡ true = ap is_datatype (sym use-is) ∙ known_data in
+      let f = look_up law inst P A O is lengths by Q are Δ Γ fits_in closed (suc n) W σ m u over in
+      let is_data : is_datatype own ≡ true = known_data in
       let D = data_form own is_data in
       let d = D.0 in
       let T = data_with D.0 D.1 D.2 D.3 in
-      let fit : Inhabits S (suc n) W (shut σ by T) f.value = subst (λ z. Inhabits S (suc n) W (shut σ by z) f.value) D.4 f.fits in
-      let B = build_of_it S (suc n) W σ by D.0 D.1 D.2 D.3 f.value fit in
+      let fit : Inhabits S (suc n) W (shut σ by.types T) f.value = subst (λ z. Inhabits S (suc n) W (shut σ by.types z) f.value) D.4 f.fits in
+      let B = build_of_it S (suc n) W σ by.types D.0 D.1 D.2 D.3 f.value fit in
       let good2 = subst (λ z. (c : ℕ) (k : Constructor) → Makes P.setting.constructors (datatype_of z) c k → IsDatatypeFor S P c k z) D.4 good in
       let cases2 = subst (λ z. (c : ℕ) (k : Constructor) → Makes P.setting.constructors (datatype_of z) c k → CaseRuns P A O by Γ u t (has_default arms) c arms) D.4 cases in
       let at : value_at σ (symbol_of u.name) ≡ Some (v_build B.0 B.1) = f.is ∙ ap Some B.3 in
-      let g = arms_go D.0 D.1 D.2 D.3 D.4 good2 n W σ w ag m B.0 B.1 B.2 B.4 at (subst (Inhabits S (suc n) W (shut σ by T)) B.3 fit) (subst (λ z. TypeOn A z (names_in Γ)) D.4 f.over) arms h usable is_data (cases2 B.0 B.2 B.4) default in
-      match_goes l u.name (arms_core arms) σ (v_build B.0 B.1) at n w g.next (LandsIn S W (shut σ by t)) g.step g.runs
+      let g = arms_go D.0 D.1 D.2 D.3 D.4 good2 n W σ w ag m B.0 B.1 B.2 B.4 at (subst (Inhabits S (suc n) W (shut σ by.types T)) B.3 fit) (subst (λ z. TypeOn A z (names_in Γ)) D.4 f.over) arms h usable is_data (cases2 B.0 B.2 B.4) default in
+      match_goes l u.name (arms_core arms) σ (v_build B.0 B.1) at n w g.next (LandsIn S W (shut σ by.types t)) g.step g.runs

@@ -9,13 +9,13 @@ use Rattle.lq_refined.specs.Context.{Context, guard}
 use Rattle.lq_refined.specs.Refined.{Refineds, none, more, Kind, number, truth_value, object, other, kind, count}
 use Rattle.lq_subtype.specs.Subtype.{with_guards, facts}
 use Rattle.lq_inhabits.specs.Truth.{Givens, value_at, Objects, Scene, AreTrue}
-use Rattle.lq_inhabits.specs.Shut.{Shuts, field_values}
+use Rattle.lq_inhabits.specs.Shut.{field_values}
 use Rattle.lq_inhabits.specs.Inhabits.{Table}
 use Rattle.lq_included.specs.Laws.{IsScene}
 use Rattle.lq_included.specs.Symbols.{Symbols, Agree}
 use Rattle.lq_included.proofs.Truths.{parts_append, parts_first, parts_rest, decide, at_but}
 use Rattle.lq_runs.specs.Closed.{IsClosed}
-use Rattle.lq_runs.specs.Meets.{Meets}
+use Rattle.lq_runs.specs.Meets.{Variables, Meets}
 use Rattle.lq_runs.proofs.Closing.{or_parts, lacks_value}
 use Rattle.lq_runs.proofs.Lower.{Lower}
 use Rattle.lq_fields.specs.Fields.{with_term, with_flag, terms_from, flags_from}
@@ -33,10 +33,10 @@ guards_true S ρ (q ∷ qs) Γ h k =
     guards_true S ρ qs (guard q ∷ Γ) (parts_append S ρ (facts S.setting Γ) (q ∷ []) h (parts_first S ρ q qs k)) (parts_rest S ρ q qs k)
 
 -- values that are good for an environment are good with guards that are true of them
-pub meets_guards : Lower → (S : Scene) → IsScene S → (by : Shuts) (n : ℕ) (W : Table) (gs : Parts) (Γ : Context) (σ : Givens) → IsClosed S (with_guards gs Γ) → Meets S by n W Γ σ → AreTrue S σ gs → Meets S by n W (with_guards gs Γ) σ
+pub meets_guards : Lower → (S : Scene) → IsScene S → (by : Variables) (n : ℕ) (W : Table) (gs : Parts) (Γ : Context) (σ : Givens) → IsClosed S (with_guards gs Γ) → Meets S by n W Γ σ → AreTrue S σ gs → Meets S by n W (with_guards gs Γ) σ
 meets_guards law S is by n W [] Γ σ c m h = m
 meets_guards law S is by n W (q ∷ qs) Γ σ c m h =
-    meets_guards law S is by n W qs (guard q ∷ Γ) σ c record { known = record { true_facts = parts_append S σ (facts S.setting Γ) (q ∷ []) m.known.true_facts (parts_first S σ q qs h); no_value = m.known.no_value; lacks_value = lacks_value law S is (guard q ∷ Γ) (closed_without S qs (guard q ∷ Γ) c) }; named = m.named } (parts_rest S σ q qs h)
+    meets_guards law S is by n W qs (guard q ∷ Γ) σ c record { known = record { true_facts = parts_append S σ (facts S.setting Γ) (q ∷ []) m.known.true_facts (parts_first S σ q qs h); no_value = m.known.no_value; lacks_value = lacks_value law S is (guard q ∷ Γ) (closed_without S qs (guard q ∷ Γ) c) }; named = m.named; within = m.within } (parts_rest S σ q qs h)
 
 -- ---- fields in front of other values
 

@@ -7,30 +7,30 @@ use Rattle.lq_model.specs.Core.{match_on}
 use Rattle.lq_parts.specs.Assignment.{Assignment}
 use Rattle.lq_tree.specs.MlType.{MlType}
 use Rattle.lq_tree.specs.Types.{Constructor}
-use Rattle.lq_refined.specs.Context.{Context, type_in}
-use Rattle.lq_refined.specs.Operations.{symbol_of}
+use Rattle.lq_refined.specs.Context.{Context}
 use Rattle.lq_refined.specs.Refined.{Refined}
 use Rattle.lq_checks.specs.Basis.{Basis}
 use Rattle.lq_checks.specs.Checks.{Demanded}
 use Rattle.lq_checks.specs.Fitting.{Fits}
 use Rattle.lq_checks.specs.Match.{is_data_match, in_arm, missing_context}
 use Rattle.lq_checks.specs.Operation.{datatype_of}
+use Rattle.lq_checks.specs.Pure as pures
 use Rattle.lq_checks.specs.Ready.{Where}
 use Rattle.lq_checks.specs.Tree.{Use, is_arm_of, takes_all, has_default, Arms, no_arms, arm}
-use Rattle.lq_checks.specs.Typing.{Points, Types, type_of_use, HaveArms}
+use Rattle.lq_checks.specs.Typing.{Points, AreTemplates, Types, type_of_use, HaveArms}
 use Rattle.lq_inhabits.specs.Truth.{Objects}
-use Rattle.lq_inhabits.specs.Shut.{Shuts}
 use Rattle.lq_inhabits.specs.Inhabits.{Makes}
 use Rattle.lq_included.specs.Laws.{IsScene}
 use Rattle.lq_included.specs.Symbols.{TypeOn}
 use Rattle.lq_runs.specs.Closed.{names_in, IsClosed}
+use Rattle.lq_runs.specs.Meets.{Variables}
 use Rattle.lq_runs.specs.Runs.{RunsTo}
 use Rattle.lq_fields.specs.Fields.{KnowsMeasures, IsDatatypeFor}
 use Rattle.lq_pures.specs.Cores.{block_core, arms_core}
-use Rattle.lq_pures.specs.Pures.{KnowsLengths, scene_of, UseOver}
+use Rattle.lq_pures.specs.Pures.{KnowsLengths, scene_of, UseIn}
 use Rattle.lq_calls.specs.Operands.{IsUsable}
 
-module _ (P : Basis) (A : Assignment) (O : Objects) (by : Shuts) (Γ : Context) (u : Use) (t : Refined) where
+module _ (P : Basis) (A : Assignment) (O : Objects) (by : Variables) (Γ : Context) (u : Use) (t : Refined) where
   -- The first arm that names the constructor runs to the type, in a closed environment. Where none does, either some arm takes all, or the
   -- constructor is impossible under its equations.
   abbrev pub CaseRuns : Bool → ℕ → Arms → Type 0
@@ -47,11 +47,13 @@ module _ (P : Basis) (A : Assignment) (O : Objects) (by : Shuts) (Γ : Context) 
 -- a match on a variable of a datatype runs to what these arms run to
 abbrev pub MatchRuns : Type 0
 MatchRuns =
-    (P : Basis) (A : Assignment) (O : Objects) → IsScene (scene_of P A O) → KnowsLengths O → KnowsMeasures P O → (by : Shuts) (Q : Points)
-    (Δ : Types) (Γ : Context) → Fits Δ Γ → IsClosed (scene_of P A O) Γ → (l : Place) (u : Use) (arms : Arms) (t : Refined) (a : MlType)
-    → UseOver (names_in Γ) u → IsUsable (scene_of P A O) Γ (type_in Γ (symbol_of u.name)) → HaveArms P Q Δ (type_of_use Q Δ u) arms a
+    (P : Basis) (A : Assignment) (O : Objects) → IsScene (scene_of P A O) → KnowsLengths O → KnowsMeasures P O → (by : Variables) (Q : Points)
+    → AreTemplates P Q → (Δ : Types) (Γ : Context) → Fits Δ Γ → IsClosed (scene_of P A O) Γ → (l : Place) (u : Use) (arms : Arms)
+    (t : Refined) (a : MlType) → UseIn P A by Γ u → IsUsable (scene_of P A O) Γ (pures.type_of_use P Γ u) → HaveArms P Q Δ (type_of_use Q Δ u) arms a
     → is_data_match P Γ u ≡ true
-    → ((c : ℕ) (k : Constructor) → Makes P.setting.constructors (datatype_of (type_in Γ (symbol_of u.name))) c k → IsDatatypeFor (scene_of P A O) P c k (type_in Γ (symbol_of u.name)))
+    → ((c : ℕ) (k : Constructor) → Makes P.setting.constructors (datatype_of (pures.type_of_use P Γ u)) c k
+    → IsDatatypeFor (scene_of P A O) P c k (pures.type_of_use P Γ u))
     → TypeOn A t (names_in Γ)
-    → ((c : ℕ) (k : Constructor) → Makes P.setting.constructors (datatype_of (type_in Γ (symbol_of u.name))) c k → CaseRuns P A O by Γ u t (has_default arms) c arms)
+    → ((c : ℕ) (k : Constructor) → Makes P.setting.constructors (datatype_of (pures.type_of_use P Γ u)) c k
+    → CaseRuns P A O by Γ u t (has_default arms) c arms)
     → DefaultRuns P A O by Γ u t arms → RunsTo (scene_of P A O) by Γ (match_on l (core.use_of u.name) (arms_core arms)) t

@@ -18,8 +18,8 @@ use Rattle.lq_inhabits.specs.Truth.{Scene}
 use Rattle.lq_included.specs.Apart.{MayBind, MayBindFields, CellsOn, AreCellsApart}
 use Rattle.lq_included.specs.Laws.{IsScene}
 use Rattle.lq_included.specs.Symbols.{Symbols, other_than, with_symbol, Lacks}
-use Rattle.lq_runs.specs.Closed.{names_in, IsTypeOver, IsClosed}
-use Rattle.lq_runs.proofs.Closing.{Within, or_parts, within_with, each_more, may_bind}
+use Rattle.lq_runs.specs.Closed.{names_in, IsTypeOver, IsClosed, Binds}
+use Rattle.lq_runs.proofs.Closing.{Within, or_parts, within_with, each_more, closed_bind, may_bind}
 use Rattle.lq_runs.proofs.Lower.{Lower}
 use Rattle.lq_new_names.specs.NewNames.{HasNoPositions}
 use Rattle.lq_new_names.proofs.Wider.{over_more, new_of}
@@ -125,9 +125,9 @@ module _ (law : Lower) (S : Scene) (is : IsScene S) where
         let Us = open_types.pushed S.setting.scopes [] M c j 0 Ls in
         let T : Refined = cond (is_again d (count Ls) f) (data_with d Us M []) (bare Ls f) in
         let o = over_more S N (names_in Λ) w (shallow T) (field_over (is_again d (count Ls) f) Us f) in
-        let inner : IsClosed S (name x (shallow T) ∷ Λ) = (refl, new_of Λ x (new j (omega numbers)), o, closed) in (
+        let inner : Binds S x (shallow T) Λ = (refl, new_of Λ x (new j (omega numbers)), o, closed) in (
           may_shallow T x Γ Λ e (may_bind law S is Λ x (shallow T) inner),
-          fields_may fs (suc j) (name x T ∷ Γ) (name x (shallow T) ∷ Λ) (same_facts T x Γ Λ e) inner
+          fields_may fs (suc j) (name x T ∷ Γ) (name x (shallow T) ∷ Λ) (same_facts T x Γ Λ e) (closed_bind S x (shallow T) Λ inner)
               (λ y h. within_with (names_in Λ) x y (w y h))
               (λ i le.
               both_false (names_in Λ (symbol.Position (suc i))) (suc j == suc i) (new i (omega (numbers, le)))

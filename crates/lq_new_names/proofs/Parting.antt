@@ -6,7 +6,7 @@ use Rattle.lq_model.specs.Core.{Value}
 use Rattle.lq_parts.specs.Assignment.{Assignment}
 use Rattle.lq_parts.specs.Part.{Scopes}
 use Rattle.lq_parts.specs.Substitution.{swap}
-use Rattle.lq_refined.specs.Context.{Context, name}
+use Rattle.lq_refined.specs.Context.{Context}
 use Rattle.lq_refined.specs.Operations.{symbol_of, atom_of, type_by, renamed}
 use Rattle.lq_refined.specs.Refined.{Refined, Refineds, int_with, bool_with, unit_type, function, tuple_of, array_with, data_with, map_with, type_variable, none, more, Kind, kind}
 use Rattle.lq_subtype.specs.Subtype.{Setting, IsSubtype, sub, IsInside, in_int, in_bool, in_unit, in_variable, in_function, in_tuple, in_array, in_data, in_map, AreSubtypes, sub_none, sub_more, AreComponents, component_none, component_more}
@@ -16,8 +16,8 @@ use Rattle.lq_inhabits.specs.Below.{Below}
 use Rattle.lq_included.specs.Apart.{Turns, Apart, ApartInside, AllApart, ApartComponents}
 use Rattle.lq_included.specs.Laws.{IsScene}
 use Rattle.lq_included.specs.Symbols.{Symbols, with_symbol, TypeOn}
-use Rattle.lq_runs.specs.Closed.{names_in, IsTypeOver, IsClosed}
-use Rattle.lq_runs.proofs.Closing.{Within, within_with, with_within, agree_new, may_bind}
+use Rattle.lq_runs.specs.Closed.{names_in, IsTypeOver, IsClosed, Binds}
+use Rattle.lq_runs.proofs.Closing.{Within, within_with, with_within, agree_new, closed_bind, may_bind}
 use Rattle.lq_runs.proofs.Lower.{Lower}
 use Rattle.lq_new_names.specs.NewNames.{HasNoPositions, IsInScope, ComponentsInScope, ArgumentsInScope, HasNoNames, HaveNoNames}
 use Rattle.lq_new_names.proofs.Fields.{AllOver, both_false, less_apart, cells_apart}
@@ -115,8 +115,8 @@ scene P A O = record { setting = P; assignment = A; objects = O }
 
 module _ (law : Lower) (P : Setting) (A : Assignment) (O : Objects) (is : IsScene (scene P A O)) where
   -- a new name of the environment
-  closed_with : (Γ : Context) (x : ℕ) (t : Refined) → IsClosed (scene P A O) Γ → names_in Γ (symbol_of x) ≡ false → IsTypeOver (scene P A O) (names_in Γ) t → IsClosed (scene P A O) (name (symbol_of x) t ∷ Γ)
-  closed_with Γ x t c n o = (refl, new_of Γ (symbol_of x) n, o, c)
+  binds_with : (Γ : Context) (x : ℕ) (t : Refined) → IsClosed (scene P A O) Γ → names_in Γ (symbol_of x) ≡ false → IsTypeOver (scene P A O) (names_in Γ) t → Binds (scene P A O) (symbol_of x) t Γ
+  binds_with Γ x t c n o = (refl, new_of Γ (symbol_of x) n, o, c)
 
   thin_name : (Γ : Context) (x : ℕ) (t : Refined) → names_in Γ (symbol_of x) ≡ false → TypeOn A t (names_in Γ) → (σ : Givens) (by : Shuts) (v : Value) → Below (scene P A O) (shut (given (symbol_of x) v ∷ σ) by t) (shut σ by t) × Below (scene P A O) (shut σ by t) (shut (given (symbol_of x) v ∷ σ) by t)
   thin_name Γ x t n o σ by v =
@@ -147,22 +147,24 @@ module _ (law : Lower) (P : Setting) (A : Assignment) (O : Objects) (is : IsScen
         (subtype_apart l c g.1 f.1 (arguments_named a b d e n), subtype_apart r c f.3 g.3 (results_named a b d e n), tt, (λ σ by v i z k W u h. h), (λ σ by v i z k W u h. h))
     inside_apart (in_function {Γ = Γ} {x = Some x} {y = None} {a = a} {b = b} {c = d} {d = e} l r) c f g n =
         let S = scene P A O in
-        let closed = closed_with Γ x d c f.0 g.0 in
+        let binds = binds_with Γ x d c f.0 g.0 in
+        let closed = closed_bind S (symbol_of x) d Γ binds in
         let N = with_symbol (names_in Γ) (symbol_of x) in
         let free = left_named a b x d e n in (
           subtype_apart l c g.1 f.2 (inl free.0),
           subtype_apart r closed (subst (IsInScope S N) (sym (same_name P.scopes x (kind a) b)) f.4) (named_more S (names_in Γ) x e free.1 g.3) (inr free.1),
-          may_bind law S is Γ (symbol_of x) d closed,
+          may_bind law S is Γ (symbol_of x) d binds,
           same_turns x d (kind a) b,
           (λ σ by v i z. (thin_name Γ x e f.0 g.2.0 σ by v).0),
         )
     inside_apart (in_function {Γ = Γ} {x = None} {y = Some y} {a = a} {b = b} {c = d} {d = e} l r) c f g n =
         let S = scene P A O in
-        let closed = closed_with Γ y d c g.0 g.1 in
+        let binds = binds_with Γ y d c g.0 g.1 in
+        let closed = closed_bind S (symbol_of y) d Γ binds in
         let free = right_named a b y d e n in (
           subtype_apart l c g.2 f.1 (inr free.0),
           subtype_apart r closed (named_more S (names_in Γ) y b free.1 f.3) g.4 (inl free.1),
-          may_bind law S is Γ (symbol_of y) d closed,
+          may_bind law S is Γ (symbol_of y) d binds,
           (λ σ by v i z. (thin_name Γ y b g.0 f.2.0 σ by v).1),
           (λ σ by v i z k W u h. h),
         )
@@ -177,10 +179,10 @@ module _ (law : Lower) (P : Setting) (A : Assignment) (O : Objects) (is : IsScen
     components_apart R component_none c d new f g n = tt
     components_apart R (component_more {Δ = Δ} {k = k} {l = l} {r = r} {ls = ls} {rs = rs} t i rest) c d new f g n =
         let x = symbol.Position (suc k) in
-        let closed : IsClosed (scene P A O) (name x l ∷ Δ) = (refl, new_of Δ x (new k (omega arith)), f.0, d) in (
+        let binds : Binds (scene P A O) x l Δ = (refl, new_of Δ x (new k (omega arith)), f.0, d) in (
           inside_apart i c f.1 g.1 (first_named l r ls rs n),
-          may_bind law (scene P A O) is Δ x l closed,
-          components_apart (with_symbol R x) rest c closed
+          may_bind law (scene P A O) is Δ x l binds,
+          components_apart (with_symbol R x) rest c (closed_bind (scene P A O) x l Δ binds)
               (λ j le.
               both_false (names_in Δ (symbol.Position (suc j))) (suc k == suc j) (new j (omega (arith, le)))
               (less_apart (suc k) (suc j) (omega (arith, le))))

@@ -13,7 +13,7 @@ list_plain = (
   (((tt, (tt, tt), tt), ((refl, tt), tt)), ((refl, tt), tt)),
   (
     (
-      (tt, tt, ((refl, refl), tt, tt)),
+      (tt, tt, ((refl, tt), tt, tt)),
       (inl tt, (inl ((tt, ((tt, (tt, tt)), (tt, tt)), tt), (tt, tt), (λ c j i. tt), (λ c j i. tt)), tt)),
       knows,
       (λ k e. at_name 8 filled_list refl refl k e),
@@ -21,14 +21,13 @@ list_plain = (
     (((tt, tt, tt), ((refl, (tt, refl)), tt)), ((refl, (tt, refl)), tt)),
     (
       (
-        (refl, refl),
+        (refl, tt),
         inl tt,
-        (tt, (tt, tt)),
         (
           (knows, listed, (λ c k h. all_good _ c k h)),
           (λ c.
               where_any (7 == c) _ _ ((λ k. (((refl, tt), tt), list_closed)), ((tt, tt), inl tt))
-              (where_any (8 == c) _ _ ((λ k. (((refl, (tt, refl)), tt), (refl, (refl, (refl, (refl, tt))), (((tt, tt, tt), tt), tt), (refl, (refl, (refl, tt)), ((tt, tt), tt), list_closed)))), ((refl, refl), inl tt)) tt)),
+              (where_any (8 == c) _ _ ((λ k. (((refl, (tt, refl)), tt), (refl, (refl, (refl, (refl, tt))), (((tt, tt, tt), tt), tt), (refl, (refl, (refl, tt)), ((tt, tt), tt), list_closed)))), ((refl, tt), inl tt)) tt)),
           tt,
         ),
       ),
@@ -43,12 +42,11 @@ tuple_plain = (
   inl (tt, tt, (tt, tt, tt)),
   (
     (
-      (refl, refl),
+      (refl, tt),
       inl (tt, (tt, tt)),
-      (tt, tt),
       (
         (((refl, tt), tt), (((refl, tt), tt), tt)),
-        ((λ k. (refl, (refl, (refl, tt)), ((tt, ((refl, tt), tt)), ((refl, tt), tt)), (refl, (refl, tt), ((tt, ((refl, tt), tt)), ((refl, tt), tt)), pair_closed))), ((refl, refl), inl tt)),
+        ((λ k. (refl, (refl, (refl, tt)), ((tt, ((refl, tt), tt)), ((refl, tt), tt)), (refl, (refl, tt), ((tt, ((refl, tt), tt)), ((refl, tt), tt)), pair_closed))), ((refl, tt), inl tt)),
       ),
     ),
     tt,
@@ -57,7 +55,7 @@ tuple_plain = (
 
 pub is_plain : DataExampleIsPlain
 is_plain = (
-  (tt, ((tt, ((refl, refl), tt)), ((refl, refl), (tt, ((refl, refl), tt))))),
+  (tt, ((tt, ((refl, tt), tt)), ((refl, tt), (tt, ((refl, tt), tt))))),
   list_plain,
-  (((tt, (tt, tt)), ((refl, refl), ((refl, refl), tt))), tuple_plain, tt),
+  (((tt, (tt, tt)), ((refl, tt), ((refl, tt), tt))), tuple_plain, tt),
 )

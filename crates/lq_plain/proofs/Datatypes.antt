@@ -4,7 +4,7 @@ use Rattle.lq_pred.specs.declared.symbol.Symbol.TheVariants as symbol
 use Rattle.lq_parts.specs.Assignment.{Assignment}
 use Rattle.lq_parts.specs.Part.{Parts, parts_by}
 use Rattle.lq_parts.specs.Substitution.{Subst}
-use Rattle.lq_refined.specs.Context.{Context, name, guard}
+use Rattle.lq_refined.specs.Context.{Context, guard}
 use Rattle.lq_refined.specs.Operations.{symbol_of}
 use Rattle.lq_refined.specs.Refined.{Refined, Refineds, int_with, bool_with, unit_type, function, tuple_of, array_with, data_with, map_with, type_variable, none, more, top, with_top, components_of}
 use Rattle.lq_subtype.specs.Splitting.{first_of, rest_of}
@@ -18,8 +18,8 @@ use Rattle.lq_inhabits.specs.Truth.{Objects, Scene}
 use Rattle.lq_included.specs.Apart.{Apart, ApartInside, AllApart, ApartComponents}
 use Rattle.lq_included.specs.Laws.{IsScene}
 use Rattle.lq_included.specs.Symbols.{Symbols, with_symbol}
-use Rattle.lq_runs.specs.Closed.{names_in, IsClosed}
-use Rattle.lq_runs.proofs.Closing.{Within, with_within, within_with, may_bind}
+use Rattle.lq_runs.specs.Closed.{names_in, IsClosed, Binds}
+use Rattle.lq_runs.proofs.Closing.{Within, with_within, within_with, closed_bind, may_bind}
 use Rattle.lq_runs.proofs.Lower.{Lower}
 use Rattle.lq_new_names.specs.NewNames.{HasNoPositions, SubtypesAreApart}
 use Rattle.lq_new_names.proofs.Fields.{AllOver, both_false, less_apart, cells_apart}
@@ -128,10 +128,10 @@ module _ (law : Lower) (S : Scene) (is : IsScene S) where
   components_apart N closed w new a component_none = tt
   components_apart N closed w new a (component_more {Δ = Δ} {k = k} {l = l} {r = r} t i rest) =
       let x = symbol.Position (suc k) in
-      let inner : IsClosed S (name x l ∷ Δ) = (refl, new_of Δ x (new k (omega numbers)), over_more S N (names_in Δ) w l a.2, closed) in (
+      let inner : Binds S x l Δ = (refl, new_of Δ x (new k (omega numbers)), over_more S N (names_in Δ) w l a.2, closed) in (
         base_inside S l r a.1 i,
         may_bind law S is Δ x l inner,
-        components_apart (with_symbol N x) inner (with_within N (names_in Δ) x w)
+        components_apart (with_symbol N x) (closed_bind S x l Δ inner) (with_within N (names_in Δ) x w)
             (λ j le.
             both_false (names_in Δ (symbol.Position (suc j))) (suc k == suc j) (new j (omega (numbers, le)))
             (less_apart (suc k) (suc j) (omega (numbers, le))))

@@ -1,5 +1,5 @@
--- Programs of plain forms are covered and in scope.
-use Rattle.std.proofs.Common.{◌≡◌, ◌⊎◌, inl, inr, ℕ, suc, pos, ◌||◌, Bool, true, false, cond, List, [], ◌∷◌, refl}
+-- Programs of plain forms are in scope.
+use Rattle.std.proofs.Common.{◌≡◌, ◌⊎◌, inl, inr, ℕ, suc, pos, Bool, true, false, List, [], ◌∷◌, refl}
 use Rattle.lq_parts.specs.Assignment.{Assignment}
 use Rattle.lq_parts.specs.Part.{known}
 use Rattle.lq_pred.specs.Formula.{negation}
@@ -8,7 +8,7 @@ use Rattle.lq_pred.specs.Sum.{Sum, same_symbol}
 use Rattle.lq_pred.specs.declared.symbol.Symbol.{Symbol}
 use Rattle.lq_pred.specs.declared.symbol.Symbol.TheVariants as symbol
 use Rattle.lq_name.specs.declared.place.Place.{Place}
-use Rattle.lq_refined.specs.Context.{Context, name, guard, type_in}
+use Rattle.lq_refined.specs.Context.{Context, guard}
 use Rattle.lq_refined.specs.Refined.{Refined, int_with, bool_with, unit_type, function, tuple_of, array_with, data_with, map_with, type_variable, Refineds, none, more, argument_of, number}
 use Rattle.lq_checks.specs.Basis.{Basis}
 use Rattle.lq_checks.specs.Binders.{IsNewName}
@@ -16,14 +16,14 @@ use Rattle.lq_checks.specs.Match.{is_data_match, matched_constructors, in_arm}
 use Rattle.lq_checks.specs.Ready.{Where}
 use Rattle.lq_checks.specs.Checks.{AreCases, IsCase, IsDefault, IsFirst, Obeys, obeys_fun, Against, against_last, against_binding, against_recursive, IsRecursive, is_recursive, Gives, gives_last, gives_binding, gives_recursive, Checks, checks_define, checks_recursive, checks_unit, checks_any}
 use Rattle.lq_checks.specs.Operation.{type_of, field_types, body_context, body_type, recursive_context, recursive_type, bind, quotient_facts, last_context, last_type}
-use Rattle.lq_checks.specs.Pure.{sum_of, formula_of, pure_type, pure_types}
+use Rattle.lq_checks.specs.Pure.{sum_of, formula_of, type_of_use, pure_type, pure_types}
 use Rattle.lq_checks.specs.Tree.{passes_on, is_arm_of, takes_all, has_default, Use, Arms, no_arms, arm, Pure, Operation, pure, fun, if_else, match_on, call, tuple, build, make, fetch, store, divide, remainder, assert, assert_false, read, print, map_empty, map_add, map_find, Block, last, binding, recursive, Program, no_items, define, define_recursive, run_unit, run_any}
 use Rattle.lq_inhabits.specs.Truth.{Objects, Scene}
 use Rattle.lq_included.specs.Laws.{IsScene}
 use Rattle.lq_included.specs.Symbols.{Symbols, with_symbol, SumOn, PartsOn, ComponentsOn, TypeOn}
 use Rattle.lq_renamed.specs.Names.{NamesApart, AllNamesApart, TwinsOutside, AllTwinsOutside}
-use Rattle.lq_runs.specs.Closed.{names_in, with_value, PartsSorted, IsTypeOver, IsClosed}
-use Rattle.lq_runs.proofs.Closing.{or_left, or_right, within_with, sum_more, type_more}
+use Rattle.lq_runs.specs.Closed.{names_in, with_value, PartsSorted, IsTypeOver, IsClosed, Binds}
+use Rattle.lq_runs.proofs.Closing.{or_left, or_right, within_with, sum_more, type_more, closed_bind}
 use Rattle.lq_runs.proofs.Lower.{Lower}
 use Rattle.lq_new_names.specs.NewNames.{SubtypesAreApart}
 use Rattle.lq_pures.specs.Pures.{scene_of, PureOver}
@@ -31,30 +31,31 @@ use Rattle.lq_pures.specs.Values.{PureTypesAreOver}
 use Rattle.lq_calls.specs.Operands.{KindsAgree, AllKindsAgree, IsUsable}
 use Rattle.lq_tuples.specs.Tuples.{HasComponentsOver}
 use Rattle.lq_safe.proofs.Parts.{obeys_parts, where_true, where_false, here_true, here_false, where_both, case_parts, default_parts, first_parts, case_of}
-use Rattle.lq_pures.proofs.Values.{sum_over, condition_guards}
+use Rattle.lq_pures.proofs.Pures.{Instancing, names_over}
+use Rattle.lq_pures.proofs.Values.{sum_over, condition_guards, used_on}
 use Rattle.lq_plain.specs.Plain.{IsRecursionOver, IsFlat, AreFlat, IsMatched, elements_type, IsGivenOver, ArePlain, IsArmClosed, IsPlain, IsPlainBlock, IsPlainCase, IsPlainDefault, IsPlainFirst, IsPlainGiven, IsPlainProgram}
 use Rattle.lq_plain.proofs.Datatypes.{flow_apart, IsClean, clean_bind, clean_arm, within_arm, arguments_apart}
 use Rattle.lq_refined.specs.Operations.{symbol_of}
-use Rattle.lq_safe.specs.Programs.{IsCoveredProgram, IsScopedGiven, IsScopedProgram}
-use Rattle.lq_safe.specs.Scoped.{IsIn, AreDatatypesFor, IsCovered, IsCoveredBlock, IsScoped, IsScopedBlock, IsScopedCase, IsScopedDefault, IsScopedFirst, IsScopedRecursive}
+use Rattle.lq_safe.specs.Programs.{IsScopedGiven, IsScopedProgram}
+use Rattle.lq_safe.specs.Scoped.{IsIn, AreDatatypesFor, IsScoped, IsScopedBlock, IsScopedCase, IsScopedDefault, IsScopedFirst, IsScopedRecursive}
 
 -- ---- flat types have no names of arguments
 
 mutual
-  flat_apart : (N : Symbols) (t : Refined) → IsFlat t → NamesApart N t
-  flat_apart N (int_with p) f = tt
-  flat_apart N (bool_with p) f = tt
-  flat_apart N unit_type f = tt
-  flat_apart N (function x a b) f = absurd f
-  flat_apart N (tuple_of ts) f = flats_apart N ts f
-  flat_apart N (array_with e p) f = flat_apart N e f
-  flat_apart N (data_with d ts m p) f = flats_apart N ts f
-  flat_apart N (map_with e p) f = absurd f
-  flat_apart N (type_variable i) f = absurd f
+  flat_apart : (A : Assignment) (N : Symbols) (t : Refined) → IsFlat t → NamesApart A N t
+  flat_apart A N (int_with p) f = tt
+  flat_apart A N (bool_with p) f = tt
+  flat_apart A N unit_type f = tt
+  flat_apart A N (function x a b) f = absurd f
+  flat_apart A N (tuple_of ts) f = flats_apart A N ts f
+  flat_apart A N (array_with e p) f = flat_apart A N e f
+  flat_apart A N (data_with d ts m p) f = flats_apart A N ts f
+  flat_apart A N (map_with e p) f = tt
+  flat_apart A N (type_variable i) f = tt
 
-  flats_apart : (N : Symbols) (ts : Refineds) → AreFlat ts → AllNamesApart N ts
-  flats_apart N none f = tt
-  flats_apart N (more t ts) f = (flat_apart N t f.0, flats_apart N ts f.1)
+  flats_apart : (A : Assignment) (N : Symbols) (ts : Refineds) → AreFlat ts → AllNamesApart A N ts
+  flats_apart A N none f = tt
+  flats_apart A N (more t ts) f = (flat_apart A N t f.0, flats_apart A N ts f.1)
 
 mutual
   flat_kinds : (Γ : Context) (t : Refined) → IsFlat t → KindsAgree Γ t
@@ -65,8 +66,8 @@ mutual
   flat_kinds Γ (tuple_of ts) f = flats_kinds Γ ts f
   flat_kinds Γ (array_with e p) f = flat_kinds Γ e f
   flat_kinds Γ (data_with d ts m p) f = flats_kinds Γ ts f
-  flat_kinds Γ (map_with e p) f = absurd f
-  flat_kinds Γ (type_variable i) f = absurd f
+  flat_kinds Γ (map_with e p) f = tt
+  flat_kinds Γ (type_variable i) f = tt
 
   flats_kinds : (Γ : Context) (ts : Refineds) → AreFlat ts → AllKindsAgree Γ ts
   flats_kinds Γ none f = tt
@@ -81,27 +82,12 @@ mutual
   flat_outside N (tuple_of ts) f = flats_outside N ts f
   flat_outside N (array_with e p) f = flat_outside N e f
   flat_outside N (data_with d ts m p) f = flats_outside N ts f
-  flat_outside N (map_with e p) f = absurd f
-  flat_outside N (type_variable i) f = absurd f
+  flat_outside N (map_with e p) f = tt
+  flat_outside N (type_variable i) f = tt
 
   flats_outside : (N : Symbols) (ts : Refineds) → AreFlat ts → AllTwinsOutside N ts
   flats_outside N none f = tt
   flats_outside N (more t ts) f = (flat_outside N t f.0, flats_outside N ts f.1)
-
--- the type of a name speaks of names of the environment
-type_known : (S : Scene) (Γ : Context) → IsClosed S Γ → (x : Symbol) → names_in Γ x ≡ true → TypeOn S.assignment (type_in Γ x) (names_in Γ)
-type_known S [] c x h = absurd (cc)
-type_known S (name y t ∷ Γ) c x h = at (same_symbol y x) (λ s. type_known S Γ c.3 x (left_of (names_in Γ x) (same_symbol y x) h s))
-  where
-    left_of : (a b : Bool) → a || b ≡ true → b ≡ false → a ≡ true
-    left_of true b p q = refl
-    left_of false true p q = absurd (cc)
-    left_of false false p q = p
-
-    at : (b : Bool) → (b ≡ false → TypeOn S.assignment (type_in Γ x) (names_in Γ)) → TypeOn S.assignment (cond b t (type_in Γ x)) (names_in (name y t ∷ Γ))
-    at true g = type_more S.assignment t (names_in Γ) (names_in (name y t ∷ Γ)) (within_with (names_in Γ) y) c.2.0
-    at false g = type_more S.assignment (type_in Γ x) (names_in Γ) (names_in (name y t ∷ Γ)) (within_with (names_in Γ) y) (g refl)
-type_known S (guard p ∷ Γ) c x h = type_known S Γ c.1 x h
 
 matched_usable : (S : Scene) (Γ : Context) (t : Refined) → IsMatched t → TypeOn S.assignment t (names_in Γ) → IsUsable S Γ t
 matched_usable S Γ (int_with p) m o = tt
@@ -109,11 +95,11 @@ matched_usable S Γ (bool_with p) m o = tt
 matched_usable S Γ unit_type m o = tt
 matched_usable S Γ (function x a b) m o = absurd m
 matched_usable S Γ (tuple_of ts) m o =
-    record { over = names_in Γ; on = o; apart = flats_apart (names_in Γ) ts m; kinds = flats_kinds Γ ts m; outside = flats_outside (names_in Γ) ts m }
+    record { over = names_in Γ; on = o; apart = flats_apart S.assignment (names_in Γ) ts m; kinds = flats_kinds Γ ts m; outside = flats_outside (names_in Γ) ts m }
 matched_usable S Γ (array_with e p) m o = tt
 matched_usable S Γ (data_with d ts m2 p) m o = tt
-matched_usable S Γ (map_with e p) m o = absurd m
-matched_usable S Γ (type_variable i) m o = absurd m
+matched_usable S Γ (map_with e p) m o = tt
+matched_usable S Γ (type_variable i) m o = tt
 
 matched_by : (S : Scene) (Γ : Context) (t : Refined) → IsMatched t ⊎ IsUsable S Γ t → TypeOn S.assignment t (names_in Γ) → IsUsable S Γ t
 matched_by S Γ t (inl m) o = matched_usable S Γ t m o
@@ -184,7 +170,7 @@ MatchParts P A Γ u arms t =
     ((is_data_match P Γ u ≡ true) × AreCases P A Γ u arms t (matched_constructors P Γ u) × IsDefault P A Γ u arms t)
     ⊎ ((is_data_match P Γ u ≡ false) × IsFirst P A Γ u arms t)
 
-module _ (law : Lower) (new : SubtypesAreApart) (P : Basis) (A : Assignment) (O : Objects) (is : IsScene (scene_of P A O)) (types : PureTypesAreOver) where
+module _ (law : Lower) (inst : Instancing) (new : SubtypesAreApart) (P : Basis) (A : Assignment) (O : Objects) (is : IsScene (scene_of P A O)) (types : PureTypesAreOver) where
   abbrev Closed : Context → Type 0
   Closed Γ = IsClosed (scene_of P A O) Γ
 
@@ -211,8 +197,8 @@ module _ (law : Lower) (new : SubtypesAreApart) (P : Basis) (A : Assignment) (O 
       let o = types P A O Γ c e p.0 p.1 in
       (o.0.0, (type_more A (pure_type P Γ e) (names_in Γ) Q w o.0).1, components_on Γ c es p.2 (suc k) (with_symbol Q (symbol.Position (suc k))) (λ y h. or_left (Q y) (same_symbol (symbol.Position (suc k)) y) (w y h)))
 
-  operand_on : (Γ : Context) (e : Pure) → PureOver (names_in Γ) e → SumOn (with_value (names_in Γ)) (sum_of e)
-  operand_on Γ e o = sum_more (names_in Γ) (with_value (names_in Γ)) (within_with (names_in Γ) symbol.Value) (sum_of e) (sum_over (names_in Γ) e o)
+  operand_on : (Γ : Context) (e : Pure) → PureOver P A Γ e → SumOn (with_value (names_in Γ)) (sum_of e)
+  operand_on Γ e o = sum_more (names_in Γ) (with_value (names_in Γ)) (within_with (names_in Γ) symbol.Value) (sum_of e) (sum_over (names_in Γ) e (names_over P A Γ e o))
 
   type_over : (Γ : Context) → Closed Γ → (o : Operation) → IsPlain P A O Γ o (type_of P Γ o) → IsGivenOver P A O Γ o → IsTypeOver (scene_of P A O) (names_in Γ) (type_of P Γ o)
   type_over Γ c (pure e) p (inl b) = types P A O Γ c e p.0 b
@@ -249,7 +235,7 @@ module _ (law : Lower) (new : SubtypesAreApart) (P : Basis) (A : Assignment) (O 
   type_over Γ c (map_find k m) p g = absurd p
 
   -- a match, where its arms are in scope
-  match_by : (Γ : Context) (u : Use) (arms : Arms) (t : Refined) → MatchParts P A Γ u arms t → Where (is_data_match P Γ u) (AreDatatypesFor P A O Γ u × ((i : ℕ) → IsPlainCase P A O Γ u i t arms) × IsPlainDefault P A O Γ u t arms) (HasComponentsOver A (names_in Γ) (type_in Γ (symbol_of u.name)) × IsPlainFirst P A O Γ u t arms) → ((i : ℕ) → IsCase P A Γ u (has_default arms) i t arms → IsPlainCase P A O Γ u i t arms → IsScopedCase P A O Γ u i t arms) → (IsDefault P A Γ u arms t → IsPlainDefault P A O Γ u t arms → IsScopedDefault P A O Γ u t arms) → (IsFirst P A Γ u arms t → IsPlainFirst P A O Γ u t arms → IsScopedFirst P A O Γ u t arms) → Where (is_data_match P Γ u) (AreDatatypesFor P A O Γ u × ((i : ℕ) → IsIn (matched_constructors P Γ u) i → IsScopedCase P A O Γ u i t arms) × IsScopedDefault P A O Γ u t arms) (HasComponentsOver A (names_in Γ) (type_in Γ (symbol_of u.name)) × IsScopedFirst P A O Γ u t arms)
+  match_by : (Γ : Context) (u : Use) (arms : Arms) (t : Refined) → MatchParts P A Γ u arms t → Where (is_data_match P Γ u) (AreDatatypesFor P A O Γ u × ((i : ℕ) → IsPlainCase P A O Γ u i t arms) × IsPlainDefault P A O Γ u t arms) (HasComponentsOver A (names_in Γ) (type_of_use P Γ u) × IsPlainFirst P A O Γ u t arms) → ((i : ℕ) → IsCase P A Γ u (has_default arms) i t arms → IsPlainCase P A O Γ u i t arms → IsScopedCase P A O Γ u i t arms) → (IsDefault P A Γ u arms t → IsPlainDefault P A O Γ u t arms → IsScopedDefault P A O Γ u t arms) → (IsFirst P A Γ u arms t → IsPlainFirst P A O Γ u t arms → IsScopedFirst P A O Γ u t arms) → Where (is_data_match P Γ u) (AreDatatypesFor P A O Γ u × ((i : ℕ) → IsIn (matched_constructors P Γ u) i → IsScopedCase P A O Γ u i t arms) × IsScopedDefault P A O Γ u t arms) (HasComponentsOver A (names_in Γ) (type_of_use P Γ u) × IsScopedFirst P A O Γ u t arms)
   match_by Γ u arms t (inl r) p case default first =
       let q = where_true (is_data_match P Γ u) _ _ r.0 p in
       here_true (is_data_match P Γ u) _ _ r.0 (q.0, (λ i listed. case i (case_of P A Γ u arms t (matched_constructors P Γ u) i listed r.1) (q.1 i)), default r.2 q.2)
@@ -261,7 +247,7 @@ module _ (law : Lower) (new : SubtypesAreApart) (P : Basis) (A : Assignment) (O 
     operation_scoped : (Γ : Context) → Closed Γ → IsClean Γ → (o : Operation) (t : Refined) → Obeys P A Γ o t → IsPlain P A O Γ o t → Expected Γ o t → IsScoped P A O Γ o t
     operation_scoped Γ c n (pure e) t h p x = p
     operation_scoped Γ c n (if_else k e a b) t h p x =
-        let guards = condition_guards (scene_of P A O) Γ c e p.0 in
+        let guards = condition_guards (scene_of P A O) Γ c e (names_over P A Γ e p.0) in
         let obeyed = obeys_parts P A h in (
           p.0,
           block_scoped (guard (known (formula_of e)) ∷ Γ) guards.0 n a t (type_more A t (names_in Γ) (names_in (guard (known (formula_of e)) ∷ Γ)) (λ y q. q) x) obeyed.0 p.1,
@@ -281,12 +267,12 @@ module _ (law : Lower) (new : SubtypesAreApart) (P : Basis) (A : Assignment) (O 
         let S = scene_of P A O in
         (p.0, p.1, p.2, (λ d. flow_apart law S is new Γ c n (pure_type P Γ e) (elements_type P A O Γ u) p.3 d))
     operation_scoped Γ c n (fun k y b) t h p x =
-        let inner : Closed (body_context Γ y t) = (refl, fun_new P A h, p.1, c) in
-        (p.0, inner, block_scoped (body_context Γ y t) inner (clean_bind Γ y (argument_of t) n) b (body_type P.setting.scopes y t) p.2 (obeys_parts P A h) p.3)
+        let inner : Binds (scene_of P A O) (symbol_of y) (argument_of t) Γ = (refl, fun_new P A h, p.1, c) in
+        (p.0, inner, block_scoped (body_context Γ y t) (closed_bind (scene_of P A O) (symbol_of y) (argument_of t) Γ inner) (clean_bind Γ y (argument_of t) n) b (body_type P.setting.scopes y t) p.2 (obeys_parts P A h) p.3)
     operation_scoped Γ c n (match_on k u arms) t h p x =
         let S = scene_of P A O in
-        let own = type_in Γ (symbol_of u.name) in
-        (p.0, matched_by S Γ own p.1 (type_known S Γ c (symbol_of u.name) p.0.0), x, match_by Γ u arms t (obeys_parts P A h) p.3 (λ i r q. case_scoped Γ c n u i (has_default arms) arms t x r q) (λ r q. default_scoped Γ c n u arms t x r q) (λ r q. first_scoped Γ c n u arms t x r q))
+        let own = type_of_use P Γ u in
+        (p.0, matched_by S Γ own p.1 (used_on inst P A O Γ c u p.0), x, match_by Γ u arms t (obeys_parts P A h) p.2 (λ i r q. case_scoped Γ c n u i (has_default arms) arms t x r q) (λ r q. default_scoped Γ c n u arms t x r q) (λ r q. first_scoped Γ c n u arms t x r q))
     operation_scoped Γ c n (call g a) t h p x =
         (p.0, p.1, (λ d. flow_apart law (scene_of P A O) is new Γ c n (pure_type P Γ a) (argument_of (pure_type P Γ g)) p.2 d))
     operation_scoped Γ c n (tuple es) t h p x = p
@@ -301,24 +287,28 @@ module _ (law : Lower) (new : SubtypesAreApart) (P : Basis) (A : Assignment) (O 
         (operation_scoped Γ c n o t (last_parts P A h) p.0 (expected Γ o t on), (λ e d. flow_apart law (scene_of P A O) is new Γ c n (type_of P Γ o) t (where_false (passes_on o) _ _ e p.1) d))
     block_scoped Γ c n (binding x l o b) t on h p =
         let parts = binding_parts P A h in
-        let closed : Closed (bind x (type_of P Γ o) Γ) = (refl, parts.1, type_over Γ c o p.0 p.1, c) in (
+        let S = scene_of P A O in
+        let binds : Binds S (symbol_of x) (type_of P Γ o) Γ = (refl, parts.1, type_over Γ c o p.0 p.1, c) in (
           operation_scoped Γ c n o (type_of P Γ o) parts.0 p.0 (given Γ o p.1),
-          closed,
+          binds,
           on,
-          block_scoped (bind x (type_of P Γ o) Γ) closed (clean_bind Γ x (type_of P Γ o) n) b t (type_more A t (names_in Γ) (names_in (bind x (type_of P Γ o) Γ)) (within_with (names_in Γ) (symbol_of x)) on) parts.2 p.2,
+          block_scoped (bind x (type_of P Γ o) Γ) (closed_bind S (symbol_of x) (type_of P Γ o) Γ binds) (clean_bind Γ x (type_of P Γ o) n) b t (type_more A t (names_in Γ) (names_in (bind x (type_of P Γ o) Γ)) (within_with (names_in Γ) (symbol_of x)) on) parts.2 p.2,
         )
     block_scoped Γ c n (recursive g k y b d) t on h p =
         let T = P.template k in
         let parts = recursive_block P A h in
-        let own : Closed (bind g T Γ) = (refl, parts.0.0, p.0.1, c) in
-        let inner : Closed (recursive_context P Γ g k y) = (refl, parts.0.1, p.0.2, own) in
+        let S = scene_of P A O in
+        let own : Binds S (symbol_of g) T Γ = (refl, parts.0.0, p.0.1, c) in
+        let closed = closed_bind S (symbol_of g) T Γ own in
+        let inner : Binds S (symbol_of y) (argument_of T) (bind g T Γ) = (refl, parts.0.1, p.0.2, closed) in
         let clean = clean_bind Γ g T n in (
-          block_scoped (recursive_context P Γ g k y) inner (clean_bind (bind g T Γ) y (argument_of T) clean) b (recursive_type P k y) p.0.3 parts.0.2 p.1,
+          block_scoped (recursive_context P Γ g k y) (closed_bind S (symbol_of y) (argument_of T) (bind g T Γ) inner) (clean_bind (bind g T Γ) y (argument_of T) clean) b (recursive_type P k y) p.0.3 parts.0.2 p.1,
           p.0.0,
+          own,
           inner,
           p.0.1.0,
           on,
-          block_scoped (bind g T Γ) own clean d t (type_more A t (names_in Γ) (names_in (bind g T Γ)) (within_with (names_in Γ) (symbol_of g)) on) parts.1 p.2,
+          block_scoped (bind g T Γ) closed clean d t (type_more A t (names_in Γ) (names_in (bind g T Γ)) (within_with (names_in Γ) (symbol_of g)) on) parts.1 p.2,
         )
 
     -- the arms that the rules check
@@ -341,23 +331,24 @@ module _ (law : Lower) (new : SubtypesAreApart) (P : Basis) (A : Assignment) (O 
   recursion_scoped : (Γ : Context) → Closed Γ → IsClean Γ → (g k y : ℕ) (b : Block) → IsRecursionOver P A O Γ g k y → RecursionParts P A Γ g k y b → IsPlainBlock P A O (recursive_context P Γ g k y) b (recursive_type P k y) → IsScopedRecursive P A O Γ g k y b
   recursion_scoped Γ c n g k y b p parts q =
       let T = P.template k in
-      let own : Closed (bind g T Γ) = (refl, parts.0, p.1, c) in
-      let inner : Closed (recursive_context P Γ g k y) = (refl, parts.1, p.2, own) in
-      (block_scoped (recursive_context P Γ g k y) inner (clean_bind (bind g T Γ) y (argument_of T) (clean_bind Γ g T n)) b (recursive_type P k y) p.3 parts.2 q, p.0, inner, p.1.0)
+      let S = scene_of P A O in
+      let own : Binds S (symbol_of g) T Γ = (refl, parts.0, p.1, c) in
+      let inner : Binds S (symbol_of y) (argument_of T) (bind g T Γ) = (refl, parts.1, p.2, closed_bind S (symbol_of g) T Γ own) in
+      (block_scoped (recursive_context P Γ g k y) (closed_bind S (symbol_of y) (argument_of T) (bind g T Γ) inner) (clean_bind (bind g T Γ) y (argument_of T) (clean_bind Γ g T n)) b (recursive_type P k y) p.3 parts.2 q, p.0, own, inner, p.1.0)
 
   given_scoped : (Γ : Context) → Closed Γ → IsClean Γ → (b : Block) → Gives P A Γ b → IsPlainGiven P A O Γ b → IsScopedGiven P A O Γ b × Closed (last_context P Γ b) × IsClean (last_context P Γ b) × IsTypeOver (scene_of P A O) (names_in (last_context P Γ b)) (last_type P Γ b)
   given_scoped Γ c n (last l o) h p =
       (operation_scoped Γ c n o (type_of P Γ o) (given_last P A h) p.0 (given Γ o p.1), c, n, type_over Γ c o p.0 p.1)
   given_scoped Γ c n (binding x l o b) h p =
       let parts = given_binding P A h in
-      let closed : Closed (bind x (type_of P Γ o) Γ) = (refl, parts.1, type_over Γ c o p.0 p.1, c) in
-      let rest = given_scoped (bind x (type_of P Γ o) Γ) closed (clean_bind Γ x (type_of P Γ o) n) b parts.2 p.2 in
-      ((operation_scoped Γ c n o (type_of P Γ o) parts.0 p.0 (given Γ o p.1), closed, rest.0), rest.1, rest.2, rest.3)
+      let binds : Binds (scene_of P A O) (symbol_of x) (type_of P Γ o) Γ = (refl, parts.1, type_over Γ c o p.0 p.1, c) in
+      let rest = given_scoped (bind x (type_of P Γ o) Γ) (closed_bind (scene_of P A O) (symbol_of x) (type_of P Γ o) Γ binds) (clean_bind Γ x (type_of P Γ o) n) b parts.2 p.2 in
+      ((operation_scoped Γ c n o (type_of P Γ o) parts.0 p.0 (given Γ o p.1), binds, rest.0), rest.1, rest.2, rest.3)
   given_scoped Γ c n (recursive g k y b d) h p =
       let T = P.template k in
       let parts = recursive_given P A h in
       let r = recursion_scoped Γ c n g k y b p.0 parts.0 p.1 in
-      let rest = given_scoped (bind g T Γ) r.2.3 (clean_bind Γ g T n) d parts.1 p.2 in
+      let rest = given_scoped (bind g T Γ) (closed_bind (scene_of P A O) (symbol_of g) T Γ r.2) (clean_bind Γ g T n) d parts.1 p.2 in
       ((r, rest.0), rest.1, rest.2, rest.3)
 
   pub program_scoped : (V : Symbols) (Γ : Context) (p : Program) → Closed Γ → IsClean Γ → Checks P A Γ p → IsPlainProgram P A O V Γ p → IsScopedProgram P A O V Γ p
@@ -365,63 +356,16 @@ module _ (law : Lower) (new : SubtypesAreApart) (P : Basis) (A : Assignment) (O 
   program_scoped V Γ (define x l k b rest) c n h s =
       let parts = define_parts P A h in
       let block = given_scoped Γ c n b parts.0 s.1 in
-      let closed : Closed (bind x (last_type P Γ b) (last_context P Γ b)) = (refl, parts.1, block.3, block.1) in
-      (s.0, block.0, closed, program_scoped (with_symbol V (symbol_of x)) (bind x (last_type P Γ b) (last_context P Γ b)) rest closed (clean_bind (last_context P Γ b) x (last_type P Γ b) block.2) parts.2 s.2)
+      let binds : Binds (scene_of P A O) (symbol_of x) (last_type P Γ b) (last_context P Γ b) = (refl, parts.1, block.3, block.1) in
+      (s.0, block.0, binds, s.2, program_scoped (with_symbol V (symbol_of x)) (bind x (last_type P Γ b) (last_context P Γ b)) rest (closed_bind (scene_of P A O) (symbol_of x) (last_type P Γ b) (last_context P Γ b) binds) (clean_bind (last_context P Γ b) x (last_type P Γ b) block.2) parts.2 s.3)
   program_scoped V Γ (define_recursive g k y b rest) c n h s =
       let T = P.template k in
       let parts = recursive_define P A h in
       let r = recursion_scoped Γ c n g k y b s.1 parts.0 s.2 in
-      (s.0, r, program_scoped (with_symbol V (symbol_of g)) (bind g T Γ) rest r.2.3 (clean_bind Γ g T n) parts.1 s.3)
+      (s.0, r, program_scoped (with_symbol V (symbol_of g)) (bind g T Γ) rest (closed_bind (scene_of P A O) (symbol_of g) T Γ r.2) (clean_bind Γ g T n) parts.1 s.3)
   program_scoped V Γ (run_unit b rest) c n h s =
       let parts = unit_parts P A h in
       (s.0, block_scoped Γ c n b unit_type (tt, tt) parts.0 s.1, program_scoped V Γ rest c n parts.1 s.2)
   program_scoped V Γ (run_any b rest) c n h s =
       let parts = any_parts P A h in
       (s.0, (given_scoped Γ c n b parts.0 s.1).0, program_scoped V Γ rest c n parts.1 s.2)
-
--- ---- forms
-
-module _ (P : Basis) (A : Assignment) (O : Objects) where
-  mutual
-    operation_covered : (Γ : Context) (o : Operation) (t : Refined) → IsPlain P A O Γ o t → IsCovered o
-    operation_covered Γ (if_else k e a b) t p =
-        (block_covered (guard (known (formula_of e)) ∷ Γ) a t p.1, block_covered (guard (known (negation (formula_of e))) ∷ Γ) b t p.2)
-    operation_covered Γ (pure e) t p = tt
-    operation_covered Γ (divide a b) t p = tt
-    operation_covered Γ (remainder a b) t p = tt
-    operation_covered Γ (assert e) t p = tt
-    operation_covered Γ (assert_false k) t p = tt
-    operation_covered Γ (read e) t p = tt
-    operation_covered Γ (print e) t p = tt
-    operation_covered Γ (fun k y b) t p = block_covered (body_context Γ y t) b (body_type P.setting.scopes y t) p.3
-    operation_covered Γ (match_on k u arms) t p = p.2
-    operation_covered Γ (call g a) t p = tt
-    operation_covered Γ (tuple es) t p = tt
-    operation_covered Γ (build k g es) t p = tt
-    operation_covered Γ (make k n e) t p = tt
-    operation_covered Γ (fetch u i) t p = tt
-    operation_covered Γ (store u i e) t p = tt
-    operation_covered Γ (map_empty k) t p = absurd p
-    operation_covered Γ (map_add k g e m) t p = absurd p
-    operation_covered Γ (map_find k m) t p = absurd p
-
-    block_covered : (Γ : Context) (b : Block) (t : Refined) → IsPlainBlock P A O Γ b t → IsCoveredBlock b
-    block_covered Γ (last l o) t p = operation_covered Γ o t p.0
-    block_covered Γ (binding x l o b) t p = (operation_covered Γ o (type_of P Γ o) p.0, block_covered (bind x (type_of P Γ o) Γ) b t p.2)
-    block_covered Γ (recursive g k y b d) t p =
-        (block_covered (recursive_context P Γ g k y) b (recursive_type P k y) p.1, block_covered (bind g (P.template k) Γ) d t p.2)
-
-  given_covered : (Γ : Context) (b : Block) → IsPlainGiven P A O Γ b → IsCoveredBlock b
-  given_covered Γ (last l o) p = operation_covered Γ o (type_of P Γ o) p.0
-  given_covered Γ (binding x l o b) p = (operation_covered Γ o (type_of P Γ o) p.0, given_covered (bind x (type_of P Γ o) Γ) b p.2)
-  given_covered Γ (recursive g k y b d) p =
-      (block_covered (recursive_context P Γ g k y) b (recursive_type P k y) p.1, given_covered (bind g (P.template k) Γ) d p.2)
-
-  pub program_covered : (V : Symbols) (Γ : Context) (p : Program) → IsPlainProgram P A O V Γ p → IsCoveredProgram p
-  program_covered V Γ no_items s = tt
-  program_covered V Γ (define x l k b rest) s =
-      (given_covered Γ b s.1, program_covered (with_symbol V (symbol_of x)) (bind x (last_type P Γ b) (last_context P Γ b)) rest s.2)
-  program_covered V Γ (define_recursive g k y b rest) s =
-      (block_covered (recursive_context P Γ g k y) b (recursive_type P k y) s.2, program_covered (with_symbol V (symbol_of g)) (bind g (P.template k) Γ) rest s.3)
-  program_covered V Γ (run_unit b rest) s = (block_covered Γ b unit_type s.1, program_covered V Γ rest s.2)
-  program_covered V Γ (run_any b rest) s = (given_covered Γ b s.1, program_covered V Γ rest s.2)

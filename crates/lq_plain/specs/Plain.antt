@@ -5,7 +5,7 @@ use Rattle.lq_parts.specs.Part.{known}
 use Rattle.lq_pred.specs.Formula.{negation}
 use Rattle.lq_pred.specs.declared.symbol.Symbol.TheVariants as symbol
 use Rattle.lq_tree.specs.Types.{Constructor}
-use Rattle.lq_refined.specs.Context.{Context, type_in, guard}
+use Rattle.lq_refined.specs.Context.{Context, guard}
 use Rattle.lq_refined.specs.Operations.{symbol_of}
 use Rattle.lq_refined.specs.Refined.{Refined, int_with, bool_with, unit_type, function, tuple_of, array_with, data_with, map_with, type_variable, Refineds, none, more, argument_of, element_of}
 use Rattle.lq_subtype.specs.Splitting.{first_of, rest_of}
@@ -22,6 +22,8 @@ use Rattle.lq_inhabits.specs.Truth.{Objects, Scene}
 use Rattle.lq_included.specs.Apart.{CellsOn}
 use Rattle.lq_included.specs.Laws.{IsScene}
 use Rattle.lq_included.specs.Symbols.{Symbols, with_symbol, TypeOn}
+use Rattle.lq_instanced.specs.Instances.{HasNoVariables}
+use Rattle.lq_quiet.specs.Quiet.{IsValueBlock}
 use Rattle.lq_runs.specs.Closed.{names_in, IsTypeOver, IsClosed}
 use Rattle.lq_calls.specs.Operands.{IsUsable}
 use Rattle.lq_new_names.specs.NewNames.{IsInScope, HasNoNames}
@@ -31,7 +33,7 @@ use Rattle.lq_pures.specs.Pures.{KnowsLengths, scene_of, UseOver, PureOver}
 use Rattle.lq_pures.specs.Values.{IsBasicIn}
 use Rattle.lq_tuples.specs.Tuples.{AreUsable, HasComponentsOver}
 use Rattle.lq_safe.specs.Programs.{BlockUsesOnly, no_symbols}
-use Rattle.lq_safe.specs.Scoped.{NamesArgument, IsOperand, AreCoveredArms, AreDatatypesFor}
+use Rattle.lq_safe.specs.Scoped.{NamesArgument, IsOperand, AreDatatypesFor}
 
 abbrev pub IsBase : Refined → Type 0
 IsBase (int_with p) = Unit {0}
@@ -48,7 +50,7 @@ abbrev pub AreBase : Refineds → Type 0
 AreBase none = Unit {0}
 AreBase (more t ts) = IsBase t × AreBase ts
 
--- a type without functions, maps and type variables
+-- a type without functions
 abbrev mutual
   pub IsFlat : Refined → Type 0
   IsFlat (int_with p) = Unit {0}
@@ -58,8 +60,8 @@ abbrev mutual
   IsFlat (tuple_of ts) = AreFlat ts
   IsFlat (array_with e p) = IsFlat e
   IsFlat (data_with d ts m p) = AreFlat ts
-  IsFlat (map_with e p) = ⊥
-  IsFlat (type_variable i) = ⊥
+  IsFlat (map_with e p) = Unit {0}
+  IsFlat (type_variable i) = Unit {0}
 
   pub AreFlat : Refineds → Type 0
   AreFlat none = Unit {0}
@@ -79,8 +81,8 @@ IsMatched unit_type = Unit {0}
 IsMatched (function x a b) = ⊥
 IsMatched (tuple_of ts) = AreFlat ts
 IsMatched (array_with e p) = Unit {0}
-IsMatched (map_with e p) = ⊥
-IsMatched (type_variable i) = ⊥
+IsMatched (map_with e p) = Unit {0}
+IsMatched (type_variable i) = Unit {0}
 
 -- components of two tuples: base types, the left ones over these symbols and earlier components
 abbrev pub AreSides : Scene → Symbols → ℕ → Refineds → Refineds → Type 0
@@ -121,12 +123,12 @@ module _ (P : Basis) (A : Assignment) (O : Objects) where
   -- operands in a row, of whose types all is said by their values
   abbrev pub ArePlain : Context → List Pure → Type 0
   ArePlain Γ [] = Unit {0}
-  ArePlain Γ (e ∷ es) = PureOver (names_in Γ) e × IsBasicIn Γ e × ArePlain Γ es
+  ArePlain Γ (e ∷ es) = PureOver P A Γ e × IsBasicIn P Γ e × ArePlain Γ es
 
   -- where an operation is bound, or no type is expected of it, its type is its template, that of an array's elements, of a constructor's value
   -- or of a call, or put together from its operands
   abbrev pub IsGivenOver : Context → Operation → Type 0
-  IsGivenOver Γ (pure e) = IsBasicIn Γ e ⊎ IsTypeOver (scene_of P A O) (names_in Γ) (pure_type P Γ e)
+  IsGivenOver Γ (pure e) = IsBasicIn P Γ e ⊎ IsTypeOver (scene_of P A O) (names_in Γ) (pure_type P Γ e)
   IsGivenOver Γ (tuple es) = ArePlain Γ es ⊎ IsTypeOver (scene_of P A O) (names_in Γ) (tuple_of (pure_types P Γ es))
   IsGivenOver Γ (if_else p c a b) = IsTemplateOver Γ p
   IsGivenOver Γ (match_on p u arms) = IsTemplateOver Γ p
@@ -159,28 +161,28 @@ module _ (P : Basis) (A : Assignment) (O : Objects) where
     pub IsPlain : Context → Operation → Refined → Type 0
     IsPlain Γ (pure e) t = IsOperand P A O Γ e
     IsPlain Γ (if_else p c a b) t =
-        PureOver (names_in Γ) c × IsPlainBlock (guard (known (formula_of c)) ∷ Γ) a t
+        PureOver P A Γ c × IsPlainBlock (guard (known (formula_of c)) ∷ Γ) a t
         × IsPlainBlock (guard (known (negation (formula_of c))) ∷ Γ) b t
     IsPlain Γ (match_on p u arms) t =
-        UseOver (names_in Γ) u × (IsMatched (type_in Γ (symbol_of u.name)) ⊎ IsUsable (scene_of P A O) Γ (type_in Γ (symbol_of u.name))) × AreCoveredArms arms
+        UseOver P A Γ u × (IsMatched (type_of_use P Γ u) ⊎ IsUsable (scene_of P A O) Γ (type_of_use P Γ u))
         × Where (is_data_match P Γ u) (AreDatatypesFor P A O Γ u × ((c : ℕ) → IsPlainCase Γ u c t arms) × IsPlainDefault Γ u t arms)
-        (HasComponentsOver A (names_in Γ) (type_in Γ (symbol_of u.name)) × IsPlainFirst Γ u t arms)
-    IsPlain Γ (tuple es) t = AreUsable (scene_of P A O) Γ es
+        (HasComponentsOver A (names_in Γ) (type_of_use P Γ u) × IsPlainFirst Γ u t arms)
+    IsPlain Γ (tuple es) t = AreUsable P A O Γ es
     IsPlain Γ (build p c es) t =
-        AreUsable (scene_of P A O) Γ es × ArePlainArguments Γ es (field_types P Γ p c es) × KnowsMeasures P O
+        AreUsable P A O Γ es × ArePlainArguments Γ es (field_types P Γ p c es) × KnowsMeasures P O
         × ((k : Constructor) → P.setting.constructors c ≡ Some k → IsDatatypeFor (scene_of P A O) P c k (P.template p))
-    IsPlain Γ (divide x y) t = PureOver (names_in Γ) x × PureOver (names_in Γ) y
-    IsPlain Γ (remainder x y) t = PureOver (names_in Γ) x × PureOver (names_in Γ) y
-    IsPlain Γ (assert e) t = PureOver (names_in Γ) e
+    IsPlain Γ (divide x y) t = PureOver P A Γ x × PureOver P A Γ y
+    IsPlain Γ (remainder x y) t = PureOver P A Γ x × PureOver P A Γ y
+    IsPlain Γ (assert e) t = PureOver P A Γ e
     IsPlain Γ (assert_false p) t = Unit {0}
-    IsPlain Γ (read e) t = PureOver (names_in Γ) e
-    IsPlain Γ (print e) t = PureOver (names_in Γ) e
+    IsPlain Γ (read e) t = PureOver P A Γ e
+    IsPlain Γ (print e) t = PureOver P A Γ e
     IsPlain Γ (make p n e) t =
-        PureOver (names_in Γ) n × IsOperand P A O Γ e × IsTemplateOver Γ p
+        PureOver P A Γ n × IsOperand P A O Γ e × IsTemplateOver Γ p
         × IsFlow (scene_of P A O) (names_in Γ) (pure_type P Γ e) (P.template p)
-    IsPlain Γ (fetch u i) t = UseOver (names_in Γ) u × PureOver (names_in Γ) i
+    IsPlain Γ (fetch u i) t = UseOver P A Γ u × PureOver P A Γ i
     IsPlain Γ (store u i e) t =
-        UseOver (names_in Γ) u × PureOver (names_in Γ) i × IsOperand P A O Γ e
+        UseOver P A Γ u × PureOver P A Γ i × IsOperand P A O Γ e
         × IsFlow (scene_of P A O) (names_in Γ) (pure_type P Γ e) (elements_type Γ u)
     IsPlain Γ (fun p y b) t =
         NamesArgument A (names_in Γ) y t × IsTypeOver (scene_of P A O) (names_in Γ) (argument_of t)
@@ -228,14 +230,14 @@ module _ (P : Basis) (A : Assignment) (O : Objects) where
   abbrev pub IsPlainProgram : Symbols → Context → Program → Type 0
   IsPlainProgram V Γ no_items = Unit {0}
   IsPlainProgram V Γ (define x l k b rest) =
-      BlockUsesOnly V b × IsPlainGiven Γ b
+      BlockUsesOnly V V b × IsPlainGiven Γ b × (IsValueBlock b ⊎ HasNoVariables (last_type P Γ b))
       × IsPlainProgram (with_symbol V (symbol_of x)) (bind x (last_type P Γ b) (last_context P Γ b)) rest
   IsPlainProgram V Γ (define_recursive g p y b rest) =
-      BlockUsesOnly (with_symbol (with_symbol V (symbol_of g)) (symbol_of y)) b × IsRecursionOver Γ g p y
+      BlockUsesOnly V (with_symbol (with_symbol V (symbol_of g)) (symbol_of y)) b × IsRecursionOver Γ g p y
       × IsPlainBlock (recursive_context P Γ g p y) b (recursive_type P p y)
       × IsPlainProgram (with_symbol V (symbol_of g)) (bind g (P.template p) Γ) rest
-  IsPlainProgram V Γ (run_unit b rest) = BlockUsesOnly V b × IsPlainBlock Γ b unit_type × IsPlainProgram V Γ rest
-  IsPlainProgram V Γ (run_any b rest) = BlockUsesOnly V b × IsPlainGiven Γ b × IsPlainProgram V Γ rest
+  IsPlainProgram V Γ (run_unit b rest) = BlockUsesOnly V V b × IsPlainBlock Γ b unit_type × IsPlainProgram V Γ rest
+  IsPlainProgram V Γ (run_any b rest) = BlockUsesOnly V V b × IsPlainGiven Γ b × IsPlainProgram V Γ rest
 
 -- A simply typed program of these forms that checks under an assignment is safe.
 abbrev pub PlainProgramsAreSafe : Type 0

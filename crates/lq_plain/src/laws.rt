@@ -4,11 +4,13 @@ ghost use Rattle.lq_plain.specs.Plain.{PlainProgramsAreSafe};
 
 use lq_included::{like_types_fit, subtypes_fit};
 use lq_inhabits::{inhabitants_stay, numbers_below};
+use lq_instanced::{instances_fit, instances_stay};
 use lq_model::{closing, parts_step};
 use lq_new_names::subtypes_are_apart;
 use lq_parts::{substitutions, truth_under_substitution};
 use lq_pred::whole_numbers_are_a_point;
 use lq_pures::pures_run;
+use lq_refined::simple_types_are_kept;
 use lq_safe::checks_are_safe;
 
 /// A simply typed program of plain forms that checks under an assignment is safe.
@@ -24,6 +26,9 @@ pub fn plain_programs_are_safe()
     numbers_below();
     subtypes_fit();
     like_types_fit();
+    simple_types_are_kept();
+    instances_fit();
+    instances_stay();
     subtypes_are_apart();
     pures_run();
     checks_are_safe();

@@ -1,5 +1,5 @@
 -- Pure expressions of numbers, of truth values and of type unit.
-use Rattle.std.proofs.Common.{◌≡◌, ℕ, suc, ℤ, pos, ◌&&◌, ◌||◌, Bool, true, false, cond, ◌==◌, [], ◌∷◌, Option, Some, refl, sym, ap, ◌∙◌, subst, if◌then◌else◌}
+use Rattle.std.proofs.Common.{◌≡◌, ℕ, suc, ℤ, pos, ◌&&◌, ◌||◌, Bool, true, false, cond, ◌==◌, [], ◌∷◌, Option, Some, None, refl, sym, ap, ◌∙◌, subst, if◌then◌else◌}
 use Rattle.lq_name.specs.declared.operation.CompareOp.{CompareOp}
 use Rattle.lq_name.specs.declared.operation.CompareOp.TheVariants as test
 use Rattle.lq_pred.specs.declared.symbol.Symbol.{Symbol}
@@ -19,23 +19,30 @@ use Rattle.lq_model.specs.Step.{goes, in_one, in_left, in_right, in_and, in_or}
 use Rattle.lq_model.specs.StepFunction.{step}
 use Rattle.lq_refined.specs.Context.{Context, type_in}
 use Rattle.lq_refined.specs.Operations.{symbol_of}
+use Rattle.lq_refined.specs.Laws.{KeepSimpleTypes}
 use Rattle.lq_refined.specs.Refined.{Refined, int_with, bool_with, unit_type, function, tuple_of, array_with, data_with, map_with, type_variable, erased}
 use Rattle.lq_checks.specs.Fitting.{Fits, fits_none, fits_bind, fits_guard}
+use Rattle.lq_checks.specs.Basis.{Basis}
 use Rattle.lq_checks.specs.Pure.{sum_of, formula_of}
+use Rattle.lq_checks.specs.Pure as pures
 use Rattle.lq_checks.specs.Tree as tree
 use Rattle.lq_checks.specs.Tree.{Use, Pure}
-use Rattle.lq_checks.specs.Typing.{Points, Types, simple_type_in, type_of_use, HasPure, has_whole, has_flag, has_unit, has_use, has_negated, has_add, has_subtract, has_multiply, has_length, has_compare, has_not, has_and, has_or}
+use Rattle.lq_checks.specs.Typing.{Points, AreTemplates, Types, simple_type_in, type_of_use, HasPure, has_whole, has_flag, has_unit, has_use, has_negated, has_add, has_subtract, has_multiply, has_length, has_compare, has_not, has_and, has_or}
 use Rattle.lq_checks.specs.Typing as typing
-use Rattle.lq_inhabits.specs.Truth.{Givens, value_at, as_number, as_flag, as_object, meaning_of, Scene}
+use Rattle.lq_inhabits.specs.Truth.{Givens, value_at, as_number, as_flag, as_object, Objects, meaning_of, Scene}
 use Rattle.lq_inhabits.specs.Shut.{shut, Shuts}
 use Rattle.lq_inhabits.specs.Inhabits.{Table, Inhabits}
 use Rattle.lq_inhabits.specs.Runs.{RunsWell}
 use Rattle.lq_inhabits.proofs.Running.{runs_value, runs_step}
 use Rattle.lq_included.specs.Laws.{IsScene}
+use Rattle.lq_included.specs.Symbols.{TypeOn}
+use Rattle.lq_instanced.specs.Laws.{InstancedTypesOn, InstancesAreThere}
+use Rattle.lq_parts.specs.Assignment.{Assignment}
+use Rattle.lq_tree.specs.Types as types
 use Rattle.lq_runs.specs.Closed.{names_in, IsClosed}
 use Rattle.lq_pures.specs.Cores.{pure_core}
-use Rattle.lq_runs.specs.Meets.{pair_of, pairs, Meets}
-use Rattle.lq_pures.specs.Pures.{KnowsLengths, UseOver, PureOver}
+use Rattle.lq_runs.specs.Meets.{pair_of, pairs, Variables, Meets}
+use Rattle.lq_pures.specs.Pures.{KnowsLengths, scene_of, EachUse, IsOf, ArgumentsOver, UseOver, PureOver, IsGeneralFor, UseIn, PureIn}
 use Rattle.lq_runs.specs.Runs.{Exactly, RunsExactly, RunsToTruth, RunsToNumber, RunsToUnit}
 use Rattle.lq_runs.proofs.Framing.{runs_in}
 use Rattle.lq_runs.proofs.Lower.{Lower}
@@ -84,7 +91,7 @@ type_fits _ _ (fits_guard {Δ = Δ} {Γ = Γ} h) x = type_fits Δ Γ h x
 
 -- ---- one operation
 
-module _ (law : Lower) (S : Scene) (by : Shuts) (Γ : Context) where
+module _ (law : Lower) (S : Scene) (by : Variables) (Γ : Context) where
   pub one_exact : (o : Operation) (c : Core) (h k : Givens → Value) → ((σ : Givens) (w : World) → unary_act o (h σ) w ≡ Some (gives (k σ) w)) → RunsExactly S by Γ c h → RunsExactly S by Γ (one o c) k
   one_exact o c h k acts runs n W σ m i w =
       runs_in law (in_one o) tt i (close (pairs σ) c) w (Exactly (h σ) w) (Exactly (k σ) w) (runs n W σ m i w) (λ j d u x le is q.
@@ -194,7 +201,7 @@ either_if : (t u : Bool) → (if t then true else u) ≡ (t || u)
 either_if true u = refl
 either_if false u = refl
 
-module _ (law : Lower) (S : Scene) (by : Shuts) (Γ : Context) where
+module _ (law : Lower) (S : Scene) (by : Variables) (Γ : Context) where
   pub and_runs : (c d : Core) (p q : Formula) → RunsToTruth S by Γ c p → RunsToTruth S by Γ d q → RunsToTruth S by Γ (and_of c d) (f.conjunction p q)
   and_runs c d p q h k n W σ m i w =
       let D = close (pairs σ) d in
@@ -225,39 +232,141 @@ module _ (law : Lower) (S : Scene) (by : Shuts) (Γ : Context) where
       decided i D w true u h = runs_value i (val (v_flag true)) w (v_flag true) (Exactly (v_flag true) w) refl (refl, refl)
       decided i D w false u h = h
 
+-- ---- uses
+
+-- what is so of each use is so of each, where the one gives the other
+pub each_use : (F G : Use → Type 0) → ((u : Use) → F u → G u) → (e : Pure) → EachUse F e → EachUse G e
+each_use F G f (tree.whole n) o = tt
+each_use F G f (tree.flag b) o = tt
+each_use F G f tree.unit o = tt
+each_use F G f (tree.use_of u) o = f u o
+each_use F G f (tree.negated a) o = each_use F G f a o
+each_use F G f (tree.add a b) o = (each_use F G f a o.0, each_use F G f b o.1)
+each_use F G f (tree.subtract a b) o = (each_use F G f a o.0, each_use F G f b o.1)
+each_use F G f (tree.multiply a b) o = (each_use F G f a o.0, each_use F G f b o.1)
+each_use F G f (tree.length_of a) o = each_use F G f a o
+each_use F G f (tree.compare c a b) o = (each_use F G f a o.0, each_use F G f b o.1)
+each_use F G f (tree.not_of a) o = each_use F G f a o
+each_use F G f (tree.and_of a b) o = (each_use F G f a o.0, each_use F G f b o.1)
+each_use F G f (tree.or_of a b) o = (each_use F G f a o.0, each_use F G f b o.1)
+
+-- and both of two are
+pub both_uses : (F G : Use → Type 0) (e : Pure) → EachUse F e → EachUse G e → EachUse (λ u. F u × G u) e
+both_uses F G (tree.whole n) o m = tt
+both_uses F G (tree.flag b) o m = tt
+both_uses F G tree.unit o m = tt
+both_uses F G (tree.use_of u) o m = (o, m)
+both_uses F G (tree.negated a) o m = both_uses F G a o m
+both_uses F G (tree.add a b) o m = (both_uses F G a o.0 m.0, both_uses F G b o.1 m.1)
+both_uses F G (tree.subtract a b) o m = (both_uses F G a o.0 m.0, both_uses F G b o.1 m.1)
+both_uses F G (tree.multiply a b) o m = (both_uses F G a o.0 m.0, both_uses F G b o.1 m.1)
+both_uses F G (tree.length_of a) o m = both_uses F G a o m
+both_uses F G (tree.compare c a b) o m = (both_uses F G a o.0 m.0, both_uses F G b o.1 m.1)
+both_uses F G (tree.not_of a) o m = both_uses F G a o m
+both_uses F G (tree.and_of a b) o m = (both_uses F G a o.0 m.0, both_uses F G b o.1 m.1)
+both_uses F G (tree.or_of a b) o m = (both_uses F G a o.0 m.0, both_uses F G b o.1 m.1)
+
+pub names_of : (P : Basis) (A : Assignment) (by : Variables) (Γ : Context) (e : Pure) → PureIn P A by Γ e → EachUse (IsOf (names_in Γ)) e
+names_of P A by Γ e o = each_use (UseIn P A by Γ) (IsOf (names_in Γ)) (λ u h. h.0.0) e o
+
+pub over_of : (P : Basis) (A : Assignment) (by : Variables) (Γ : Context) (e : Pure) → PureIn P A by Γ e → PureOver P A Γ e
+over_of P A by Γ e o = each_use (UseIn P A by Γ) (UseOver P A Γ) (λ u h. h.0) e o
+
+pub names_over : (P : Basis) (A : Assignment) (Γ : Context) (e : Pure) → PureOver P A Γ e → EachUse (IsOf (names_in Γ)) e
+names_over P A Γ e o = each_use (UseOver P A Γ) (IsOf (names_in Γ)) (λ u h. h.0) e o
+
+-- the environment of a typed tree has variables of the program alone
+pub no_position : (Δ : Types) (Γ : Context) → Fits Δ Γ → (k : ℕ) → names_in Γ (symbol.Position k) ≡ false
+no_position _ _ fits_none k = refl
+no_position _ _ (fits_bind {Δ = Δ} {Γ = Γ} {x = x} e h) k = join (names_in Γ (symbol.Position k)) (no_position Δ Γ h k)
+  where
+    join : (b : Bool) → b ≡ false → b || false ≡ false
+    join true z = absurd (cc)
+    join false z = refl
+no_position _ _ (fits_guard {Δ = Δ} {Γ = Γ} h) k = no_position Δ Γ h k
+
+pub no_v : (Δ : Types) (Γ : Context) → Fits Δ Γ → names_in Γ symbol.Value ≡ false
+no_v _ _ fits_none = refl
+no_v _ _ (fits_bind {Δ = Δ} {Γ = Γ} {x = x} e h) = join (names_in Γ symbol.Value) (no_v Δ Γ h)
+  where
+    join : (b : Bool) → b ≡ false → b || false ≡ false
+    join true z = absurd (cc)
+    join false z = refl
+no_v _ _ (fits_guard {Δ = Δ} {Γ = Γ} h) = no_v Δ Γ h
+
+-- what is said of types at instances
+pub record Instancing : Type 0 where
+  pub there : InstancesAreThere
+  pub on : InstancedTypesOn
+  pub keeps : KeepSimpleTypes
+
+-- the value of a used name, which inhabits the type of the use
+pub record UsedAt (P : Basis) (A : Assignment) (O : Objects) (by : Variables) (Γ : Context) (n : ℕ) (W : Table) (σ : Givens) (x : ℕ) (t : Refined) : Type 0 where
+  pub value : Value
+  pub is : value_at σ (symbol_of x) ≡ Some value
+  pub over : TypeOn A t (names_in Γ)
+  pub fits : Inhabits (scene_of P A O) n W (shut σ by.types t) value
+
+abbrev pub Used : Basis → Assignment → Objects → Variables → Context → ℕ → Table → Givens → Use → Type 0
+Used P A O by Γ n W σ u = UsedAt P A O by Γ n W σ u.name (pures.type_of_use P Γ u)
+
 -- ---- numbers and conditions
 
-module _ (law : Lower) (S : Scene) (is : IsScene S) (lengths : KnowsLengths S.objects) (by : Shuts) (Q : Points) (Δ : Types) (Γ : Context) (fits : Fits Δ Γ) (closed : IsClosed S Γ) where
-  -- a use that isn't of a generalised name has the type of the name
-  use_type : (u : Use) → UseOver (names_in Γ) u → type_of_use Q Δ u ≡ erased (type_in Γ (symbol_of u.name))
-  use_type u o = ap (λ i. typing.instance_of Q i (simple_type_in Δ u.name)) o.1 ∙ sym (type_fits Δ Γ fits u.name)
+module _ (law : Lower) (inst : Instancing) (P : Basis) (A : Assignment) (O : Objects) (is : IsScene (scene_of P A O)) (lengths : KnowsLengths O) (by : Variables) (Q : Points) (are : AreTemplates P Q) (Δ : Types) (Γ : Context) (fits : Fits Δ Γ) (closed : IsClosed (scene_of P A O) Γ) where
+  abbrev S : Scene
+  S = scene_of P A O
 
-  pub look_up : (n : ℕ) (W : Table) (σ : Givens) → Meets S by n W Γ σ → (u : Use) → UseOver (names_in Γ) u → Looked S by n W Γ σ (symbol_of u.name)
-  look_up n W σ m u o = look law S is by n W Γ σ closed m.named (symbol_of u.name) o.0
+  -- a use has the type of the name, at the types that it puts for variables
+  pub use_type : (u : Use) → erased (pures.type_of_use P Γ u) ≡ type_of_use Q Δ u
+  use_type u = at u.type_arguments
+    where
+      at : (o : Option ℕ) → erased (pures.instance_of P Γ o (type_in Γ (symbol_of u.name))) ≡ typing.instance_of Q o (simple_type_in Δ u.name)
+      at None = type_fits Δ Γ fits u.name
+      at (Some i) =
+          inst.keeps.instantiating (P.type_arguments i) (type_in Γ (symbol_of u.name)) ∙ ap (λ ts. types.put (types.type_at ts) (erased (type_in Γ (symbol_of u.name)))) (are.type_arguments i) ∙ ap (types.put (types.type_at (Q.type_arguments i))) (type_fits Δ Γ fits u.name)
 
-  number_use : (u : Use) → UseOver (names_in Γ) u → ml.int ≡ type_of_use Q Δ u → RunsToNumber S by Γ (use_of u.name) (s.var (symbol_of u.name))
+  pub look_up : (n : ℕ) (W : Table) (σ : Givens) → Meets S by n W Γ σ → (u : Use) → UseIn P A by Γ u → Used P A O by Γ n W σ u
+  look_up n W σ m u o =
+      found (look S by n W Γ σ closed m.named (symbol_of u.name) o.0.0) u.type_arguments o.0.1 o.1.1
+    where
+      t : Refined
+      t = type_in Γ (symbol_of u.name)
+
+      found : Looked S by n W σ (names_in Γ) Γ σ (symbol_of u.name) → (i : Option ℕ) → ArgumentsOver P A Γ t i → IsGeneralFor by u.name i → UsedAt P A O by Γ n W σ u.name (pures.instance_of P Γ i t)
+      found l None a g = record { value = l.value; is = l.is; over = l.over; fits = l.fits.own o.1.0 }
+      found l (Some i) a g =
+          let Ts = P.type_arguments i in
+          let at = inst.there S is Ts (names_in Γ) a.0 (no_position Δ Γ fits) t a.1 σ by.types in
+          record {
+            value = l.value;
+            is = l.is;
+            over = inst.on A t Ts (names_in Γ) l.over a.0;
+            fits = at.1 n W l.value (l.fits.each g at.0);
+          }
+
+  number_use : (u : Use) → UseIn P A by Γ u → ml.int ≡ type_of_use Q Δ u → RunsToNumber S by Γ (use_of u.name) (s.var (symbol_of u.name))
   number_use u o e n W σ m k w =
       let x = symbol_of u.name in
       let l = look_up (suc n) W σ m u o in
-      runs_variable k σ u.name (v_whole (as_number (value_at σ x))) w (l.is ∙ ap Some (whole_of S (suc n) W σ by (type_in Γ x) (sym (e ∙ use_type u o)) l.value l.fits) ∙ ap (λ o. Some (v_whole (as_number o))) (sym l.is))
+      runs_variable k σ u.name (v_whole (as_number (value_at σ x))) w (l.is ∙ ap Some (whole_of S (suc n) W σ by.types (pures.type_of_use P Γ u) (use_type u ∙ sym e) l.value l.fits) ∙ ap (λ o. Some (v_whole (as_number o))) (sym l.is))
 
-  flag_use : (u : Use) → UseOver (names_in Γ) u → ml.bool ≡ type_of_use Q Δ u → RunsToTruth S by Γ (use_of u.name) (f.flag (symbol_of u.name))
+  flag_use : (u : Use) → UseIn P A by Γ u → ml.bool ≡ type_of_use Q Δ u → RunsToTruth S by Γ (use_of u.name) (f.flag (symbol_of u.name))
   flag_use u o e n W σ m k w =
       let x = symbol_of u.name in
       let l = look_up (suc n) W σ m u o in
-      runs_variable k σ u.name (v_flag (as_flag (value_at σ x))) w (l.is ∙ ap Some (flag_of S (suc n) W σ by (type_in Γ x) (sym (e ∙ use_type u o)) l.value l.fits) ∙ ap (λ o. Some (v_flag (as_flag o))) (sym l.is))
+      runs_variable k σ u.name (v_flag (as_flag (value_at σ x))) w (l.is ∙ ap Some (flag_of S (suc n) W σ by.types (pures.type_of_use P Γ u) (use_type u ∙ sym e) l.value l.fits) ∙ ap (λ o. Some (v_flag (as_flag o))) (sym l.is))
 
-  unit_use : (u : Use) → UseOver (names_in Γ) u → ml.unit ≡ type_of_use Q Δ u → RunsToUnit S by Γ (use_of u.name)
+  unit_use : (u : Use) → UseIn P A by Γ u → ml.unit ≡ type_of_use Q Δ u → RunsToUnit S by Γ (use_of u.name)
   unit_use u o e n W σ m k w =
       let x = symbol_of u.name in
       let l = look_up (suc n) W σ m u o in
-      runs_variable k σ u.name v_unit w (l.is ∙ ap Some (unit_of S (suc n) W σ by (type_in Γ x) (sym (e ∙ use_type u o)) l.value l.fits))
+      runs_variable k σ u.name v_unit w (l.is ∙ ap Some (unit_of S (suc n) W σ by.types (pures.type_of_use P Γ u) (use_type u ∙ sym e) l.value l.fits))
 
-  length_use : (u : Use) → UseOver (names_in Γ) u → (a : MlType) → ml.array a ≡ type_of_use Q Δ u → RunsToNumber S by Γ (one length_of (use_of u.name)) (s.len (s.var (symbol_of u.name)))
+  length_use : (u : Use) → UseIn P A by Γ u → (a : MlType) → ml.array a ≡ type_of_use Q Δ u → RunsToNumber S by Γ (one length_of (use_of u.name)) (s.len (s.var (symbol_of u.name)))
   length_use u o a e n W σ m k w =
       let x = symbol_of u.name in
       let l = look_up (suc n) W σ m u o in
-      let z = array_of S (suc n) W σ by lengths (type_in Γ x) a (sym (e ∙ use_type u o)) l.value l.fits in
+      let z = array_of S (suc n) W σ by.types lengths (pures.type_of_use P Γ u) a (use_type u ∙ sym e) l.value l.fits in
       let v = v_array z.0 z.1 in
       let out = v_whole (term_value (meaning_of S.objects σ) (s.len (s.var x))) in
       let counted : pos z.1 ≡ term_value (meaning_of S.objects σ) (s.len (s.var x)) = sym (ap (λ o. S.objects.length (as_object S.objects o)) l.is ∙ z.3) in
@@ -267,7 +376,7 @@ module _ (law : Lower) (S : Scene) (is : IsScene S) (lengths : KnowsLengths S.ob
       subst (λ r. RunsWell j (one length_of d) r (Exactly out w)) (sym q.1) (runs_step j (one length_of d) (val (v_whole (pos z.1))) w w (Exactly out w) refl go (λ i eq.
       runs_value i (val (v_whole (pos z.1))) w (v_whole (pos z.1)) (Exactly out w) refl (ap v_whole counted, refl))))
 
-  length_runs : (e : Pure) (a : MlType) → PureIs Q Δ e (ml.array a) → PureOver (names_in Γ) e → RunsToNumber S by Γ (pure_core (tree.length_of e)) (sum_of (tree.length_of e))
+  length_runs : (e : Pure) (a : MlType) → PureIs Q Δ e (ml.array a) → PureIn P A by Γ e → RunsToNumber S by Γ (pure_core (tree.length_of e)) (sum_of (tree.length_of e))
   length_runs (tree.use_of u) a h o = length_use u o a h
   length_runs (tree.whole i) a h o = absurd (cc)
   length_runs (tree.flag b) a h o = absurd (cc)
@@ -282,7 +391,7 @@ module _ (law : Lower) (S : Scene) (is : IsScene S) (lengths : KnowsLengths S.ob
   length_runs (tree.and_of d e) a h o = let z = h.0 in absurd (cc)
   length_runs (tree.or_of d e) a h o = let z = h.0 in absurd (cc)
 
-  pub number_runs : (e : Pure) → PureIs Q Δ e ml.int → PureOver (names_in Γ) e → RunsToNumber S by Γ (pure_core e) (sum_of e)
+  pub number_runs : (e : Pure) → PureIs Q Δ e ml.int → PureIn P A by Γ e → RunsToNumber S by Γ (pure_core e) (sum_of e)
   number_runs (tree.whole i) h o = value_exact law S by Γ (v_whole i)
   number_runs (tree.use_of u) h o = number_use u o h
   number_runs (tree.negated a) h o =
@@ -305,7 +414,7 @@ module _ (law : Lower) (S : Scene) (is : IsScene S) (lengths : KnowsLengths S.ob
   flag_runs true = value_exact law S by Γ (v_flag true)
   flag_runs false = value_exact law S by Γ (v_flag false)
 
-  pub condition_runs : (e : Pure) → PureIs Q Δ e ml.bool → PureOver (names_in Γ) e → RunsToTruth S by Γ (pure_core e) (formula_of e)
+  pub condition_runs : (e : Pure) → PureIs Q Δ e ml.bool → PureIn P A by Γ e → RunsToTruth S by Γ (pure_core e) (formula_of e)
   condition_runs (tree.flag b) h o = flag_runs b
   condition_runs (tree.use_of u) h o = flag_use u o h
   condition_runs (tree.compare c a b) h o =
@@ -324,7 +433,7 @@ module _ (law : Lower) (S : Scene) (is : IsScene S) (lengths : KnowsLengths S.ob
   condition_runs (tree.multiply a b) h o = let z = h.0 in absurd (cc)
   condition_runs (tree.length_of a) h o = let z = h.0 in absurd (cc)
 
-  pub unit_runs : (e : Pure) → PureIs Q Δ e ml.unit → PureOver (names_in Γ) e → RunsToUnit S by Γ (pure_core e)
+  pub unit_runs : (e : Pure) → PureIs Q Δ e ml.unit → PureIn P A by Γ e → RunsToUnit S by Γ (pure_core e)
   unit_runs tree.unit h o = value_exact law S by Γ v_unit
   unit_runs (tree.use_of u) h o = unit_use u o h
   unit_runs (tree.whole i) h o = absurd (cc)

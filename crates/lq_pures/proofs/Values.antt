@@ -1,5 +1,5 @@
 -- Pure expressions run to values of their types, and these speak of the environment's names.
-use Rattle.std.proofs.Common.{◌≡◌, ℕ, suc, ℤ, ◌||◌, Bool, true, false, cond, [], ◌∷◌, Some, refl, sym, ap, subst}
+use Rattle.std.proofs.Common.{◌≡◌, ℕ, suc, ℤ, Option, None, ◌||◌, Bool, true, false, cond, [], ◌∷◌, Some, refl, sym, ap}
 use Rattle.std.proofs.lemmas.Bool.{eq-eqb}
 use Rattle.std.proofs.lemmas.Bool.Decides.{Decides-int_eq}
 use Rattle.std.specs.Ordering.{int_eq}
@@ -25,29 +25,30 @@ use Rattle.lq_checks.specs.Pure.{sum_of, formula_of, variable_type, pure_type}
 use Rattle.lq_checks.specs.Pure as pures
 use Rattle.lq_checks.specs.Tree as tree
 use Rattle.lq_checks.specs.Tree.{Use, Pure}
-use Rattle.lq_checks.specs.Typing.{Points, Types}
+use Rattle.lq_checks.specs.Typing.{Points, AreTemplates, Types}
 use Rattle.lq_inhabits.specs.Truth.{Givens, given, value_at, as_number, as_flag, as_object, Objects, meaning_of, Scene}
 use Rattle.lq_inhabits.specs.Shut.{shut, Shuts}
 use Rattle.lq_inhabits.specs.Inhabits.{Table, Inhabits}
 use Rattle.lq_included.specs.Laws.{IsScene}
 use Rattle.lq_included.specs.Symbols.{Symbols, other_than, SumOn, FormulaOn, InsideOn, TypeOn}
 use Rattle.lq_included.proofs.Truths.{SameOn, value_same, truth_same, same_agree, agree_back, agree_other, false_not}
-use Rattle.lq_runs.specs.Closed.{names_in, with_value, SortedOn, IsTypeOver, IsClosed}
+use Rattle.lq_runs.specs.Closed.{names_in, with_value, SortedOn, IsTypeOver, IsClosedIn, IsClosed}
+use Rattle.lq_runs.specs.Meets.{Variables}
 use Rattle.lq_runs.specs.Runs.{RunsToValue, RunsToTruth, RunsToNumber}
-use Rattle.lq_runs.proofs.Closing.{or_right, sum_more, formula_more, within_with, value_apart, type_more}
+use Rattle.lq_runs.proofs.Closing.{Within, or_right, sum_more, formula_more, within_with, value_apart, top_more}
 use Rattle.lq_runs.proofs.Lower.{Lower}
 use Rattle.lq_pures.specs.Cores.{pure_core}
-use Rattle.lq_pures.specs.Pures.{KnowsLengths, scene_of, UseOver, PureOver}
+use Rattle.lq_pures.specs.Pures.{KnowsLengths, scene_of, EachUse, IsOf, ArgumentsOver, UseOver, PureOver, UseIn, PureIn}
 use Rattle.lq_pures.specs.Values.{IsBasic, IsBasicIn}
-use Rattle.lq_pures.proofs.Pures.{PureIs, number_runs, condition_runs, value_exact, look_up, runs_variable}
+use Rattle.lq_pures.proofs.Pures.{Instancing, PureIs, names_of, names_over, number_runs, condition_runs, value_exact, look_up, runs_variable}
 
 -- ---- of which names terms and predicates of expressions speak
 
-pub sum_over : (P : Symbols) (e : Pure) → PureOver P e → SumOn P (sum_of e)
+pub sum_over : (P : Symbols) (e : Pure) → EachUse (IsOf P) e → SumOn P (sum_of e)
 sum_over P (tree.whole n) o = tt
 sum_over P (tree.flag b) o = tt
 sum_over P tree.unit o = tt
-sum_over P (tree.use_of u) o = o.0
+sum_over P (tree.use_of u) o = o
 sum_over P (tree.negated a) o = sum_over P a o
 sum_over P (tree.add a b) o = (sum_over P a o.0, sum_over P b o.1)
 sum_over P (tree.subtract a b) o = (sum_over P a o.0, sum_over P b o.1)
@@ -58,12 +59,12 @@ sum_over P (tree.not_of a) o = tt
 sum_over P (tree.and_of a b) o = tt
 sum_over P (tree.or_of a b) o = tt
 
-pub formula_over : (P : Symbols) (e : Pure) → PureOver P e → FormulaOn P (formula_of e)
+pub formula_over : (P : Symbols) (e : Pure) → EachUse (IsOf P) e → FormulaOn P (formula_of e)
 formula_over P (tree.whole n) o = tt
 formula_over P (tree.flag true) o = tt
 formula_over P (tree.flag false) o = tt
 formula_over P tree.unit o = tt
-formula_over P (tree.use_of u) o = o.0
+formula_over P (tree.use_of u) o = o
 formula_over P (tree.negated a) o = tt
 formula_over P (tree.add a b) o = tt
 formula_over P (tree.subtract a b) o = tt
@@ -140,12 +141,12 @@ truth_is false false e = refl
 truth_is true false e = absurd (cc)
 truth_is false true e = absurd (cc)
 
-module _ (law : Lower) (S : Scene) (by : Shuts) (Γ : Context) (closed : IsClosed S Γ) where
+module _ (law : Lower) (S : Scene) (by : Variables) (Γ : Context) (closed : IsClosed S Γ) where
   apart : (y : Symbol) → names_in Γ y ≡ true → other_than symbol.Value y ≡ true
   apart y h = false_not (same_symbol symbol.Value y) (value_apart S Γ closed y h)
 
   -- the value of a term has the type that says so
-  pub number_fits : (t : Sum) → SumOn (names_in Γ) t → (n : ℕ) (W : Table) (σ : Givens) → Inhabits S n W (shut σ by (int_with (known (f.compare Eq (s.var symbol.Value) t) ∷ []))) (v_whole (term_value (meaning_of S.objects σ) t))
+  pub number_fits : (t : Sum) → SumOn (names_in Γ) t → (n : ℕ) (W : Table) (σ : Givens) → Inhabits S n W (shut σ by.types (int_with (known (f.compare Eq (s.var symbol.Value) t) ∷ []))) (v_whole (term_value (meaning_of S.objects σ) t))
   number_fits t o n W σ =
       let k = term_value (meaning_of S.objects σ) t in
       let v = v_whole k in
@@ -155,7 +156,7 @@ module _ (law : Lower) (S : Scene) (by : Shuts) (Γ : Context) (closed : IsClose
   pub number_value : (c : Core) (t : Sum) → SumOn (names_in Γ) t → RunsToNumber S by Γ c t → RunsToValue S by Γ c (int_with (known (f.compare Eq (s.var symbol.Value) t) ∷ []))
   number_value c t o runs n W σ m = (v_whole (term_value (meaning_of S.objects σ) t), number_fits t o (suc n) W σ, runs n W σ m)
 
-  pub truth_fits : (p : Formula) → FormulaOn (names_in Γ) p → (n : ℕ) (W : Table) (σ : Givens) → Inhabits S n W (shut σ by (bool_with (known (f.equivalence (f.flag symbol.Value) p) ∷ []))) (v_flag (truth_of (meaning_of S.objects σ) p))
+  pub truth_fits : (p : Formula) → FormulaOn (names_in Γ) p → (n : ℕ) (W : Table) (σ : Givens) → Inhabits S n W (shut σ by.types (bool_with (known (f.equivalence (f.flag symbol.Value) p) ∷ []))) (v_flag (truth_of (meaning_of S.objects σ) p))
   truth_fits p o n W σ =
       let b = truth_of (meaning_of S.objects σ) p in
       let v = v_flag b in
@@ -179,24 +180,21 @@ own_value S n W σ by scopes x v is (data_with d ts m p) b h =
 own_value S n W σ by scopes x v is (map_with e p) b h = absurd b
 own_value S n W σ by scopes x v is (type_variable j) b h = absurd b
 
-module _ (law : Lower) (P : Basis) (A : Assignment) (O : Objects) (is : IsScene (scene_of P A O)) (lengths : KnowsLengths O) (by : Shuts) (Q : Points) (Δ : Types) (Γ : Context) (fits : Fits Δ Γ) (closed : IsClosed (scene_of P A O) Γ) where
-  number_of : (e : Pure) → PureIs Q Δ e ml.int → PureOver (names_in Γ) e → RunsToValue (scene_of P A O) by Γ (pure_core e) (pures.number_type e)
+module _ (law : Lower) (inst : Instancing) (P : Basis) (A : Assignment) (O : Objects) (is : IsScene (scene_of P A O)) (lengths : KnowsLengths O) (by : Variables) (Q : Points) (are : AreTemplates P Q) (Δ : Types) (Γ : Context) (fits : Fits Δ Γ) (closed : IsClosed (scene_of P A O) Γ) where
+  number_of : (e : Pure) → PureIs Q Δ e ml.int → PureIn P A by Γ e → RunsToValue (scene_of P A O) by Γ (pure_core e) (pures.number_type e)
   number_of e h o =
-      number_value law (scene_of P A O) by Γ closed (pure_core e) (sum_of e) (sum_over (names_in Γ) e o) (number_runs law (scene_of P A O) is lengths by Q Δ Γ fits closed e h o)
+      number_value law (scene_of P A O) by Γ closed (pure_core e) (sum_of e) (sum_over (names_in Γ) e (names_of P A by Γ e o)) (number_runs law inst P A O is lengths by Q are Δ Γ fits closed e h o)
 
-  truth_for : (e : Pure) → PureIs Q Δ e ml.bool → PureOver (names_in Γ) e → RunsToValue (scene_of P A O) by Γ (pure_core e) (pures.truth_type e)
+  truth_for : (e : Pure) → PureIs Q Δ e ml.bool → PureIn P A by Γ e → RunsToValue (scene_of P A O) by Γ (pure_core e) (pures.truth_type e)
   truth_for e h o =
-      truth_value law (scene_of P A O) by Γ closed (pure_core e) (formula_of e) (formula_over (names_in Γ) e o) (condition_runs law (scene_of P A O) is lengths by Q Δ Γ fits closed e h o)
+      truth_value law (scene_of P A O) by Γ closed (pure_core e) (formula_of e) (formula_over (names_in Γ) e (names_of P A by Γ e o)) (condition_runs law inst P A O is lengths by Q are Δ Γ fits closed e h o)
 
-  use_value : (u : Use) → UseOver (names_in Γ) u → IsBasic (type_in Γ (symbol_of u.name)) → RunsToValue (scene_of P A O) by Γ (pure_core (tree.use_of u)) (pure_type P Γ (tree.use_of u))
+  use_value : (u : Use) → UseIn P A by Γ u → IsBasic (pures.type_of_use P Γ u) → RunsToValue (scene_of P A O) by Γ (pure_core (tree.use_of u)) (pure_type P Γ (tree.use_of u))
   use_value u o b n W σ m =
-      let S = scene_of P A O in
-      let l = look_up law S is lengths by Q Δ Γ fits closed (suc n) W σ m u o in
-      let t = type_in Γ (symbol_of u.name) in
-      let own : Inhabits S (suc n) W (shut σ by (variable_type P.setting.scopes u.name t)) l.value = own_value S (suc n) W σ by P.setting.scopes u.name l.value l.is t b l.fits in
-      (l.value, subst (λ i. Inhabits S (suc n) W (shut σ by (variable_type P.setting.scopes u.name (pures.instance_of P Γ i t))) l.value) (sym o.1) own, λ k w. runs_variable k σ u.name l.value w l.is)
+      let l = look_up law inst P A O is lengths by Q are Δ Γ fits closed (suc n) W σ m u o in
+      (l.value, own_value (scene_of P A O) (suc n) W σ by.types P.setting.scopes u.name l.value l.is (pures.type_of_use P Γ u) b l.fits, λ k w. runs_variable k σ u.name l.value w l.is)
 
-  pub value_runs : (e : Pure) (a : MlType) → PureIs Q Δ e a → PureOver (names_in Γ) e → IsBasicIn Γ e → RunsToValue (scene_of P A O) by Γ (pure_core e) (pure_type P Γ e)
+  pub value_runs : (e : Pure) (a : MlType) → PureIs Q Δ e a → PureIn P A by Γ e → IsBasicIn P Γ e → RunsToValue (scene_of P A O) by Γ (pure_core e) (pure_type P Γ e)
   value_runs (tree.use_of u) a h o b = use_value u o b
   value_runs (tree.whole i) a h o b = number_of (tree.whole i) refl o
   value_runs (tree.flag c) a h o b = truth_for (tree.flag c) refl o
@@ -212,42 +210,51 @@ module _ (law : Lower) (P : Basis) (A : Assignment) (O : Objects) (is : IsScene 
   value_runs (tree.or_of c d) a h o b = truth_for (tree.or_of c d) (refl, h.1, h.2) o
 
 -- the type of a name speaks of names of the environment
-type_known : (A : Assignment) (O : Objects) (P : Basis) (Γ : Context) → IsClosed (scene_of P A O) Γ → (x : Symbol) → names_in Γ x ≡ true → TypeOn A (type_in Γ x) (names_in Γ)
-type_known A O P [] c x h = absurd (cc)
-type_known A O P (name y t ∷ Γ) c x h =
-    at (same_symbol y x) (λ s. type_known A O P Γ c.3 x (left_of (names_in Γ x) (same_symbol y x) h s))
+type_in_known : (A : Assignment) (O : Objects) (P : Basis) (N : Symbols) (Γ : Context) → Within (names_in Γ) N → IsClosedIn (scene_of P A O) N Γ → (x : Symbol) → names_in Γ x ≡ true → TypeOn A (type_in Γ x) N
+type_in_known A O P N [] f c x h = absurd (cc)
+type_in_known A O P N (name y t ∷ Γ) f c x h =
+    at (same_symbol y x) (λ s. type_in_known A O P N Γ earlier c.3 x (left_of (names_in Γ x) (same_symbol y x) h s))
   where
+    earlier : Within (names_in Γ) N
+    earlier z i = f z (within_with (names_in Γ) y z i)
+
     left_of : (a b : Bool) → a || b ≡ true → b ≡ false → a ≡ true
     left_of true b p q = refl
     left_of false true p q = absurd (cc)
     left_of false false p q = p
 
-    at : (b : Bool) → (b ≡ false → TypeOn A (type_in Γ x) (names_in Γ)) → TypeOn A (cond b t (type_in Γ x)) (names_in (name y t ∷ Γ))
-    at true g = type_more A t (names_in Γ) (names_in (name y t ∷ Γ)) (within_with (names_in Γ) y) c.2.0
-    at false g = type_more A (type_in Γ x) (names_in Γ) (names_in (name y t ∷ Γ)) (within_with (names_in Γ) y) (g refl)
-type_known A O P (guard p ∷ Γ) c x h = type_known A O P Γ c.1 x h
+    at : (b : Bool) → (b ≡ false → TypeOn A (type_in Γ x) N) → TypeOn A (cond b t (type_in Γ x)) N
+    at true g = (c.2.0.0, top_more A t (names_in Γ) N earlier c.2.0.1)
+    at false g = g refl
+type_in_known A O P N (guard p ∷ Γ) f c x h = type_in_known A O P N Γ f c.1 x h
 
-module _ (P : Basis) (A : Assignment) (O : Objects) (Γ : Context) (closed : IsClosed (scene_of P A O) Γ) where
-  use_over : (u : Use) → UseOver (names_in Γ) u → IsBasic (type_in Γ (symbol_of u.name)) → TypeOn A (type_in Γ (symbol_of u.name)) (names_in Γ) → IsTypeOver (scene_of P A O) (names_in Γ) (pure_type P Γ (tree.use_of u))
-  use_over u o b t =
-      let ty = type_in Γ (symbol_of u.name) in
-      subst (λ i. IsTypeOver (scene_of P A O) (names_in Γ) (variable_type P.setting.scopes u.name (pures.instance_of P Γ i ty))) (sym o.1) (variable_over (scene_of P A O) (names_in Γ) P.setting.scopes u.name ty b o.0 t.0)
+pub type_known : (A : Assignment) (O : Objects) (P : Basis) (Γ : Context) → IsClosed (scene_of P A O) Γ → (x : Symbol) → names_in Γ x ≡ true → TypeOn A (type_in Γ x) (names_in Γ)
+type_known A O P Γ c x h = type_in_known A O P (names_in Γ) Γ (λ y i. i) c x h
 
-  pub pure_over : (e : Pure) → PureOver (names_in Γ) e → IsBasicIn Γ e → IsTypeOver (scene_of P A O) (names_in Γ) (pure_type P Γ e)
-  pure_over (tree.use_of u) o b = use_over u o b (type_known A O P Γ closed (symbol_of u.name) o.0)
+module _ (inst : Instancing) (P : Basis) (A : Assignment) (O : Objects) (Γ : Context) (closed : IsClosed (scene_of P A O) Γ) where
+  -- so does the type of a use
+  pub used_on : (u : Use) → UseOver P A Γ u → TypeOn A (pures.type_of_use P Γ u) (names_in Γ)
+  used_on u o = at u.type_arguments o.1
+    where
+      at : (i : Option ℕ) → ArgumentsOver P A Γ (type_in Γ (symbol_of u.name)) i → TypeOn A (pures.instance_of P Γ i (type_in Γ (symbol_of u.name))) (names_in Γ)
+      at None a = type_known A O P Γ closed (symbol_of u.name) o.0
+      at (Some i) a = inst.on A (type_in Γ (symbol_of u.name)) (P.type_arguments i) (names_in Γ) (type_known A O P Γ closed (symbol_of u.name) o.0) a.0
+
+  pub pure_over : (e : Pure) → PureOver P A Γ e → IsBasicIn P Γ e → IsTypeOver (scene_of P A O) (names_in Γ) (pure_type P Γ e)
+  pure_over (tree.use_of u) o b = variable_over (scene_of P A O) (names_in Γ) P.setting.scopes u.name (pures.type_of_use P Γ u) b o.0 (used_on u o).0
   pure_over (tree.whole i) o b = number_over (scene_of P A O) (names_in Γ) (sum_of (tree.whole i)) tt
   pure_over (tree.flag c) o b = truth_over (scene_of P A O) (names_in Γ) (formula_of (tree.flag c)) (formula_over (names_in Γ) (tree.flag c) tt)
   pure_over tree.unit o b = ((tt, tt), tt)
-  pure_over (tree.negated d) o b = number_over (scene_of P A O) (names_in Γ) (sum_of (tree.negated d)) (sum_over (names_in Γ) (tree.negated d) o)
-  pure_over (tree.add c d) o b = number_over (scene_of P A O) (names_in Γ) (sum_of (tree.add c d)) (sum_over (names_in Γ) (tree.add c d) o)
-  pure_over (tree.subtract c d) o b = number_over (scene_of P A O) (names_in Γ) (sum_of (tree.subtract c d)) (sum_over (names_in Γ) (tree.subtract c d) o)
-  pure_over (tree.multiply c d) o b = number_over (scene_of P A O) (names_in Γ) (sum_of (tree.multiply c d)) (sum_over (names_in Γ) (tree.multiply c d) o)
-  pure_over (tree.length_of d) o b = number_over (scene_of P A O) (names_in Γ) (sum_of (tree.length_of d)) (sum_over (names_in Γ) (tree.length_of d) o)
-  pure_over (tree.compare z c d) o b = truth_over (scene_of P A O) (names_in Γ) (formula_of (tree.compare z c d)) (formula_over (names_in Γ) (tree.compare z c d) o)
-  pure_over (tree.not_of d) o b = truth_over (scene_of P A O) (names_in Γ) (formula_of (tree.not_of d)) (formula_over (names_in Γ) (tree.not_of d) o)
-  pure_over (tree.and_of c d) o b = truth_over (scene_of P A O) (names_in Γ) (formula_of (tree.and_of c d)) (formula_over (names_in Γ) (tree.and_of c d) o)
-  pure_over (tree.or_of c d) o b = truth_over (scene_of P A O) (names_in Γ) (formula_of (tree.or_of c d)) (formula_over (names_in Γ) (tree.or_of c d) o)
+  pure_over (tree.negated d) o b = number_over (scene_of P A O) (names_in Γ) (sum_of (tree.negated d)) (sum_over (names_in Γ) (tree.negated d) (names_over P A Γ (tree.negated d) o))
+  pure_over (tree.add c d) o b = number_over (scene_of P A O) (names_in Γ) (sum_of (tree.add c d)) (sum_over (names_in Γ) (tree.add c d) (names_over P A Γ (tree.add c d) o))
+  pure_over (tree.subtract c d) o b = number_over (scene_of P A O) (names_in Γ) (sum_of (tree.subtract c d)) (sum_over (names_in Γ) (tree.subtract c d) (names_over P A Γ (tree.subtract c d) o))
+  pure_over (tree.multiply c d) o b = number_over (scene_of P A O) (names_in Γ) (sum_of (tree.multiply c d)) (sum_over (names_in Γ) (tree.multiply c d) (names_over P A Γ (tree.multiply c d) o))
+  pure_over (tree.length_of d) o b = number_over (scene_of P A O) (names_in Γ) (sum_of (tree.length_of d)) (sum_over (names_in Γ) (tree.length_of d) (names_over P A Γ (tree.length_of d) o))
+  pure_over (tree.compare z c d) o b = truth_over (scene_of P A O) (names_in Γ) (formula_of (tree.compare z c d)) (formula_over (names_in Γ) (tree.compare z c d) (names_over P A Γ (tree.compare z c d) o))
+  pure_over (tree.not_of d) o b = truth_over (scene_of P A O) (names_in Γ) (formula_of (tree.not_of d)) (formula_over (names_in Γ) (tree.not_of d) (names_over P A Γ (tree.not_of d) o))
+  pure_over (tree.and_of c d) o b = truth_over (scene_of P A O) (names_in Γ) (formula_of (tree.and_of c d)) (formula_over (names_in Γ) (tree.and_of c d) (names_over P A Γ (tree.and_of c d) o))
+  pure_over (tree.or_of c d) o b = truth_over (scene_of P A O) (names_in Γ) (formula_of (tree.or_of c d)) (formula_over (names_in Γ) (tree.or_of c d) (names_over P A Γ (tree.or_of c d) o))
 
 -- a condition may be a guard, and so may its negation
-pub condition_guards : (S : Scene) (Γ : Context) → IsClosed S Γ → (e : Pure) → PureOver (names_in Γ) e → IsClosed S (guard (known (formula_of e)) ∷ Γ) × IsClosed S (guard (known (f.negation (formula_of e))) ∷ Γ)
+pub condition_guards : (S : Scene) (Γ : Context) → IsClosed S Γ → (e : Pure) → EachUse (IsOf (names_in Γ)) e → IsClosed S (guard (known (formula_of e)) ∷ Γ) × IsClosed S (guard (known (f.negation (formula_of e))) ∷ Γ)
 condition_guards S Γ closed e o = let h = formula_over (names_in Γ) e o in (((h, tt), closed), ((h, tt), closed))

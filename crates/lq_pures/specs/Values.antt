@@ -4,21 +4,20 @@ use Rattle.lq_parts.specs.Assignment.{Assignment}
 use Rattle.lq_parts.specs.Part.{known}
 use Rattle.lq_pred.specs.Formula.{negation}
 use Rattle.lq_tree.specs.MlType.{MlType}
-use Rattle.lq_refined.specs.Context.{Context, type_in, guard}
-use Rattle.lq_refined.specs.Operations.{symbol_of}
+use Rattle.lq_refined.specs.Context.{Context, guard}
 use Rattle.lq_refined.specs.Refined.{Refined, int_with, bool_with, unit_type, function, tuple_of, array_with, data_with, map_with, type_variable}
 use Rattle.lq_checks.specs.Basis.{Basis}
 use Rattle.lq_checks.specs.Fitting.{Fits}
-use Rattle.lq_checks.specs.Pure.{formula_of, pure_type}
+use Rattle.lq_checks.specs.Pure.{formula_of, type_of_use, pure_type}
 use Rattle.lq_checks.specs.Tree.{Pure, whole, flag, unit, use_of, negated, add, subtract, multiply, length_of, compare, not_of, and_of, or_of}
-use Rattle.lq_checks.specs.Typing.{Points, Types, HasPure}
+use Rattle.lq_checks.specs.Typing.{Points, AreTemplates, Types, HasPure}
 use Rattle.lq_inhabits.specs.Truth.{Objects, Scene}
-use Rattle.lq_inhabits.specs.Shut.{Shuts}
 use Rattle.lq_included.specs.Laws.{IsScene}
 use Rattle.lq_runs.specs.Closed.{names_in, IsTypeOver, IsClosed}
+use Rattle.lq_runs.specs.Meets.{Variables}
 use Rattle.lq_runs.specs.Runs.{RunsToValue}
 use Rattle.lq_pures.specs.Cores.{pure_core}
-use Rattle.lq_pures.specs.Pures.{KnowsLengths, scene_of, PureOver}
+use Rattle.lq_pures.specs.Pures.{KnowsLengths, scene_of, EachUse, IsOf, PureOver, PureIn}
 
 -- a type of which a variable's own type says all by its value: a number, a truth value, unit, an array or a datatype's value
 abbrev pub IsBasic : Refined → Type 0
@@ -33,35 +32,35 @@ IsBasic (map_with e p) = ⊥
 IsBasic (type_variable i) = ⊥
 
 -- where the expression is a variable, it has such a type
-abbrev pub IsBasicIn : Context → Pure → Type 0
-IsBasicIn Γ (use_of u) = IsBasic (type_in Γ (symbol_of u.name))
-IsBasicIn Γ (whole n) = Unit {0}
-IsBasicIn Γ (flag b) = Unit {0}
-IsBasicIn Γ unit = Unit {0}
-IsBasicIn Γ (negated a) = Unit {0}
-IsBasicIn Γ (add a b) = Unit {0}
-IsBasicIn Γ (subtract a b) = Unit {0}
-IsBasicIn Γ (multiply a b) = Unit {0}
-IsBasicIn Γ (length_of a) = Unit {0}
-IsBasicIn Γ (compare o a b) = Unit {0}
-IsBasicIn Γ (not_of a) = Unit {0}
-IsBasicIn Γ (and_of a b) = Unit {0}
-IsBasicIn Γ (or_of a b) = Unit {0}
+abbrev pub IsBasicIn : Basis → Context → Pure → Type 0
+IsBasicIn P Γ (use_of u) = IsBasic (type_of_use P Γ u)
+IsBasicIn P Γ (whole n) = Unit {0}
+IsBasicIn P Γ (flag b) = Unit {0}
+IsBasicIn P Γ unit = Unit {0}
+IsBasicIn P Γ (negated a) = Unit {0}
+IsBasicIn P Γ (add a b) = Unit {0}
+IsBasicIn P Γ (subtract a b) = Unit {0}
+IsBasicIn P Γ (multiply a b) = Unit {0}
+IsBasicIn P Γ (length_of a) = Unit {0}
+IsBasicIn P Γ (compare o a b) = Unit {0}
+IsBasicIn P Γ (not_of a) = Unit {0}
+IsBasicIn P Γ (and_of a b) = Unit {0}
+IsBasicIn P Γ (or_of a b) = Unit {0}
 
 -- such an expression runs to a value that inhabits its type
 abbrev pub ValuesRun : Type 0
 ValuesRun =
-    (P : Basis) (A : Assignment) (O : Objects) → IsScene (scene_of P A O) → KnowsLengths O → (by : Shuts) (Q : Points) (Δ : Types) (Γ : Context)
-    → Fits Δ Γ → IsClosed (scene_of P A O) Γ → (e : Pure) (a : MlType) → HasPure Q Δ e a → PureOver (names_in Γ) e → IsBasicIn Γ e
+    (P : Basis) (A : Assignment) (O : Objects) → IsScene (scene_of P A O) → KnowsLengths O → (by : Variables) (Q : Points) → AreTemplates P Q
+    → (Δ : Types) (Γ : Context) → Fits Δ Γ → IsClosed (scene_of P A O) Γ → (e : Pure) (a : MlType) → HasPure Q Δ e a → PureIn P A by Γ e → IsBasicIn P Γ e
     → RunsToValue (scene_of P A O) by Γ (pure_core e) (pure_type P Γ e)
 
 -- its type speaks of names of the environment, and so do a condition and its negation
 abbrev pub PureTypesAreOver : Type 0
 PureTypesAreOver =
-    (P : Basis) (A : Assignment) (O : Objects) (Γ : Context) → IsClosed (scene_of P A O) Γ → (e : Pure) → PureOver (names_in Γ) e → IsBasicIn Γ e
+    (P : Basis) (A : Assignment) (O : Objects) (Γ : Context) → IsClosed (scene_of P A O) Γ → (e : Pure) → PureOver P A Γ e → IsBasicIn P Γ e
     → IsTypeOver (scene_of P A O) (names_in Γ) (pure_type P Γ e)
 
 abbrev pub ConditionsGuard : Type 0
 ConditionsGuard =
-    (S : Scene) (Γ : Context) → IsClosed S Γ → (e : Pure) → PureOver (names_in Γ) e
+    (S : Scene) (Γ : Context) → IsClosed S Γ → (e : Pure) → EachUse (IsOf (names_in Γ)) e
     → IsClosed S (guard (known (formula_of e)) ∷ Γ) × IsClosed S (guard (known (negation (formula_of e))) ∷ Γ)

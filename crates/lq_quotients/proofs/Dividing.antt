@@ -24,7 +24,7 @@ use Rattle.lq_model.specs.declared.fault.FaultKind.TheVariants.{ZeroDivisor}
 use Rattle.lq_model.specs.Step.{goes, in_left, in_right}
 use Rattle.lq_model.specs.StepFunction.{step}
 use Rattle.lq_inhabits.specs.Truth.{Givens, given, meaning_of, Scene, AreTrue}
-use Rattle.lq_inhabits.specs.Shut.{shut, Shuts}
+use Rattle.lq_inhabits.specs.Shut.{shut}
 use Rattle.lq_inhabits.specs.Inhabits.{Table}
 use Rattle.lq_inhabits.specs.Runs.{RunsWell, LandsIn}
 use Rattle.lq_inhabits.proofs.Running.{runs_value, runs_step}
@@ -32,7 +32,7 @@ use Rattle.lq_included.specs.Symbols.{other_than, SumOn}
 use Rattle.lq_included.proofs.Truths as below
 use Rattle.lq_included.proofs.Truths.{implied_true, value_same, same_agree, agree_back, agree_other, not_false, false_not}
 use Rattle.lq_runs.specs.Closed.{names_in, IsClosed}
-use Rattle.lq_runs.specs.Meets.{pairs, Meets}
+use Rattle.lq_runs.specs.Meets.{pairs, Variables, Meets}
 use Rattle.lq_runs.specs.Runs.{Exactly, RunsTo, RunsToNumber}
 use Rattle.lq_runs.proofs.Closing.{sum_more, value_apart}
 use Rattle.lq_runs.proofs.Framing.{runs_in}
@@ -51,7 +51,7 @@ by_test : (b : Bool) (x : ℤ) → b ≡ false → (if b then pos 0 else x) ≡ 
 by_test false x e = refl
 by_test true x e = absurd (cc)
 
-module _ (law : Lower) (S : Scene) (by : Shuts) (Γ : Context) (c d : Core) (x y : Sum) (closed : IsClosed S Γ) (left_on : SumOn (names_in Γ) x) (right_on : SumOn (names_in Γ) y) (left : RunsToNumber S by Γ c x) (right : RunsToNumber S by Γ d y) (demanded : Implied S.assignment (facts S.setting Γ) (known (compare Ne y (literal 0)))) where
+module _ (law : Lower) (S : Scene) (by : Variables) (Γ : Context) (c d : Core) (x y : Sum) (closed : IsClosed S Γ) (left_on : SumOn (names_in Γ) x) (right_on : SumOn (names_in Γ) y) (left : RunsToNumber S by Γ c x) (right : RunsToNumber S by Γ d y) (demanded : Implied S.assignment (facts S.setting Γ) (known (compare Ne y (literal 0)))) where
   -- the value of a term of the environment's names doesn't depend on v
   still : (σ : Givens) (v : Value) (t : Sum) → SumOn (names_in Γ) t → term_value (meaning_of S.objects (given symbol.Value v ∷ σ)) t ≡ term_value (meaning_of S.objects σ) t
   still σ v t o =
@@ -67,7 +67,7 @@ module _ (law : Lower) (S : Scene) (by : Shuts) (Γ : Context) (c d : Core) (x y
       let D = close (pairs σ) d in
       let a = v_whole (term_value (meaning_of S.objects σ) x) in
       let b = v_whole (term_value (meaning_of S.objects σ) y) in
-      let R = LandsIn S W (shut σ by (int_with t)) in
+      let R = LandsIn S W (shut σ by.types (int_with t)) in
       runs_in law (in_left o D) tt n (close (pairs σ) c) w (Exactly a w) R (left n W σ m n w) (λ j e u z le is q.
       let at : as_value e ≡ Some a = is ∙ ap Some q.0 in
       subst (λ r. RunsWell j (two o e D) r R) (sym q.1) (runs_in law (in_right o e) (a, at) j D w (Exactly b w) R (right n W σ m j w) (λ i f u2 z2 le2 is2 q2.

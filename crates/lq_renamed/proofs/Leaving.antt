@@ -2,6 +2,7 @@
 use Rattle.std.proofs.Common.{◌≡◌, Bool, true, false, ◌||◌, cond, ◌==◌, [], ◌∷◌, Some, None, refl, sym, subst}
 use Rattle.lq_pred.specs.declared.symbol.Symbol.{Symbol}
 use Rattle.lq_pred.specs.Sum.{same_symbol}
+use Rattle.lq_parts.specs.Assignment.{Assignment}
 use Rattle.lq_parts.specs.Part.{Scopes}
 use Rattle.lq_parts.specs.Substitution.{Atom, of_sum, of_formula, Subst, swap}
 use Rattle.lq_refined.specs.Operations.{symbol_of, type_by, types_by, atom_of, twin_of, twin, twins}
@@ -86,10 +87,17 @@ module _ (scopes : Scopes) (P : Symbols) (x : Symbol) (a : Atom) (h : P x ≡ tr
     twins_leave none k = tt
     twins_leave (more t ts) k = (twin_leaves t k.0, twins_leave ts k.1)
 
--- where names and twins are apart from symbols, twins are outside
-or_false : (a b : Bool) → a || b ≡ false → a ≡ false
+pub or_false : (a b : Bool) → a || b ≡ false → a ≡ false
 or_false true b h = h
 or_false false b h = refl
+
+pub or_second : (a b : Bool) → a || b ≡ false → b ≡ false
+or_second true b h = absurd (cc)
+or_second false b h = h
+
+pub or_none : (a b : Bool) → a ≡ false → b ≡ false → a || b ≡ false
+or_none true b h k = h
+or_none false b h k = k
 
 module _ (P Q : Symbols) (f : (y : Symbol) → Q y ≡ false → P y ≡ false) where
   mutual
@@ -109,19 +117,20 @@ module _ (P Q : Symbols) (f : (y : Symbol) → Q y ≡ false → P y ≡ false) 
     all_outside_less none h = tt
     all_outside_less (more t ts) h = (outside_less t h.0, all_outside_less ts h.1)
 
+-- where names and twins are apart from symbols, twins are outside
 mutual
-  pub apart_outside : (P : Symbols) (t : Refined) → NamesApart P t → TwinsOutside P t
-  apart_outside P (int_with p) h = tt
-  apart_outside P (bool_with p) h = tt
-  apart_outside P unit_type h = tt
-  apart_outside P (function None a b) h = (apart_outside P a h.0, apart_outside P b h.1)
-  apart_outside P (function (Some x) a b) h = (h.1, apart_outside P a h.3, outside_less P (with_twins P x) (λ y e. or_false (P y) (same_symbol (symbol_of x) y) (or_false (with_symbol P (symbol_of x) y) (same_symbol (symbol_of (twin_of x)) y) e)) b (apart_outside (with_twins P x) b h.4))
-  apart_outside P (tuple_of ts) h = all_apart_outside P ts h
-  apart_outside P (array_with e p) h = apart_outside P e h
-  apart_outside P (data_with d ts m p) h = all_apart_outside P ts h
-  apart_outside P (map_with e p) h = tt
-  apart_outside P (type_variable i) h = tt
+  pub apart_outside : (A : Assignment) (P : Symbols) (t : Refined) → NamesApart A P t → TwinsOutside P t
+  apart_outside A P (int_with p) h = tt
+  apart_outside A P (bool_with p) h = tt
+  apart_outside A P unit_type h = tt
+  apart_outside A P (function None a b) h = (apart_outside A P a h.0, apart_outside A P b h.1)
+  apart_outside A P (function (Some x) a b) h = (h.1, apart_outside A P a h.3, outside_less P (with_twins P x) (λ y e. or_false (P y) (same_symbol (symbol_of x) y) (or_false (with_symbol P (symbol_of x) y) (same_symbol (symbol_of (twin_of x)) y) e)) b (apart_outside A (with_twins P x) b h.4))
+  apart_outside A P (tuple_of ts) h = all_apart_outside A P ts h
+  apart_outside A P (array_with e p) h = apart_outside A P e h
+  apart_outside A P (data_with d ts m p) h = all_apart_outside A P ts h
+  apart_outside A P (map_with e p) h = tt
+  apart_outside A P (type_variable i) h = tt
 
-  all_apart_outside : (P : Symbols) (ts : Refineds) → AllNamesApart P ts → AllTwinsOutside P ts
-  all_apart_outside P none h = tt
-  all_apart_outside P (more t ts) h = (apart_outside P t h.0, all_apart_outside P ts h.1)
+  all_apart_outside : (A : Assignment) (P : Symbols) (ts : Refineds) → AllNamesApart A P ts → AllTwinsOutside P ts
+  all_apart_outside A P none h = tt
+  all_apart_outside A P (more t ts) h = (apart_outside A P t h.0, all_apart_outside A P ts h.1)

@@ -1,4 +1,5 @@
 pub mod Standing
 pub mod Leaving
 pub mod Widening
+pub mod Speaking
 pub mod Twins

@@ -16,8 +16,9 @@ use Rattle.lq_renamed.specs.Names.{IsNeutralAt, NamesApart, IsNeutral}
 -- A type has the inhabitants of its twin.
 abbrev pub TwinTypesFit : Type 0
 TwinTypesFit =
-    (S : Scene) → IsScene S → (t : Refined) (P : Symbols) → TypeOn S.assignment t P → NamesApart P t → (σ : Givens) → IsNeutral S.objects σ t
-    → (by : Shuts) → Below S (shut σ by t) (shut σ by (twin S.setting.scopes t)) × Below S (shut σ by (twin S.setting.scopes t)) (shut σ by t)
+    (S : Scene) → IsScene S → (t : Refined) (P : Symbols) → TypeOn S.assignment t P → NamesApart S.assignment P t → (σ : Givens)
+    → IsNeutral S.objects σ t → (by : Shuts)
+    → Below S (shut σ by t) (shut σ by (twin S.setting.scopes t)) × Below S (shut σ by (twin S.setting.scopes t)) (shut σ by t)
 
 -- at the sorts of an atom a symbol has no other value
 abbrev pub IsNeutralFor : Objects → Givens → Atom → ℕ → Type 0

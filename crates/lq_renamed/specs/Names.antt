@@ -1,11 +1,12 @@
 -- The names that functions in a type have for their arguments: that they and their twins are new, and what is put for a name beside them.
-use Rattle.std.specs.Prelude.{◌≡◌, ℕ, pos, false, Some, None}
+use Rattle.std.specs.Prelude.{◌≡◌, ◌⊎◌, ℕ, pos, false, Some, None}
 use Rattle.lq_pred.specs.declared.symbol.Symbol.{Symbol}
+use Rattle.lq_parts.specs.Assignment.{Assignment}
 use Rattle.lq_parts.specs.Substitution.{Atom, of_sum, of_formula}
 use Rattle.lq_refined.specs.Operations.{symbol_of, twin_of}
 use Rattle.lq_refined.specs.Refined.{Refined, Refineds, int_with, bool_with, unit_type, function, tuple_of, array_with, data_with, map_with, type_variable, none, more, Kind, number, truth_value, object, other, kind}
 use Rattle.lq_inhabits.specs.Truth.{Givens, value_at, as_number, as_flag, as_object, Objects}
-use Rattle.lq_included.specs.Symbols.{Symbols, with_symbol, SumOn, FormulaOn}
+use Rattle.lq_included.specs.Symbols.{Symbols, with_symbol, SumOn, FormulaOn, TypeOn}
 
 abbrev pub AtomOn : Symbols → Atom → Type 0
 AtomOn P (of_sum t) = SumOn P t
@@ -26,24 +27,26 @@ IsNoVariable (type_variable i) = ⊥
 abbrev pub with_twins : Symbols → ℕ → Symbols
 with_twins P x = with_symbol (with_symbol P (symbol_of x)) (symbol_of (twin_of x))
 
--- each such name and its twin are none of these symbols nor of those further out, and the argument that it stands for is of no variable type
+-- Each such name and its twin are none of these symbols nor of those further out. The argument that it stands for is of no variable type, or
+-- else the result doesn't speak of it.
 abbrev mutual
-  pub NamesApart : Symbols → Refined → Type 0
-  NamesApart P (int_with p) = Unit {0}
-  NamesApart P (bool_with p) = Unit {0}
-  NamesApart P unit_type = Unit {0}
-  NamesApart P (function None a b) = NamesApart P a × NamesApart P b
-  NamesApart P (function (Some x) a b) =
-      (P (symbol_of x) ≡ false) × (P (symbol_of (twin_of x)) ≡ false) × IsNoVariable a × NamesApart P a × NamesApart (with_twins P x) b
-  NamesApart P (tuple_of ts) = AllNamesApart P ts
-  NamesApart P (array_with e p) = NamesApart P e
-  NamesApart P (data_with d ts m p) = AllNamesApart P ts
-  NamesApart P (map_with e p) = Unit {0}
-  NamesApart P (type_variable i) = Unit {0}
+  pub NamesApart : Assignment → Symbols → Refined → Type 0
+  NamesApart A P (int_with p) = Unit {0}
+  NamesApart A P (bool_with p) = Unit {0}
+  NamesApart A P unit_type = Unit {0}
+  NamesApart A P (function None a b) = NamesApart A P a × NamesApart A P b
+  NamesApart A P (function (Some x) a b) =
+      (P (symbol_of x) ≡ false) × (P (symbol_of (twin_of x)) ≡ false) × (IsNoVariable a ⊎ TypeOn A b P) × NamesApart A P a
+      × NamesApart A (with_twins P x) b
+  NamesApart A P (tuple_of ts) = AllNamesApart A P ts
+  NamesApart A P (array_with e p) = NamesApart A P e
+  NamesApart A P (data_with d ts m p) = AllNamesApart A P ts
+  NamesApart A P (map_with e p) = Unit {0}
+  NamesApart A P (type_variable i) = Unit {0}
 
-  pub AllNamesApart : Symbols → Refineds → Type 0
-  AllNamesApart P none = Unit {0}
-  AllNamesApart P (more t ts) = NamesApart P t × AllNamesApart P ts
+  pub AllNamesApart : Assignment → Symbols → Refineds → Type 0
+  AllNamesApart A P none = Unit {0}
+  AllNamesApart A P (more t ts) = NamesApart A P t × AllNamesApart A P ts
 
 -- the twin of each such name is none of these symbols
 abbrev mutual
@@ -70,7 +73,7 @@ IsNeutralAt O σ truth_value x = (as_number (value_at σ x) ≡ pos 0) × (as_ob
 IsNeutralAt O σ object x = as_flag (value_at σ x) ≡ false
 IsNeutralAt O σ other x = as_flag (value_at σ x) ≡ false
 
--- each such name has no value of another sort than its argument's, and its twin none
+-- each such name of an argument of no variable type has no value of another sort than the argument's, and each twin none
 abbrev mutual
   pub IsNeutral : Objects → Givens → Refined → Type 0
   IsNeutral O σ (int_with p) = Unit {0}
@@ -78,7 +81,8 @@ abbrev mutual
   IsNeutral O σ unit_type = Unit {0}
   IsNeutral O σ (function None a b) = IsNeutral O σ a × IsNeutral O σ b
   IsNeutral O σ (function (Some x) a b) =
-      IsNeutralAt O σ (kind a) (symbol_of x) × (value_at σ (symbol_of (twin_of x)) ≡ None) × IsNeutral O σ a × IsNeutral O σ b
+      (IsNoVariable a → IsNeutralAt O σ (kind a) (symbol_of x)) × (value_at σ (symbol_of (twin_of x)) ≡ None) × IsNeutral O σ a
+      × IsNeutral O σ b
   IsNeutral O σ (tuple_of ts) = AreNeutral O σ ts
   IsNeutral O σ (array_with e p) = IsNeutral O σ e
   IsNeutral O σ (data_with d ts m p) = AreNeutral O σ ts

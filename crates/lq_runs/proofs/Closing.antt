@@ -17,7 +17,7 @@ use Rattle.lq_included.specs.Symbols.{Symbols, other_than, with_symbol, with_som
 use Rattle.lq_included.specs.Apart.{MayBind}
 use Rattle.lq_included.specs.Laws.{IsScene}
 use Rattle.lq_included.proofs.Truths.{same_symbol-is, same_symbol-refl, under-append, at_but, decide, false_not}
-use Rattle.lq_runs.specs.Closed.{names_in, with_value, SortedOn, EachSorted, PartsSorted, IsClosed}
+use Rattle.lq_runs.specs.Closed.{names_in, with_value, SortedOn, EachSorted, PartsSorted, IsClosedIn, IsClosed, Binds}
 use Rattle.lq_runs.proofs.Lower.{Lower}
 
 -- ---- sets of symbols
@@ -85,11 +85,11 @@ parts_append A P ps qs h k = subst (EachOn P) (sym (under-append A ps qs)) (each
 -- ---- types
 
 module _ (A : Assignment) where
-  top_more : (t : Refined) (P Q : Symbols) → Within P Q → TopOn A t P → TopOn A t Q
+  pub top_more : (t : Refined) (P Q : Symbols) → Within P Q → TopOn A t P → TopOn A t Q
   top_more t P Q f h = each_more (with_symbol P symbol.Value) (with_symbol Q symbol.Value) (with_within P Q symbol.Value f) (parts_under A (top t)) h
 
   mutual
-    inside_more : (t : Refined) (P Q : Symbols) → Within P Q → InsideOn A t P → InsideOn A t Q
+    pub inside_more : (t : Refined) (P Q : Symbols) → Within P Q → InsideOn A t P → InsideOn A t Q
     inside_more (int_with p) P Q f h = tt
     inside_more (bool_with p) P Q f h = tt
     inside_more unit_type P Q f h = tt
@@ -135,11 +135,28 @@ pub agree_new : (Γ : Context) (x : Symbol) (v : Value) (σ : Givens) → IsNew 
 agree_new Γ x v σ n y h = at_but σ x y v (new_name Γ x y n h)
 
 -- nor is v
+value_apart_in : (S : Scene) (N : Symbols) (Γ : Context) → IsClosedIn S N Γ → (y : Symbol) → names_in Γ y ≡ true → same_symbol symbol.Value y ≡ false
+value_apart_in S N [] c y h = absurd (cc)
+value_apart_in S N (name z t ∷ Γ) c y h =
+    or_parts (same_symbol symbol.Value y ≡ false) (names_in Γ y) (same_symbol z y) h (λ p. value_apart_in S N Γ c.3 y p) (λ s. subst (λ k. same_symbol symbol.Value k ≡ false) (same_symbol-is z y s) (same-sym z symbol.Value c.0))
+value_apart_in S N (guard p ∷ Γ) c y h = value_apart_in S N Γ c.1 y h
+
 pub value_apart : (S : Scene) (Γ : Context) → IsClosed S Γ → (y : Symbol) → names_in Γ y ≡ true → same_symbol symbol.Value y ≡ false
-value_apart S [] c y h = absurd (cc)
-value_apart S (name z t ∷ Γ) c y h =
-    or_parts (same_symbol symbol.Value y ≡ false) (names_in Γ y) (same_symbol z y) h (λ p. value_apart S Γ c.3 y p) (λ s. subst (λ k. same_symbol symbol.Value k ≡ false) (same_symbol-is z y s) (same-sym z symbol.Value c.0))
-value_apart S (guard p ∷ Γ) c y h = value_apart S Γ c.1 y h
+value_apart S Γ c y h = value_apart_in S (names_in Γ) Γ c y h
+
+-- ---- more names
+
+-- what is inside may speak of more
+pub closed_more : (S : Scene) (M N : Symbols) → Within M N → (Γ : Context) → IsClosedIn S M Γ → IsClosedIn S N Γ
+closed_more S M N f [] c = tt
+closed_more S M N f (name x t ∷ Γ) c = (c.0, c.1, ((inside_more S.assignment t M N f c.2.0.0, c.2.0.1), c.2.1), closed_more S M N f Γ c.3)
+closed_more S M N f (guard p ∷ Γ) c = (c.0, closed_more S M N f Γ c.1)
+
+-- so an environment with one more name is closed
+pub closed_bind : (S : Scene) (x : Symbol) (t : Refined) (Γ : Context) → Binds S x t Γ → IsClosed S (name x t ∷ Γ)
+closed_bind S x t Γ c =
+    let f = within_with (names_in Γ) x in
+    (c.0, c.1, ((inside_more S.assignment t (names_in Γ) (with_symbol (names_in Γ) x) f c.2.0.0, c.2.0.1), c.2.1), closed_more S (names_in Γ) (with_symbol (names_in Γ) x) f Γ c.3)
 
 -- ---- hypotheses
 
@@ -220,23 +237,32 @@ module _ (P : Symbols) (x : Symbol) where
 
 module _ (law : Lower) (S : Scene) (is : IsScene S) where
   -- the hypotheses of a closed environment speak of its names
-  pub facts_on : (Γ : Context) → IsClosed S Γ → PartsOn S.assignment (names_in Γ) (facts S.setting Γ)
-  facts_on [] c = tt
-  facts_on (name x t ∷ Γ) c =
+  facts_in : (N : Symbols) (Γ : Context) → IsClosedIn S N Γ → PartsOn S.assignment (names_in Γ) (facts S.setting Γ)
+  facts_in N [] c = tt
+  facts_in N (name x t ∷ Γ) c =
       let θ : Subst = swap symbol.Value (atom_of (kind t) x) ∷ [] in
-      parts_append S.assignment (with_symbol (names_in Γ) x) (facts S.setting Γ) (parts_by S.setting.scopes θ (top t)) (each_more (names_in Γ) (with_symbol (names_in Γ) x) (within_with (names_in Γ) x) (parts_under S.assignment (facts S.setting Γ)) (facts_on Γ c.3)) (subst (EachOn (with_symbol (names_in Γ) x)) (sym (law.under-by S.setting.scopes S.assignment θ (top t) is.scoped)) (each_named (names_in Γ) x S.assignment (kind t) (top t) c.2.1))
-  facts_on (guard p ∷ Γ) c =
-      parts_append S.assignment (names_in Γ) (facts S.setting Γ) (p ∷ []) (facts_on Γ c.1) c.0
+      parts_append S.assignment (with_symbol (names_in Γ) x) (facts S.setting Γ) (parts_by S.setting.scopes θ (top t)) (each_more (names_in Γ) (with_symbol (names_in Γ) x) (within_with (names_in Γ) x) (parts_under S.assignment (facts S.setting Γ)) (facts_in N Γ c.3)) (subst (EachOn (with_symbol (names_in Γ) x)) (sym (law.under-by S.setting.scopes S.assignment θ (top t) is.scoped)) (each_named (names_in Γ) x S.assignment (kind t) (top t) c.2.1))
+  facts_in N (guard p ∷ Γ) c =
+      parts_append S.assignment (names_in Γ) (facts S.setting Γ) (p ∷ []) (facts_in N Γ c.1) c.0
+
+  pub facts_on : (Γ : Context) → IsClosed S Γ → PartsOn S.assignment (names_in Γ) (facts S.setting Γ)
+  facts_on Γ c = facts_in (names_in Γ) Γ c
+
+  lacks_value_in : (N : Symbols) (Γ : Context) → IsClosedIn S N Γ → Lacks S.assignment symbol.Value (facts S.setting Γ)
+  lacks_value_in N Γ c =
+      each_more (names_in Γ) (other_than symbol.Value) (λ y h. false_not (same_symbol symbol.Value y) (value_apart_in S N Γ c y h)) (parts_under S.assignment (facts S.setting Γ)) (facts_in N Γ c)
 
   pub lacks_value : (Γ : Context) → IsClosed S Γ → Lacks S.assignment symbol.Value (facts S.setting Γ)
-  lacks_value Γ c =
-      each_more (names_in Γ) (other_than symbol.Value) (λ y h. false_not (same_symbol symbol.Value y) (value_apart S Γ c y h)) (parts_under S.assignment (facts S.setting Γ)) (facts_on Γ c)
+  lacks_value Γ c = lacks_value_in (names_in Γ) Γ c
 
   -- so a new name may be bound
-  pub may_bind : (Γ : Context) (x : Symbol) (t : Refined) → IsClosed S (name x t ∷ Γ) → MayBind S x t Γ
-  may_bind Γ x t c = (
-    each_more (names_in Γ) (other_than x) (λ y h. false_not (same_symbol x y) (new_name Γ x y c.1 h)) (parts_under S.assignment (facts S.setting Γ)) (facts_on Γ c.3),
+  pub may_bind_in : (N : Symbols) (Γ : Context) (x : Symbol) (t : Refined) → IsClosedIn S N (name x t ∷ Γ) → MayBind S x t Γ
+  may_bind_in N Γ x t c = (
+    each_more (names_in Γ) (other_than x) (λ y h. false_not (same_symbol x y) (new_name Γ x y c.1 h)) (parts_under S.assignment (facts S.setting Γ)) (facts_in N Γ c.3),
     each_more (with_symbol (names_in Γ) symbol.Value) (other_than x) (λ y h. or_parts (other_than x y ≡ true) (names_in Γ y) (same_symbol symbol.Value y) h (λ p. false_not (same_symbol x y) (new_name Γ x y c.1 p)) (λ s. subst (λ z. other_than x z ≡ true) (same_symbol-is symbol.Value y s) (false_not (same_symbol x symbol.Value) c.0))) (parts_under S.assignment (top t)) c.2.0.1,
     c.0,
-    lacks_value (name x t ∷ Γ) c,
+    lacks_value_in N (name x t ∷ Γ) c,
   )
+
+  pub may_bind : (Γ : Context) (x : Symbol) (t : Refined) → Binds S x t Γ → MayBind S x t Γ
+  may_bind Γ x t c = may_bind_in (with_symbol (names_in Γ) x) Γ x t (closed_bind S x t Γ c)

@@ -1,5 +1,6 @@
--- Environments whose types and guards speak of earlier names alone.
+-- Environments whose types and guards speak of their own names alone.
 use Rattle.std.specs.Prelude.{◌≡◌, ℕ, true, false, List, [], ◌∷◌}
+use Rattle.lq_pred.specs.declared.symbol.Symbol.{Symbol}
 use Rattle.lq_pred.specs.declared.symbol.Symbol.TheVariants as symbol
 use Rattle.lq_pred.specs.Sum.{same_symbol}
 use Rattle.lq_pred.specs.Formula.{Formula, truth, falsity, flag, compare, objects, negation, conjunction, disjunction, equivalence}
@@ -9,7 +10,7 @@ use Rattle.lq_refined.specs.Context.{Context, name, guard, IsNew}
 use Rattle.lq_refined.specs.Operations.{symbol_of}
 use Rattle.lq_refined.specs.Refined.{Refined, Kind, number, truth_value, object, other, kind, top}
 use Rattle.lq_inhabits.specs.Truth.{Scene}
-use Rattle.lq_included.specs.Symbols.{Symbols, with_symbol, SumOn, PartsOn, TypeOn}
+use Rattle.lq_included.specs.Symbols.{Symbols, with_symbol, SumOn, PartsOn, TopOn, InsideOn, TypeOn}
 
 -- a variable of the program with its type
 abbrev pub bound : ℕ → Refined → Context → Context
@@ -52,8 +53,20 @@ PartsSorted A other P ps = EachSorted (with_value P) P (parts_under A ps)
 abbrev pub IsTypeOver : Scene → Symbols → Refined → Type 0
 IsTypeOver S P t = TypeOn S.assignment t P × PartsSorted S.assignment (kind t) P (top t)
 
--- each name is new, and each type and each guard speaks of the names before it
+-- the same, where what is inside the type may speak of more, the second symbols
+abbrev pub IsTypeIn : Scene → Symbols → Symbols → Refined → Type 0
+IsTypeIn S P N t = (InsideOn S.assignment t N × TopOn S.assignment t P) × PartsSorted S.assignment (kind t) P (top t)
+
+-- Each name is new, and each guard and the top of each type speaks of the names before it; what is inside the types speaks of these symbols.
+abbrev pub IsClosedIn : Scene → Symbols → Context → Type 0
+IsClosedIn S N [] = Unit {0}
+IsClosedIn S N (name x t ∷ Γ) = (same_symbol x symbol.Value ≡ false) × IsNew x Γ × IsTypeIn S (names_in Γ) N t × IsClosedIn S N Γ
+IsClosedIn S N (guard p ∷ Γ) = PartsOn S.assignment (names_in Γ) (p ∷ []) × IsClosedIn S N Γ
+
+-- What is inside the types may speak of all names: that of a constructor's field may speak of the fields behind it.
 abbrev pub IsClosed : Scene → Context → Type 0
-IsClosed S [] = Unit {0}
-IsClosed S (name x t ∷ Γ) = (same_symbol x symbol.Value ≡ false) × IsNew x Γ × IsTypeOver S (names_in Γ) t × IsClosed S Γ
-IsClosed S (guard p ∷ Γ) = PartsOn S.assignment (names_in Γ) (p ∷ []) × IsClosed S Γ
+IsClosed S Γ = IsClosedIn S (names_in Γ) Γ
+
+-- the name is new in a closed environment, and the type speaks of its names
+abbrev pub Binds : Scene → Symbol → Refined → Context → Type 0
+Binds S x t Γ = (same_symbol x symbol.Value ≡ false) × IsNew x Γ × IsTypeOver S (names_in Γ) t × IsClosed S Γ

@@ -6,80 +6,81 @@ use Rattle.lq_pred.specs.Sum.{Sum}
 use Rattle.lq_parts.specs.Assignment.{Implied}
 use Rattle.lq_parts.specs.Part.{known}
 use Rattle.lq_refined.specs.Context.{Context, guard}
+use Rattle.lq_refined.specs.Operations.{symbol_of}
 use Rattle.lq_refined.specs.Refined.{Refined, int_with, unit_type, function}
 use Rattle.lq_subtype.specs.Subtype.{facts, IsSubtype}
 use Rattle.lq_model.specs.Core.{Core, variable, one, assert, print, read, let_in, let_rec, fun, call, if_else, Value, v_rec, without, close}
 use Rattle.lq_model.specs.Operations.{World}
 use Rattle.lq_inhabits.specs.Truth.{Givens, Scene}
-use Rattle.lq_inhabits.specs.Shut.{shut, Shuts, with_argument}
+use Rattle.lq_inhabits.specs.Shut.{shut, with_argument}
 use Rattle.lq_inhabits.specs.Inhabits.{Table, Inhabits, Agrees}
 use Rattle.lq_inhabits.specs.Runs.{RunsWell, LandsIn}
 use Rattle.lq_inhabits.specs.Below.{Below}
 use Rattle.lq_included.specs.Apart.{IsKnown, Turns, Apart}
 use Rattle.lq_included.specs.Laws.{IsScene}
 use Rattle.lq_included.specs.Symbols.{TypeOn}
-use Rattle.lq_runs.specs.Closed.{names_in, bound, IsClosed}
-use Rattle.lq_runs.specs.Meets.{pairs, Meets}
+use Rattle.lq_runs.specs.Closed.{names_in, bound, IsClosed, Binds}
+use Rattle.lq_runs.specs.Meets.{pairs, Variables, Meets}
 use Rattle.lq_runs.specs.Runs.{RunsTo, RunsToValue, Exactly, RunsToTruth, RunsToNumber, RunsToUnit}
 
 -- an expression of a type has its supertypes
 abbrev pub SubtypeRuns : Type 0
 SubtypeRuns =
-    (S : Scene) → IsScene S → (by : Shuts) (Γ : Context) (e : Core) (t u : Refined) (d : IsSubtype S.setting S.assignment Γ t u) → Apart S d
+    (S : Scene) → IsScene S → (by : Variables) (Γ : Context) (e : Core) (t u : Refined) (d : IsSubtype S.setting S.assignment Γ t u) → Apart S d
     → RunsTo S by Γ e t → RunsTo S by Γ e u
 
 -- `let`, where the result's type doesn't speak of the name
 abbrev pub LetRuns : Type 0
 LetRuns =
-    (S : Scene) → IsScene S → (by : Shuts) (Γ : Context) (x : ℕ) (e b : Core) (t u : Refined) → IsClosed S (bound x t Γ)
+    (S : Scene) → IsScene S → (by : Variables) (Γ : Context) (x : ℕ) (e b : Core) (t u : Refined) → Binds S (symbol_of x) t Γ
     → TypeOn S.assignment u (names_in Γ) → RunsTo S by Γ e t → RunsTo S by (bound x t Γ) b u → RunsTo S by Γ (let_in (variable x) e b) u
 
 abbrev pub ReadRuns : Type 0
-ReadRuns = (S : Scene) (by : Shuts) (Γ : Context) (p : Place) (c : Core) → RunsToUnit S by Γ c → RunsTo S by Γ (one (read p) c) (int_with [])
+ReadRuns = (S : Scene) (by : Variables) (Γ : Context) (p : Place) (c : Core) → RunsToUnit S by Γ c → RunsTo S by Γ (one (read p) c) (int_with [])
 
 -- `if`, whose branches run under the condition and under its negation
 abbrev pub IfRuns : Type 0
 IfRuns =
-    (S : Scene) → IsScene S → (by : Shuts) (Γ : Context) (c a b : Core) (p : Formula) (t : Refined) → IsClosed S (guard (known p) ∷ Γ)
+    (S : Scene) → IsScene S → (by : Variables) (Γ : Context) (c a b : Core) (p : Formula) (t : Refined) → IsClosed S (guard (known p) ∷ Γ)
     → IsClosed S (guard (known (negation p)) ∷ Γ) → RunsToTruth S by Γ c p → RunsTo S by (guard (known p) ∷ Γ) a t
     → RunsTo S by (guard (known (negation p)) ∷ Γ) b t → RunsTo S by Γ (if_else c a b) t
 
 -- `assert`, of what follows from the hypotheses
 abbrev pub AssertRuns : Type 0
 AssertRuns =
-    (S : Scene) (by : Shuts) (Γ : Context) (l : Place) (c : Core) (p : Formula) → RunsToTruth S by Γ c p
+    (S : Scene) (by : Variables) (Γ : Context) (l : Place) (c : Core) (p : Formula) → RunsToTruth S by Γ c p
     → Implied S.assignment (facts S.setting Γ) (known p) → RunsTo S by Γ (one (assert l) c) unit_type
 
 abbrev pub PrintRuns : Type 0
-PrintRuns = (S : Scene) (by : Shuts) (Γ : Context) (c : Core) (n : Sum) → RunsToNumber S by Γ c n → RunsTo S by Γ (one print c) unit_type
+PrintRuns = (S : Scene) (by : Variables) (Γ : Context) (c : Core) (n : Sum) → RunsToNumber S by Γ c n → RunsTo S by Γ (one print c) unit_type
 
 -- a function, whose body runs to a type that turns into the result's where the argument is read by the function type's own name
 abbrev pub FunctionRuns : Type 0
 FunctionRuns =
-    (S : Scene) → IsScene S → (by : Shuts) (Γ : Context) (y : ℕ) (b : Core) (x : Option ℕ) (t u r : Refined) → IsClosed S (bound y t Γ)
+    (S : Scene) → IsScene S → (by : Variables) (Γ : Context) (y : ℕ) (b : Core) (x : Option ℕ) (t u r : Refined) → Binds S (symbol_of y) t Γ
     → Turns S t (Some y) r x u → RunsTo S by (bound y t Γ) b r → RunsTo S by Γ (fun (variable y) b) (function x t u)
 
 -- a recursive function, in whose body its own name has its type, and what follows it
 abbrev pub RecursionRuns : Type 0
 RecursionRuns =
-    (S : Scene) → IsScene S → (by : Shuts) (Γ : Context) (f y : ℕ) (b : Core) (x : Option ℕ) (t u r : Refined)
-    → IsClosed S (bound y t (bound f (function x t u) Γ)) → TypeOn S.assignment (function x t u) (names_in Γ) → Turns S t (Some y) r x u
+    (S : Scene) → IsScene S → (by : Variables) (Γ : Context) (f y : ℕ) (b : Core) (x : Option ℕ) (t u r : Refined)
+    → Binds S (symbol_of f) (function x t u) Γ → Binds S (symbol_of y) t (bound f (function x t u) Γ) → TypeOn S.assignment (function x t u) (names_in Γ) → Turns S t (Some y) r x u
     → RunsTo S by (bound y t (bound f (function x t u) Γ)) b r → (e : Core) (v : Refined) → TypeOn S.assignment v (names_in Γ)
     → RunsTo S by (bound f (function x t u) Γ) e v → RunsTo S by Γ (let_rec f (variable y) b e) v
 
 -- and such a function inhabits its type, as long as the names' values are good
 abbrev pub RecursiveValuesFit : Type 0
 RecursiveValuesFit =
-    (S : Scene) → IsScene S → (by : Shuts) (Γ : Context) (f y : ℕ) (b : Core) (x : Option ℕ) (t u r : Refined)
-    → IsClosed S (bound y t (bound f (function x t u) Γ)) → TypeOn S.assignment (function x t u) (names_in Γ) → Turns S t (Some y) r x u
+    (S : Scene) → IsScene S → (by : Variables) (Γ : Context) (f y : ℕ) (b : Core) (x : Option ℕ) (t u r : Refined)
+    → Binds S (symbol_of f) (function x t u) Γ → Binds S (symbol_of y) t (bound f (function x t u) Γ) → TypeOn S.assignment (function x t u) (names_in Γ) → Turns S t (Some y) r x u
     → RunsTo S by (bound y t (bound f (function x t u) Γ)) b r → (n : ℕ) (W : Table) (σ : Givens) → Meets S by n W Γ σ
-    → Inhabits S n W (shut σ by (function x t u)) (v_rec f (variable y) (close (without (f ∷ y ∷ []) (pairs σ)) b))
+    → Inhabits S n W (shut σ by.types (function x t u)) (v_rec f (variable y) (close (without (f ∷ y ∷ []) (pairs σ)) b))
 
 -- a call on an operand that runs to this value: the result has its type where the function type's own name has the value
 abbrev pub CallRuns : Type 0
 CallRuns =
-    (S : Scene) (by : Shuts) (Γ : Context) (e c : Core) (x : Option ℕ) (t u r : Refined) → RunsToValue S by Γ e (function x t r)
-    → ((σ : Givens) → IsKnown S Γ σ → Below S (shut σ by u) (shut σ by t)) → (n : ℕ) (W : Table) (σ : Givens) (w : World)
-    → Meets S by (suc n) W Γ σ → Agrees S n W w → (a : Value) → Inhabits S (suc n) W (shut σ by u) a
+    (S : Scene) (by : Variables) (Γ : Context) (e c : Core) (x : Option ℕ) (t u r : Refined) → RunsToValue S by Γ e (function x t r)
+    → ((σ : Givens) → IsKnown S Γ σ → Below S (shut σ by.types u) (shut σ by.types t)) → (n : ℕ) (W : Table) (σ : Givens) (w : World)
+    → Meets S by (suc n) W Γ σ → Agrees S n W w → (a : Value) → Inhabits S (suc n) W (shut σ by.types u) a
     → ((k : ℕ) (z : World) → RunsWell k (close (pairs σ) c) z (Exactly a z))
-    → RunsWell n (close (pairs σ) (call e c)) w (LandsIn S W (shut (with_argument x a σ) by r))
+    → RunsWell n (close (pairs σ) (call e c)) w (LandsIn S W (shut (with_argument x a σ) by.types r))

@@ -1,13 +1,16 @@
 -- Values for the names of an environment.
-use Rattle.std.specs.Prelude.{◌≡◌, ℕ, [], ◌∷◌}
+use Rattle.std.specs.Prelude.{◌≡◌, ℕ, true, false, [], ◌∷◌}
 use Rattle.lq_pred.specs.declared.symbol.Symbol.{Symbol}
 use Rattle.lq_pred.specs.declared.symbol.Symbol.TheVariants as symbol
 use Rattle.lq_model.specs.Core.{Value, Pairs}
 use Rattle.lq_refined.specs.Context.{Context, name, guard}
+use Rattle.lq_refined.specs.Refined.{Refined}
 use Rattle.lq_inhabits.specs.Truth.{Givens, Scene}
 use Rattle.lq_inhabits.specs.Shut.{shut, Shuts}
 use Rattle.lq_inhabits.specs.Inhabits.{Table, Inhabits}
 use Rattle.lq_included.specs.Apart.{IsKnown}
+use Rattle.lq_included.specs.Symbols.{Symbols}
+use Rattle.lq_runs.specs.Closed.{names_in}
 
 -- the values by which the program's variables are replaced
 abbrev pub pair_of : Symbol → Value → Pairs → Pairs
@@ -19,15 +22,30 @@ abbrev pub pairs : Givens → Pairs
 pairs [] = []
 pairs (g ∷ σ) = pair_of g.symbol g.value (pairs σ)
 
--- name by name a value that inhabits its type, at the values of the names before it
-abbrev pub Named : Scene → Shuts → ℕ → Table → Context → Givens → Type 0
-Named S by n W [] [] = Unit {0}
-Named S by n W [] (g ∷ σ) = ⊥
-Named S by n W (name x t ∷ Γ) [] = ⊥
-Named S by n W (name x t ∷ Γ) (g ∷ σ) = (g.symbol ≡ x) × Inhabits S n W (shut σ by t) g.value × Named S by n W Γ σ
-Named S by n W (guard p ∷ Γ) σ = Named S by n W Γ σ
+-- What stands for type variables: the types that are put for them, and the names whose types are known otherwise: those that have them at each
+-- instance, and those of which only some instance is known.
+pub record Variables : Type 0 where
+  pub types : Shuts
+  pub general : Symbols
+  pub hidden : Symbols
 
--- and the hypotheses of the environment are true of them
-pub record Meets (S : Scene) (by : Shuts) (n : ℕ) (W : Table) (Γ : Context) (σ : Givens) : Type 0 where
+-- the value of a name inhabits its type at some instance, at the one that is put where the name isn't hidden, and at each where it is general
+pub record HasInstances (S : Scene) (by : Variables) (n : ℕ) (W : Table) (ρ : Givens) (x : Symbol) (t : Refined) (v : Value) : Type 0 where
+  pub some : Shuts
+  pub fits : Inhabits S n W (shut ρ some t) v
+  pub own : by.hidden x ≡ false → Inhabits S n W (shut ρ by.types t) v
+  pub each : by.general x ≡ true → (to : Shuts) → Inhabits S n W (shut ρ to t) v
+
+-- name by name a value that does so, where the types are read at these values
+abbrev pub Named : Scene → Variables → ℕ → Table → Givens → Context → Givens → Type 0
+Named S by n W ρ [] [] = Unit {0}
+Named S by n W ρ [] (g ∷ σ) = ⊥
+Named S by n W ρ (name x t ∷ Γ) [] = ⊥
+Named S by n W ρ (name x t ∷ Γ) (g ∷ σ) = (g.symbol ≡ x) × HasInstances S by n W ρ x t g.value × Named S by n W ρ Γ σ
+Named S by n W ρ (guard p ∷ Γ) σ = Named S by n W ρ Γ σ
+
+-- the types are read at all the names' values, and the hypotheses of the environment are true of them; general and hidden names are its own
+pub record Meets (S : Scene) (by : Variables) (n : ℕ) (W : Table) (Γ : Context) (σ : Givens) : Type 0 where
   pub known : IsKnown S Γ σ
-  pub named : Named S by n W Γ σ
+  pub named : Named S by n W σ Γ σ
+  pub within : (x : Symbol) → names_in Γ x ≡ false → (by.general x ≡ false) × (by.hidden x ≡ false)

@@ -1,5 +1,5 @@
 -- A program with a list, a tuple and matches meets every condition.
-use Rattle.std.proofs.Common.{◌≡◌, ℕ, zero, suc, ◌+◌, ◌<◌, pos, Bool, true, false, if◌then◌else◌, ◌==◌, [], ◌∷◌, Some, None, inl, inr, refl, sym, ap, ◌∙◌, subst, arith as numbers}
+use Rattle.std.proofs.Common.{◌≡◌, ℕ, zero, suc, ◌+◌, pos, Bool, true, false, if◌then◌else◌, ◌==◌, [], ◌∷◌, Some, None, inl, inr, refl, sym, ap, ◌∙◌, subst, arith as numbers}
 use Rattle.std.proofs.lemmas.Bool.{eqb-true}
 use Rattle.std.proofs.lemmas.Bool.Decides.{Decides-int_eq}
 use Rattle.lq_pred.specs.ClosedImplication.{EachTrueIn}
@@ -12,6 +12,7 @@ use Rattle.lq_tree.specs.MlType.{MlTypes}
 use Rattle.lq_tree.specs.Types.{Constructor}
 use Rattle.lq_refined.specs.Context.{Context}
 use Rattle.lq_refined.specs.Refined.{Refined, int_with, unit_type, data_with, none, more, top, type_at, arguments_of}
+use Rattle.lq_refined.specs.Operations.{symbol_of}
 use Rattle.lq_refined.specs.Unfolding.{unfolded}
 use Rattle.lq_subtype.specs.Subtype.{Setting, fields_of, IsSubtype, sub, in_int, in_unit, in_data, sub_none, sub_more}
 use Rattle.lq_checks.specs.Checks.{Checks, obeys_pure, obeys_data_match, obeys_other_match, obeys_tuple, obeys_build, obeys_print, against_last, against_binding, cases_none, cases_more, case_here, case_later, default_none, default_later, first_arm, checks_none, checks_unit}
@@ -26,7 +27,8 @@ use Rattle.lq_inhabits.specs.Inhabits.{Makes}
 use Rattle.lq_included.specs.Apart.{MayBindFields, AreCellsApart, Apart}
 use Rattle.lq_included.specs.Laws.{IsScene}
 use Rattle.lq_included.specs.Symbols.{Lacks}
-use Rattle.lq_runs.specs.Closed.{IsClosed}
+use Rattle.lq_runs.specs.Closed.{IsClosed, Binds}
+use Rattle.lq_runs.proofs.Closing.{closed_bind}
 use Rattle.lq_pures.specs.Pures.{scene_of}
 use Rattle.lq_calls.specs.Operands.{IsTwinReady}
 use Rattle.lq_fields.specs.Fields.{KnowsMeasures, IsDatatypeFor}
@@ -109,20 +111,17 @@ by_name R r7 r8 r9 r10 c k e = by_test (7 == c) (8 == c) (9 == c) (10 == c) refl
 pub listed : ListsConstructors data_basis
 listed c k e = by_name (λ i j. IsIn (data_basis.constructors_of j.datatype) i) (inl refl) (inr (inl refl)) (inl refl) (inr (inl refl)) c k e
 
-less_one : 0 < 1
-less_one = omega numbers
-
 no_top : (i j : ℕ) → Lacks no_instances (symbol.Position (suc j)) (top (type_at (more (int_with []) none) i))
 no_top zero j = tt
 no_top (suc i) j = tt
 
 empty_good : (p : Parts) → IsDatatypeFor (scene_of data_basis no_instances objects_by_size) data_basis 7 empty_list (data_with 4 (more (int_with []) none) [] p)
 empty_good p =
-    record { matrix = record { entries = λ j i. tt; variables = λ j. (tt, tt); tops = no_top; within = tt }; equations = ((refl, tt), tt) }
+    record { matrix = record { entries = λ j i. tt; variables = λ j. (tt, tt); tops = no_top }; equations = ((refl, tt), tt) }
 
 filled_good : (p : Parts) → IsDatatypeFor (scene_of data_basis no_instances objects_by_size) data_basis 8 filled_list (data_with 4 (more (int_with []) none) [] p)
 filled_good p =
-    record { matrix = record { entries = λ j i. tt; variables = λ j. (tt, tt); tops = no_top; within = (less_one, ((less_one, tt), tt)) }; equations = ((refl, (tt, refl)), tt) }
+    record { matrix = record { entries = λ j i. tt; variables = λ j. (tt, tt); tops = no_top }; equations = ((refl, (tt, refl)), tt) }
 
 other_type : no_option.datatype ≡ empty_list.datatype → ⊥
 other_type e = omega (numbers, e)
@@ -204,8 +203,11 @@ empty_type = type_of data_basis [] (build 0 7 [])
 abbrev with_empty : Context
 with_empty = bind 20 empty_type []
 
+abbrev list_type : Refined
+list_type = type_of data_basis with_empty (build 1 8 (amount 5 ∷ variable 20 ∷ []))
+
 abbrev with_list : Context
-with_list = bind 21 (type_of data_basis with_empty (build 1 8 (amount 5 ∷ variable 20 ∷ []))) with_empty
+with_list = bind 21 list_type with_empty
 
 no_field : (i j : ℕ) → Lacks no_instances (symbol.Position (suc j)) (top (type_at (arguments_of empty_type) i))
 no_field zero j = (tt, tt)
@@ -222,31 +224,37 @@ pub where_any : (z : Bool) (X Y : Type 0) → X → Y → Where z X Y
 where_any true X Y x y = x
 where_any false X Y x y = y
 
+empty_binds : Binds S (symbol_of 20) empty_type []
+empty_binds = (refl, tt, (((tt, (tt, tt), tt), ((refl, tt), tt)), ((refl, tt), tt)), tt)
+
 empty_closed : IsClosed S with_empty
-empty_closed = (refl, tt, (((tt, (tt, tt), tt), ((refl, tt), tt)), ((refl, tt), tt)), tt)
+empty_closed = closed_bind S (symbol_of 20) empty_type [] empty_binds
+
+pub list_binds : Binds S (symbol_of 21) list_type with_empty
+list_binds = (refl, (refl, tt), (((tt, tt, tt), ((refl, (tt, refl)), tt)), ((refl, (tt, refl)), tt)), empty_closed)
 
 pub list_closed : IsClosed S with_list
-list_closed = (refl, (refl, tt), (((tt, tt, tt), ((refl, (tt, refl)), tt)), ((refl, (tt, refl)), tt)), empty_closed)
+list_closed = closed_bind S (symbol_of 21) list_type with_empty list_binds
 
 list_scoped : IsScopedBlock data_basis no_instances objects_by_size [] list_block unit_type
 list_scoped = (
   (tt, tt, knows, (λ k e. at_name 7 empty_list refl refl k e)),
-  empty_closed,
+  empty_binds,
   (tt, tt),
   (
-    ((tt, tt, ((refl, refl), tt, tt)), ((λ d. int_apart d), ((λ d. list_apart d), tt)), knows, (λ k e. at_name 8 filled_list refl refl k e)),
-    list_closed,
+    ((tt, tt, ((refl, tt), tt, tt)), ((λ d. int_apart d), ((λ d. list_apart d), tt)), knows, (λ k e. at_name 8 filled_list refl refl k e)),
+    list_binds,
     (tt, tt),
     (
       (
-        (refl, refl),
+        (refl, tt),
         tt,
         (tt, tt),
         (
           (knows, listed, (λ c k h. all_good _ c k h)),
           (λ c i.
               where_any (7 == c) _ _ ((((refl, tt), tt), list_closed), ((tt, tt), (λ e d. unit_apart d)))
-              (where_any (8 == c) _ _ ((((refl, (tt, refl)), tt), (refl, (refl, (refl, (refl, tt))), (((tt, tt, tt), tt), tt), (refl, (refl, (refl, tt)), ((tt, tt), tt), list_closed))), ((refl, refl), (λ e d. unit_apart d))) tt)),
+              (where_any (8 == c) _ _ ((((refl, (tt, refl)), tt), (refl, (refl, (refl, (refl, tt))), (((tt, tt, tt), tt), tt), (refl, (refl, (refl, tt)), ((tt, tt), tt), list_closed))), ((refl, tt), (λ e d. unit_apart d))) tt)),
           tt,
         ),
       ),
@@ -261,8 +269,11 @@ pair_type = type_of data_basis [] (tuple (amount 1 ∷ amount 2 ∷ []))
 abbrev with_pair : Context
 with_pair = bind 24 pair_type []
 
+pub pair_binds : Binds S (symbol_of 24) pair_type []
+pair_binds = (refl, tt, (((tt, ((refl, tt), tt), (tt, ((refl, tt), tt), tt)), tt), tt), tt)
+
 pub pair_closed : IsClosed S with_pair
-pair_closed = (refl, tt, (((tt, ((refl, tt), tt), (tt, ((refl, tt), tt), tt)), tt), tt), tt)
+pair_closed = closed_bind S (symbol_of 24) pair_type [] pair_binds
 
 pair_ready : IsTwinReady S with_pair pair_type
 pair_ready =
@@ -271,16 +282,16 @@ pair_ready =
 tuple_scoped : IsScopedBlock data_basis no_instances objects_by_size [] tuple_block unit_type
 tuple_scoped = (
   (tt, tt, (tt, tt, tt)),
-  pair_closed,
+  pair_binds,
   (tt, tt),
   (
     (
-      (refl, refl),
+      (refl, tt),
       pair_ready,
       (tt, tt),
       (
         (((refl, tt), tt), (((refl, tt), tt), tt)),
-        ((refl, (refl, (refl, tt)), ((tt, ((refl, tt), tt)), ((refl, tt), tt)), (refl, (refl, tt), ((tt, ((refl, tt), tt)), ((refl, tt), tt)), pair_closed)), ((refl, refl), (λ e d. unit_apart d))),
+        ((refl, (refl, (refl, tt)), ((tt, ((refl, tt), tt)), ((refl, tt), tt)), (refl, (refl, tt), ((tt, ((refl, tt), tt)), ((refl, tt), tt)), pair_closed)), ((refl, tt), (λ e d. unit_apart d))),
       ),
     ),
     (λ e d. absurd (no_flow e)),
@@ -289,10 +300,10 @@ tuple_scoped = (
 
 scoped : IsScopedProgram data_basis no_instances objects_by_size no_symbols [] data_program
 scoped = (
-  (tt, ((tt, ((refl, refl), tt)), ((refl, refl), (tt, ((refl, refl), tt))))),
+  (tt, ((tt, ((refl, tt), tt)), ((refl, tt), (tt, ((refl, tt), tt))))),
   list_scoped,
-  (((tt, (tt, tt)), ((refl, refl), ((refl, refl), tt))), tuple_scoped, tt),
+  (((tt, (tt, tt)), ((refl, tt), ((refl, tt), tt))), tuple_scoped, tt),
 )
 
 pub has_all : DataExampleHasAll
-has_all = (scene, (λ r n. refl), templates, typed, checked, ((tt, (tt, (tt, (tt, tt)))), ((tt, (tt, tt)), tt)), scoped)
+has_all = (scene, (λ r n. refl), templates, typed, checked, scoped)

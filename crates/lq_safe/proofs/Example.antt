@@ -6,14 +6,15 @@ use Rattle.lq_pred.specs.Formula.{flag}
 use Rattle.lq_pred.specs.declared.symbol.Symbol.TheVariants as symbol
 use Rattle.lq_refined.specs.Context.{Context, guard}
 use Rattle.lq_refined.specs.Operations.{symbol_of}
-use Rattle.lq_refined.specs.Refined.{int_with, bool_with, unit_type}
+use Rattle.lq_refined.specs.Refined.{Refined, int_with, bool_with, unit_type}
 use Rattle.lq_parts.specs.Part.{Parts, known}
 use Rattle.lq_checks.specs.Operation.{bind}
 use Rattle.lq_checks.specs.Pure.{pure_type}
 use Rattle.lq_checks.specs.Sample.{at, variable, amount}
 use Rattle.lq_checks.specs.Tree.{compare, last, if_else, call, print}
 use Rattle.lq_calls.specs.Operands.{IsTwinReady}
-use Rattle.lq_runs.specs.Closed.{IsClosed}
+use Rattle.lq_runs.specs.Closed.{IsClosed, Binds}
+use Rattle.lq_runs.proofs.Closing.{closed_bind}
 use Rattle.lq_tree.specs.MlType as ml
 use Rattle.lq_tree.specs.Types.{Constructor}
 use Rattle.lq_tree.specs.Signatures.{constructor_in, predeclared}
@@ -125,57 +126,70 @@ with_truth = bind 14 (pure_type example_basis with_number (compare op.Lt (variab
 abbrev in_branch : Context
 in_branch = guard (known (flag (symbol_of 14))) ∷ with_truth
 
+abbrev S : Scene
+S = scene_of example_basis no_instances objects_by_length
+
 abbrev ClosedHere : Context → Type 0
-ClosedHere = IsClosed (scene_of example_basis no_instances objects_by_length)
+ClosedHere = IsClosed S
+
+abbrev BindsHere : ℕ → Refined → Context → Type 0
+BindsHere x t Γ = Binds S (symbol_of x) t Γ
+
+function_binds : BindsHere 10 (example_basis.template 0) []
+function_binds = (refl, tt, (((tt, (refl, tt), tt, tt), tt), tt), tt)
 
 function_closed : ClosedHere with_function
-function_closed = (refl, tt, (((tt, (refl, tt), tt, tt), tt), tt), tt)
+function_closed = closed_bind S (symbol_of 10) (example_basis.template 0) [] function_binds
+
+number_binds : BindsHere 13 (int_with []) with_function
+number_binds = (refl, (refl, tt), ((tt, tt), tt), function_closed)
 
 number_closed : ClosedHere with_number
-number_closed = (refl, (refl, tt), ((tt, tt), tt), function_closed)
+number_closed = closed_bind S (symbol_of 13) (int_with []) with_function number_binds
 
-truth_closed : ClosedHere with_truth
-truth_closed = (refl, (refl, (refl, tt)), ((tt, ((refl, (refl, tt)), tt)), ((refl, (refl, tt)), tt)), number_closed)
+truth_binds : BindsHere 14 (pure_type example_basis with_number (compare op.Lt (variable 13) (amount 100))) with_number
+truth_binds = (refl, (refl, (refl, tt)), ((tt, ((refl, (refl, tt)), tt)), ((refl, (refl, tt)), tt)), number_closed)
 
-body_closed : ClosedHere (bind 12 (bool_with (known (flag symbol.Value) ∷ [])) [])
-body_closed = (refl, tt, ((tt, (refl, tt)), (refl, tt)), tt)
+argument_binds : BindsHere 12 (bool_with (known (flag symbol.Value) ∷ [])) []
+argument_binds = (refl, tt, ((tt, (refl, tt)), (refl, tt)), tt)
 
 function_ready : IsTwinReady (scene_of example_basis no_instances objects_by_length) in_branch (example_basis.template 0)
 function_ready =
     record {
       over = no_symbols;
       on = ((tt, (refl, tt), tt, tt), tt);
-      apart = (refl, refl, tt, tt, tt);
-      kinds = ((λ e. absurd (no_term e)), tt, tt);
+      apart = (refl, refl, inl tt, tt, tt);
+      kinds = ((λ e k. absurd (no_term e)), tt, tt);
       outside = (refl, tt, tt);
     }
 
 branches_scoped : IsScoped example_basis no_instances objects_by_length with_truth (if_else 1 (variable 14) (last (at 7) (call (variable 10) (variable 14))) (last (at 8) (print (variable 13)))) unit_type
 branches_scoped = (
-  (refl, refl),
+  (refl, tt),
   (
-    (((refl, refl), function_ready), ((refl, refl), tt), (λ d. bool_apart (scene_of example_basis no_instances objects_by_length) d)),
-    (λ e d. unit_apart (scene_of example_basis no_instances objects_by_length) d),
+    (((refl, tt), function_ready), ((refl, tt), tt), (λ d. bool_apart S d)),
+    (λ e d. unit_apart S d),
   ),
-  ((refl, refl), (λ e d. unit_apart (scene_of example_basis no_instances objects_by_length) d)),
+  ((refl, tt), (λ e d. unit_apart S d)),
 )
 
 scoped : IsScopedProgram example_basis no_instances objects_by_length no_symbols [] example_program
 scoped = (
-  (refl, refl),
-  (refl, body_closed, ((refl, refl), (λ e d. unit_apart (scene_of example_basis no_instances objects_by_length) d))),
-  function_closed,
+  (refl, tt),
+  (refl, argument_binds, ((refl, tt), (λ e d. unit_apart S d))),
+  function_binds,
+  inl tt,
   (
-    (tt, (((refl, refl), tt), ((refl, refl), ((refl, refl), (refl, refl)), (refl, refl)))),
+    (tt, (((refl, tt), tt), ((refl, tt), ((refl, tt), (refl, tt)), (refl, tt)))),
     (
       tt,
-      number_closed,
+      number_binds,
       (tt, tt),
-      ((((refl, refl), tt), tt), truth_closed, (tt, tt), (branches_scoped, (λ e d. absurd (no_flow e)))),
+      ((((refl, tt), tt), tt), truth_binds, (tt, tt), (branches_scoped, (λ e d. absurd (no_flow e)))),
     ),
     tt,
   ),
 )
 
 pub has_all : ExampleHasAll
-has_all = (scene, (λ r n. refl), templates, typed, checked, (tt, ((tt, (tt, (tt, tt))), tt)), scoped)
+has_all = (scene, (λ r n. refl), templates, typed, checked, scoped)

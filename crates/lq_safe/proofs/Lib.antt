@@ -1,7 +1,10 @@
 pub mod Parts
+pub mod Allowing
 pub mod Blocks
 pub mod Items
 pub mod Uses
 pub mod Programs
+pub mod Whole
 pub mod Example
 pub mod DataExample
+pub mod GeneralExample

@@ -10,15 +10,14 @@ use Rattle.lq_checks.specs.Tree as tree
 use Rattle.lq_checks.specs.Tree.{Pure, Arms, Operation, Block}
 use Rattle.lq_included.specs.Symbols.{Symbols, with_symbol}
 use Rattle.lq_pures.specs.Cores.{pure_core, pure_cores, name_patterns, arm_pattern, operation_core, block_core, arms_core}
-use Rattle.lq_pures.specs.Pures.{PureOver}
-use Rattle.lq_safe.specs.Programs.{with_names, PuresOver, UsesOnly, BlockUsesOnly, ArmsUseOnly}
-use Rattle.lq_safe.specs.Scoped.{IsCovered, IsCoveredBlock, AreCoveredArms}
+use Rattle.lq_pures.specs.Pures.{EachUse}
+use Rattle.lq_safe.specs.Programs.{with_names, IsUse, ArePuresOf, UsesOnly, BlockUsesOnly, ArmsUseOnly}
 
 abbrev pub SameOn : Symbols → Pairs → Pairs → Type 0
 SameOn V ps qs = (x : ℕ) → V (symbol_of x) ≡ true → value_in ps x ≡ value_in qs x
 
-module _ (V : Symbols) (ps qs : Pairs) (f : SameOn V ps qs) where
-  pure_same : (e : Pure) → PureOver V e → close ps (pure_core e) ≡ close qs (pure_core e)
+module _ (G V : Symbols) (ps qs : Pairs) (f : SameOn V ps qs) where
+  pure_same : (e : Pure) → EachUse (IsUse G V) e → close ps (pure_core e) ≡ close qs (pure_core e)
   pure_same (tree.whole n) o = refl
   pure_same (tree.flag b) o = refl
   pure_same tree.unit o = refl
@@ -80,48 +79,48 @@ pattern-names tree.pattern_unit = refl
 pattern-names (tree.pattern_tuple xs) = variables-names xs
 pattern-names (tree.pattern_build c xs) = variables-names xs
 
-pures_same : (V : Symbols) (ps qs : Pairs) (f : SameOn V ps qs) (es : List Pure) → PuresOver V es → close_all ps (pure_cores es) ≡ close_all qs (pure_cores es)
-pures_same V ps qs f [] u = refl
-pures_same V ps qs f (e ∷ es) u = ap₂ core.more (pure_same V ps qs f e u.0) (pures_same V ps qs f es u.1)
+pures_same : (G V : Symbols) (ps qs : Pairs) (f : SameOn V ps qs) (es : List Pure) → ArePuresOf G V es → close_all ps (pure_cores es) ≡ close_all qs (pure_cores es)
+pures_same G V ps qs f [] u = refl
+pures_same G V ps qs f (e ∷ es) u = ap₂ core.more (pure_same G V ps qs f e u.0) (pures_same G V ps qs f es u.1)
 
 mutual
-  operation_same : (o : Operation) (l : Place) (V : Symbols) (ps qs : Pairs) → SameOn V ps qs → IsCovered o → UsesOnly V o → close ps (operation_core l o) ≡ close qs (operation_core l o)
-  operation_same (tree.pure e) l V ps qs f k u = pure_same V ps qs f e u
-  operation_same (tree.if_else p e a b) l V ps qs f k u =
-      ap (λ z. core.if_else z (close ps (block_core a)) (close ps (block_core b))) (pure_same V ps qs f e u.0) ∙ ap₂ (core.if_else (close qs (pure_core e))) (block_same a V ps qs f k.0 u.1) (block_same b V ps qs f k.1 u.2)
-  operation_same (tree.assert e) l V ps qs f k u = ap (core.one (core.assert l)) (pure_same V ps qs f e u)
-  operation_same (tree.read e) l V ps qs f k u = ap (core.one (core.read l)) (pure_same V ps qs f e u)
-  operation_same (tree.print e) l V ps qs f k u = ap (core.one core.print) (pure_same V ps qs f e u)
-  operation_same (tree.divide x y) l V ps qs f k u =
-      ap₂ (core.two (core.arithmetic (core.quotient l))) (pure_same V ps qs f x u.0) (pure_same V ps qs f y u.1)
-  operation_same (tree.remainder x y) l V ps qs f k u =
-      ap₂ (core.two (core.arithmetic (core.remainder l))) (pure_same V ps qs f x u.0) (pure_same V ps qs f y u.1)
-  operation_same (tree.assert_false p) l V ps qs f k u = refl
-  operation_same (tree.fun p y b) l V ps qs f k u =
-      ap (core.fun (core.variable y)) (block_same b (with_symbol V (symbol_of y)) (without (y ∷ []) ps) (without (y ∷ []) qs) (same_without V ps qs y f) k u)
-  operation_same (tree.match_on p x arms) l V ps qs f k u =
-      ap₂ (core.match_on l) (pure_same V ps qs f (tree.use_of x) u.0) (arms_same arms V ps qs f k u.1)
-  operation_same (tree.call g e) l V ps qs f k u = ap₂ core.call (pure_same V ps qs f g u.0) (pure_same V ps qs f e u.1)
-  operation_same (tree.tuple es) l V ps qs f k u = ap (core.row core.tuple) (pures_same V ps qs f es u)
-  operation_same (tree.build p i es) l V ps qs f k u = ap (core.row (core.build i)) (pures_same V ps qs f es u)
-  operation_same (tree.make p n e) l V ps qs f k u = ap₂ (core.two (core.make l)) (pure_same V ps qs f n u.0) (pure_same V ps qs f e u.1)
-  operation_same (tree.fetch x i) l V ps qs f k u =
-      ap₂ (core.two (core.fetch l)) (pure_same V ps qs f (tree.use_of x) u.0) (pure_same V ps qs f i u.1)
-  operation_same (tree.store x i e) l V ps qs f k u =
-      ap (λ z. core.three (core.store l) z (close ps (pure_core i)) (close ps (pure_core e))) (pure_same V ps qs f (tree.use_of x) u.0) ∙ ap₂ (core.three (core.store l) (close qs (core.use_of x.name))) (pure_same V ps qs f i u.1) (pure_same V ps qs f e u.2)
-  operation_same (tree.map_empty p) l V ps qs f k u = absurd k
-  operation_same (tree.map_add p i e m) l V ps qs f k u = absurd k
-  operation_same (tree.map_find i m) l V ps qs f k u = absurd k
+  operation_same : (o : Operation) (l : Place) (G V : Symbols) (ps qs : Pairs) → SameOn V ps qs → UsesOnly G V o → close ps (operation_core l o) ≡ close qs (operation_core l o)
+  operation_same (tree.pure e) l G V ps qs f u = pure_same G V ps qs f e u
+  operation_same (tree.if_else p e a b) l G V ps qs f u =
+      ap (λ z. core.if_else z (close ps (block_core a)) (close ps (block_core b))) (pure_same G V ps qs f e u.0) ∙ ap₂ (core.if_else (close qs (pure_core e))) (block_same a G V ps qs f u.1) (block_same b G V ps qs f u.2)
+  operation_same (tree.assert e) l G V ps qs f u = ap (core.one (core.assert l)) (pure_same G V ps qs f e u)
+  operation_same (tree.read e) l G V ps qs f u = ap (core.one (core.read l)) (pure_same G V ps qs f e u)
+  operation_same (tree.print e) l G V ps qs f u = ap (core.one core.print) (pure_same G V ps qs f e u)
+  operation_same (tree.divide x y) l G V ps qs f u =
+      ap₂ (core.two (core.arithmetic (core.quotient l))) (pure_same G V ps qs f x u.0) (pure_same G V ps qs f y u.1)
+  operation_same (tree.remainder x y) l G V ps qs f u =
+      ap₂ (core.two (core.arithmetic (core.remainder l))) (pure_same G V ps qs f x u.0) (pure_same G V ps qs f y u.1)
+  operation_same (tree.assert_false p) l G V ps qs f u = refl
+  operation_same (tree.fun p y b) l G V ps qs f u =
+      ap (core.fun (core.variable y)) (block_same b G (with_symbol V (symbol_of y)) (without (y ∷ []) ps) (without (y ∷ []) qs) (same_without V ps qs y f) u)
+  operation_same (tree.match_on p x arms) l G V ps qs f u =
+      ap₂ (core.match_on l) (pure_same G V ps qs f (tree.use_of x) u.0) (arms_same arms G V ps qs f u.1)
+  operation_same (tree.call g e) l G V ps qs f u = ap₂ core.call (pure_same G V ps qs f g u.0) (pure_same G V ps qs f e u.1)
+  operation_same (tree.tuple es) l G V ps qs f u = ap (core.row core.tuple) (pures_same G V ps qs f es u)
+  operation_same (tree.build p i es) l G V ps qs f u = ap (core.row (core.build i)) (pures_same G V ps qs f es u)
+  operation_same (tree.make p n e) l G V ps qs f u = ap₂ (core.two (core.make l)) (pure_same G V ps qs f n u.0) (pure_same G V ps qs f e u.1)
+  operation_same (tree.fetch x i) l G V ps qs f u =
+      ap₂ (core.two (core.fetch l)) (pure_same G V ps qs f (tree.use_of x) u.0) (pure_same G V ps qs f i u.1)
+  operation_same (tree.store x i e) l G V ps qs f u =
+      ap (λ z. core.three (core.store l) z (close ps (pure_core i)) (close ps (pure_core e))) (pure_same G V ps qs f (tree.use_of x) u.0) ∙ ap₂ (core.three (core.store l) (close qs (core.use_of x.name))) (pure_same G V ps qs f i u.1) (pure_same G V ps qs f e u.2)
+  operation_same (tree.map_empty p) l G V ps qs f u = absurd u
+  operation_same (tree.map_add p i e m) l G V ps qs f u = absurd u
+  operation_same (tree.map_find i m) l G V ps qs f u = absurd u
 
-  pub block_same : (b : Block) (V : Symbols) (ps qs : Pairs) → SameOn V ps qs → IsCoveredBlock b → BlockUsesOnly V b → close ps (block_core b) ≡ close qs (block_core b)
-  block_same (tree.last l o) V ps qs f k u = operation_same o l V ps qs f k u
-  block_same (tree.binding x l o b) V ps qs f k u =
-      ap₂ (core.let_in (core.variable x)) (operation_same o l V ps qs f k.0 u.0) (block_same b (with_symbol V (symbol_of x)) (without (x ∷ []) ps) (without (x ∷ []) qs) (same_without V ps qs x f) k.1 u.1)
-  block_same (tree.recursive g p y b c) V ps qs f k u =
-      ap₂ (core.let_rec g (core.variable y)) (block_same b (with_symbol (with_symbol V (symbol_of g)) (symbol_of y)) (without (g ∷ y ∷ []) ps) (without (g ∷ y ∷ []) qs) (same_without_two V ps qs g y f) k.0 u.0) (block_same c (with_symbol V (symbol_of g)) (without (g ∷ []) ps) (without (g ∷ []) qs) (same_without V ps qs g f) k.1 u.1)
+  pub block_same : (b : Block) (G V : Symbols) (ps qs : Pairs) → SameOn V ps qs → BlockUsesOnly G V b → close ps (block_core b) ≡ close qs (block_core b)
+  block_same (tree.last l o) G V ps qs f u = operation_same o l G V ps qs f u
+  block_same (tree.binding x l o b) G V ps qs f u =
+      ap₂ (core.let_in (core.variable x)) (operation_same o l G V ps qs f u.0) (block_same b G (with_symbol V (symbol_of x)) (without (x ∷ []) ps) (without (x ∷ []) qs) (same_without V ps qs x f) u.1)
+  block_same (tree.recursive g p y b c) G V ps qs f u =
+      ap₂ (core.let_rec g (core.variable y)) (block_same b G (with_symbol (with_symbol V (symbol_of g)) (symbol_of y)) (without (g ∷ y ∷ []) ps) (without (g ∷ y ∷ []) qs) (same_without_two V ps qs g y f) u.0) (block_same c G (with_symbol V (symbol_of g)) (without (g ∷ []) ps) (without (g ∷ []) qs) (same_without V ps qs g f) u.1)
 
-  arms_same : (arms : Arms) (V : Symbols) (ps qs : Pairs) → SameOn V ps qs → AreCoveredArms arms → ArmsUseOnly V arms → close_arms ps (arms_core arms) ≡ close_arms qs (arms_core arms)
-  arms_same tree.no_arms V ps qs f k u = refl
-  arms_same (tree.arm q b arms) V ps qs f k u =
-      let body : close (without (variables_of (arm_pattern q)) ps) (block_core b) ≡ close (without (variables_of (arm_pattern q)) qs) (block_core b) = ap (λ xs. close (without xs ps) (block_core b)) (pattern-names q) ∙ block_same b (with_names V (tree.names_of q)) (without (tree.names_of q) ps) (without (tree.names_of q) qs) (same_without_all V (tree.names_of q) ps qs f) k.0 u.0 ∙ sym (ap (λ xs. close (without xs qs) (block_core b)) (pattern-names q)) in
-      ap₂ (core.more_arms (arm_pattern q)) body (arms_same arms V ps qs f k.1 u.1)
+  arms_same : (arms : Arms) (G V : Symbols) (ps qs : Pairs) → SameOn V ps qs → ArmsUseOnly G V arms → close_arms ps (arms_core arms) ≡ close_arms qs (arms_core arms)
+  arms_same tree.no_arms G V ps qs f u = refl
+  arms_same (tree.arm q b arms) G V ps qs f u =
+      let body : close (without (variables_of (arm_pattern q)) ps) (block_core b) ≡ close (without (variables_of (arm_pattern q)) qs) (block_core b) = ap (λ xs. close (without xs ps) (block_core b)) (pattern-names q) ∙ block_same b G (with_names V (tree.names_of q)) (without (tree.names_of q) ps) (without (tree.names_of q) qs) (same_without_all V (tree.names_of q) ps qs f) u.0 ∙ sym (ap (λ xs. close (without xs qs) (block_core b)) (pattern-names q)) in
+      ap₂ (core.more_arms (arm_pattern q)) body (arms_same arms G V ps qs f u.1)

@@ -16,7 +16,7 @@ use Rattle.lq_included.specs.Laws.{IsScene}
 use Rattle.lq_pures.specs.Cores.{items_core}
 use Rattle.lq_pures.specs.Pures.{KnowsLengths, scene_of}
 use Rattle.lq_safe.specs.Example.{no_instances}
-use Rattle.lq_safe.specs.Programs.{IsCoveredProgram, IsScopedProgram, no_symbols}
+use Rattle.lq_safe.specs.Programs.{IsScopedProgram, no_symbols}
 
 -- ---- numbers of objects: an array has its length, a list its size, and all else 0
 
@@ -70,7 +70,7 @@ data_program = run_unit list_block (run_unit tuple_block no_items)
 abbrev pub DataExampleHasAll : Type 0
 DataExampleHasAll =
     IsScene (scene_of data_basis no_instances objects_by_size) × KnowsLengths objects_by_size × AreTemplates data_basis data_points
-    × HasProgram data_basis data_points [] data_program × Checks data_basis no_instances [] data_program × IsCoveredProgram data_program
+    × HasProgram data_basis data_points [] data_program × Checks data_basis no_instances [] data_program
     × IsScopedProgram data_basis no_instances objects_by_size no_symbols [] data_program
 
 abbrev pub DataExampleIsSafe : Type 0

@@ -20,7 +20,7 @@ use Rattle.lq_inhabits.specs.Truth.{Objects}
 use Rattle.lq_included.specs.Laws.{IsScene}
 use Rattle.lq_pures.specs.Cores.{items_core}
 use Rattle.lq_pures.specs.Pures.{KnowsLengths, scene_of}
-use Rattle.lq_safe.specs.Programs.{IsCoveredProgram, IsScopedProgram, no_symbols}
+use Rattle.lq_safe.specs.Programs.{IsScopedProgram, no_symbols}
 
 -- ---- numbers of objects: an array has its length, and all else 0
 
@@ -60,7 +60,7 @@ abbrev pub ExampleHasAll : Type 0
 ExampleHasAll =
     IsScene (scene_of example_basis no_instances objects_by_length) × KnowsLengths objects_by_length × AreTemplates example_basis example_points
     × HasProgram example_basis example_points [] example_program × Checks example_basis no_instances [] example_program
-    × IsCoveredProgram example_program × IsScopedProgram example_basis no_instances objects_by_length no_symbols [] example_program
+    × IsScopedProgram example_basis no_instances objects_by_length no_symbols [] example_program
 
 -- its second definition without the condition: f b
 abbrev pub unguarded_program : Program

@@ -4,3 +4,4 @@ pub mod Laws
 pub mod Programs
 pub mod Example
 pub mod DataExample
+pub mod GeneralExample

@@ -1,10 +1,10 @@
--- What runs of a program need besides the typing rules, and the forms for which it is enough.
+-- What runs of a program need besides the typing rules.
 use Rattle.std.specs.Prelude.{◌≡◌, ◌⊎◌, ℕ, false, List, [], ◌∷◌, Some, None}
 use Rattle.lq_parts.specs.Assignment.{Assignment}
 use Rattle.lq_parts.specs.Part.{known}
 use Rattle.lq_pred.specs.Formula.{negation}
 use Rattle.lq_tree.specs.Types.{Constructor}
-use Rattle.lq_refined.specs.Context.{Context, type_in, guard}
+use Rattle.lq_refined.specs.Context.{Context, guard}
 use Rattle.lq_refined.specs.Operations.{symbol_of}
 use Rattle.lq_refined.specs.Refined.{Refined, int_with, bool_with, unit_type, function, tuple_of, array_with, data_with, map_with, type_variable, argument_of, element_of}
 use Rattle.lq_subtype.specs.Subtype.{IsSubtype}
@@ -18,44 +18,12 @@ use Rattle.lq_inhabits.specs.Truth.{Objects}
 use Rattle.lq_inhabits.specs.Inhabits.{Makes}
 use Rattle.lq_included.specs.Apart.{Apart}
 use Rattle.lq_included.specs.Symbols.{Symbols, TypeOn}
-use Rattle.lq_runs.specs.Closed.{names_in, IsClosed}
+use Rattle.lq_runs.specs.Closed.{names_in, IsClosed, Binds}
 use Rattle.lq_pures.specs.Pures.{scene_of, UseOver, PureOver}
 use Rattle.lq_fields.specs.Fields.{KnowsMeasures, IsDatatypeFor}
 use Rattle.lq_calls.specs.Operands.{IsUsable, IsUsablePure}
 use Rattle.lq_tuples.specs.Tuples.{AreUsable, HasComponentsOver}
 use Rattle.lq_builds.specs.Builds.{ArgumentsApart}
-
--- The forms that are covered: all but operations on maps.
-abbrev mutual
-  pub IsCovered : Operation → Type 0
-  IsCovered (pure e) = Unit {0}
-  IsCovered (fun p y b) = IsCoveredBlock b
-  IsCovered (if_else p c a b) = IsCoveredBlock a × IsCoveredBlock b
-  IsCovered (match_on p u arms) = AreCoveredArms arms
-  IsCovered (call g a) = Unit {0}
-  IsCovered (tuple es) = Unit {0}
-  IsCovered (build p c es) = Unit {0}
-  IsCovered (make p n e) = Unit {0}
-  IsCovered (fetch u i) = Unit {0}
-  IsCovered (store u i e) = Unit {0}
-  IsCovered (divide x y) = Unit {0}
-  IsCovered (remainder x y) = Unit {0}
-  IsCovered (assert e) = Unit {0}
-  IsCovered (assert_false p) = Unit {0}
-  IsCovered (read e) = Unit {0}
-  IsCovered (print e) = Unit {0}
-  IsCovered (map_empty p) = ⊥
-  IsCovered (map_add p k e m) = ⊥
-  IsCovered (map_find k m) = ⊥
-
-  pub IsCoveredBlock : Block → Type 0
-  IsCoveredBlock (last l o) = IsCovered o
-  IsCoveredBlock (binding x l o b) = IsCovered o × IsCoveredBlock b
-  IsCoveredBlock (recursive g p y b c) = IsCoveredBlock b × IsCoveredBlock c
-
-  pub AreCoveredArms : Arms → Type 0
-  AreCoveredArms no_arms = Unit {0}
-  AreCoveredArms (arm q b arms) = IsCoveredBlock b × AreCoveredArms arms
 
 -- a function type that names its argument by this parameter, or doesn't name it and whose result speaks of these symbols alone
 abbrev pub NamesArgument : Assignment → Symbols → ℕ → Refined → Type 0
@@ -85,45 +53,45 @@ ListsConstructors P = (c : ℕ) (k : Constructor) → P.setting.constructors c �
 module _ (P : Basis) (A : Assignment) (O : Objects) where
   -- an operand, or what is called
   abbrev pub IsOperand : Context → Pure → Type 0
-  IsOperand Γ e = PureOver (names_in Γ) e × IsUsablePure (scene_of P A O) Γ e
+  IsOperand Γ e = PureOver P A Γ e × IsUsablePure P (scene_of P A O) Γ e
 
   -- the type of a variable that is matched on is a datatype for the values of each of its constructors, and all of these are listed
   abbrev pub AreDatatypesFor : Context → Use → Type 0
   AreDatatypesFor Γ u =
       KnowsMeasures P O × ListsConstructors P
-      × ((c : ℕ) (k : Constructor) → Makes P.setting.constructors (datatype_of (type_in Γ (symbol_of u.name))) c k → IsDatatypeFor (scene_of P A O) P c k (type_in Γ (symbol_of u.name)))
+      × ((c : ℕ) (k : Constructor) → Makes P.setting.constructors (datatype_of (type_of_use P Γ u)) c k → IsDatatypeFor (scene_of P A O) P c k (type_of_use P Γ u))
 
   abbrev mutual
     pub IsScoped : Context → Operation → Refined → Type 0
     IsScoped Γ (pure e) t = IsOperand Γ e
     IsScoped Γ (fun p y b) t =
-        NamesArgument A (names_in Γ) y t × IsClosed (scene_of P A O) (body_context Γ y t)
+        NamesArgument A (names_in Γ) y t × Binds (scene_of P A O) (symbol_of y) (argument_of t) Γ
         × IsScopedBlock (body_context Γ y t) b (body_type P.setting.scopes y t)
     IsScoped Γ (if_else p c a b) t =
-        PureOver (names_in Γ) c × IsScopedBlock (guard (known (formula_of c)) ∷ Γ) a t
+        PureOver P A Γ c × IsScopedBlock (guard (known (formula_of c)) ∷ Γ) a t
         × IsScopedBlock (guard (known (negation (formula_of c))) ∷ Γ) b t
     IsScoped Γ (call g a) t =
         IsOperand Γ g × IsOperand Γ a
         × ((d : IsSubtype P.setting A Γ (pure_type P Γ a) (argument_of (pure_type P Γ g))) → Apart (scene_of P A O) d)
-    IsScoped Γ (divide x y) t = PureOver (names_in Γ) x × PureOver (names_in Γ) y
-    IsScoped Γ (remainder x y) t = PureOver (names_in Γ) x × PureOver (names_in Γ) y
-    IsScoped Γ (assert e) t = PureOver (names_in Γ) e
-    IsScoped Γ (read e) t = PureOver (names_in Γ) e
-    IsScoped Γ (print e) t = PureOver (names_in Γ) e
+    IsScoped Γ (divide x y) t = PureOver P A Γ x × PureOver P A Γ y
+    IsScoped Γ (remainder x y) t = PureOver P A Γ x × PureOver P A Γ y
+    IsScoped Γ (assert e) t = PureOver P A Γ e
+    IsScoped Γ (read e) t = PureOver P A Γ e
+    IsScoped Γ (print e) t = PureOver P A Γ e
     IsScoped Γ (match_on p u arms) t =
-        UseOver (names_in Γ) u × IsUsable (scene_of P A O) Γ (type_in Γ (symbol_of u.name)) × TypeOn A t (names_in Γ)
+        UseOver P A Γ u × IsUsable (scene_of P A O) Γ (type_of_use P Γ u) × TypeOn A t (names_in Γ)
         × Where (is_data_match P Γ u)
         (AreDatatypesFor Γ u × ((c : ℕ) → IsIn (matched_constructors P Γ u) c → IsScopedCase Γ u c t arms) × IsScopedDefault Γ u t arms)
-        (HasComponentsOver A (names_in Γ) (type_in Γ (symbol_of u.name)) × IsScopedFirst Γ u t arms)
-    IsScoped Γ (tuple es) t = AreUsable (scene_of P A O) Γ es
+        (HasComponentsOver A (names_in Γ) (type_of_use P Γ u) × IsScopedFirst Γ u t arms)
+    IsScoped Γ (tuple es) t = AreUsable P A O Γ es
     IsScoped Γ (build p c es) t =
-        AreUsable (scene_of P A O) Γ es × ArgumentsApart P A O Γ es (field_types P Γ p c es) × KnowsMeasures P O
+        AreUsable P A O Γ es × ArgumentsApart P A O Γ es (field_types P Γ p c es) × KnowsMeasures P O
         × ((k : Constructor) → P.setting.constructors c ≡ Some k → IsDatatypeFor (scene_of P A O) P c k (P.template p))
     IsScoped Γ (make p n e) t =
-        PureOver (names_in Γ) n × IsOperand Γ e × ((d : IsSubtype P.setting A Γ (pure_type P Γ e) (P.template p)) → Apart (scene_of P A O) d)
-    IsScoped Γ (fetch u i) t = UseOver (names_in Γ) u × PureOver (names_in Γ) i
+        PureOver P A Γ n × IsOperand Γ e × ((d : IsSubtype P.setting A Γ (pure_type P Γ e) (P.template p)) → Apart (scene_of P A O) d)
+    IsScoped Γ (fetch u i) t = UseOver P A Γ u × PureOver P A Γ i
     IsScoped Γ (store u i e) t =
-        UseOver (names_in Γ) u × PureOver (names_in Γ) i × IsOperand Γ e
+        UseOver P A Γ u × PureOver P A Γ i × IsOperand Γ e
         × ((d : IsSubtype P.setting A Γ (pure_type P Γ e) (element_of (type_of_use P Γ u))) → Apart (scene_of P A O) d)
     IsScoped Γ (assert_false p) t = Unit {0}
     IsScoped Γ (map_empty p) t = Unit {0}
@@ -134,11 +102,11 @@ module _ (P : Basis) (A : Assignment) (O : Objects) where
     IsScopedBlock Γ (last l o) t =
         IsScoped Γ o t × (passes_on o ≡ false → (d : IsSubtype P.setting A Γ (type_of P Γ o) t) → Apart (scene_of P A O) d)
     IsScopedBlock Γ (binding x l o b) t =
-        IsScoped Γ o (type_of P Γ o) × IsClosed (scene_of P A O) (bind x (type_of P Γ o) Γ) × TypeOn A t (names_in Γ)
+        IsScoped Γ o (type_of P Γ o) × Binds (scene_of P A O) (symbol_of x) (type_of P Γ o) Γ × TypeOn A t (names_in Γ)
         × IsScopedBlock (bind x (type_of P Γ o) Γ) b t
     IsScopedBlock Γ (recursive g p y b c) t =
         IsScopedBlock (recursive_context P Γ g p y) b (recursive_type P p y) × NamesArgument A (names_in Γ) y (P.template p)
-        × IsClosed (scene_of P A O) (recursive_context P Γ g p y) × TypeOn A (P.template p) (names_in Γ) × TypeOn A t (names_in Γ)
+        × Binds (scene_of P A O) (symbol_of g) (P.template p) Γ × Binds (scene_of P A O) (symbol_of y) (argument_of (P.template p)) (bind g (P.template p) Γ) × TypeOn A (P.template p) (names_in Γ) × TypeOn A t (names_in Γ)
         × IsScopedBlock (bind g (P.template p) Γ) c t
 
     -- the first arm of the constructor, the first one that takes all, and the first one
@@ -160,4 +128,4 @@ module _ (P : Basis) (A : Assignment) (O : Objects) where
   abbrev pub IsScopedRecursive : Context → ℕ → ℕ → ℕ → Block → Type 0
   IsScopedRecursive Γ g p y b =
       IsScopedBlock (recursive_context P Γ g p y) b (recursive_type P p y) × NamesArgument A (names_in Γ) y (P.template p)
-      × IsClosed (scene_of P A O) (recursive_context P Γ g p y) × TypeOn A (P.template p) (names_in Γ)
+      × Binds (scene_of P A O) (symbol_of g) (P.template p) Γ × Binds (scene_of P A O) (symbol_of y) (argument_of (P.template p)) (bind g (P.template p) Γ) × TypeOn A (P.template p) (names_in Γ)

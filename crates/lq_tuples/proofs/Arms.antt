@@ -10,14 +10,14 @@ use Rattle.lq_refined.specs.Context.{Context}
 use Rattle.lq_refined.specs.Operations.{symbol_of}
 use Rattle.lq_refined.specs.Refined.{Refined}
 use Rattle.lq_inhabits.specs.Truth.{Givens, value_at, Scene}
-use Rattle.lq_inhabits.specs.Shut.{shut, Shuts}
+use Rattle.lq_inhabits.specs.Shut.{shut}
 use Rattle.lq_inhabits.specs.Inhabits.{Table, Agrees}
 use Rattle.lq_inhabits.specs.Runs.{RunsWell, LandsIn}
 use Rattle.lq_inhabits.proofs.Running.{runs_map, runs_step}
 use Rattle.lq_included.specs.Laws.{IsScene}
 use Rattle.lq_included.specs.Symbols.{TypeOn, Agree}
 use Rattle.lq_runs.specs.Closed.{names_in}
-use Rattle.lq_runs.specs.Meets.{pairs, Meets}
+use Rattle.lq_runs.specs.Meets.{pairs, Variables, Meets}
 use Rattle.lq_runs.specs.Runs.{RunsTo}
 use Rattle.lq_runs.proofs.Lower.{Lower}
 use Rattle.lq_pures.proofs.Pures.{value_of_pair}
@@ -32,10 +32,10 @@ pub match_goes : (l : Place) (x : ℕ) (arms : core.Arms) (σ : Givens) (v : Val
 match_goes l x arms σ v is n w d R at go =
     subst (λ o. RunsWell n (match_on l (replaced x o) (close_arms (pairs σ) arms)) w R) (sym (value_of_pair σ x ∙ is)) (runs_step n (match_on l (val v) (close_arms (pairs σ) arms)) d w w R refl (ap Some at) go)
 
-module _ (law : Lower) (closings : Closings) (S : Scene) (is : IsScene S) (by : Shuts) where
+module _ (law : Lower) (closings : Closings) (S : Scene) (is : IsScene S) (by : Variables) where
   -- an arm's body runs to a type that speaks of names outside
-  pub arm_runs : (Γ Δ : Context) (t : Refined) (b : Core) → RunsTo S by Δ b t → TypeOn S.assignment t (names_in Γ) → (σ τ : Givens) → Agree (names_in Γ) τ σ → (q : core.Pattern) (v : Value) (ps : Pairs) → fits q v ≡ Some ps → SameIn (ps ++ pairs σ) (pairs τ) → (k : ℕ) (W : Table) (w : World) → Meets S by (suc k) W Δ τ → Agrees S k W w → RunsWell k (close ps (close (without (variables_of q) (pairs σ)) b)) w (LandsIn S W (shut σ by t))
+  pub arm_runs : (Γ Δ : Context) (t : Refined) (b : Core) → RunsTo S by Δ b t → TypeOn S.assignment t (names_in Γ) → (σ τ : Givens) → Agree (names_in Γ) τ σ → (q : core.Pattern) (v : Value) (ps : Pairs) → fits q v ≡ Some ps → SameIn (ps ++ pairs σ) (pairs τ) → (k : ℕ) (W : Table) (w : World) → Meets S by (suc k) W Δ τ → Agrees S k W w → RunsWell k (close ps (close (without (variables_of q) (pairs σ)) b)) w (LandsIn S W (shut σ by.types t))
   arm_runs Γ Δ t b runs on σ τ agree q v ps fit same k W w m ag =
       let e : close ps (close (without (variables_of q) (pairs σ)) b) ≡ close (pairs τ) b = law.behind (variables_of q) ps (pairs σ) b (closings.binds q v ps fit) ∙ closings.alike b (ps ++ pairs σ) (pairs τ) same in
-      subst (λ d. RunsWell k d w (LandsIn S W (shut σ by t))) (sym e) (runs_map k (close (pairs τ) b) w (LandsIn S W (shut τ by t)) (LandsIn S W (shut σ by t)) (λ i u z le r.
-      (r.0, r.1, law.thin S is t (names_in Γ) on τ σ by agree i r.0 u r.2, r.3)) (runs k W τ w m ag))
+      subst (λ d. RunsWell k d w (LandsIn S W (shut σ by.types t))) (sym e) (runs_map k (close (pairs τ) b) w (LandsIn S W (shut τ by.types t)) (LandsIn S W (shut σ by.types t)) (λ i u z le r.
+      (r.0, r.1, law.thin S is t (names_in Γ) on τ σ by.types agree i r.0 u r.2, r.3)) (runs k W τ w m ag))

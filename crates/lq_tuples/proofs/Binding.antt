@@ -1,28 +1,32 @@
 -- Names with types and values, one after another.
 use Rattle.std.proofs.Common.{◌≡◌, ℕ, suc, ◌≤◌, ◌==◌, Bool, true, false, List, [], ◌∷◌, ◌++◌, length, Some, refl, sym, ap, ◌∙◌, if◌then◌else◌, arith as numbers}
 use Rattle.std.proofs.lemmas.Bool.{eqb-true, eq-eqb}
+use Rattle.lq_pred.specs.declared.symbol.Symbol.{Symbol}
+use Rattle.lq_pred.specs.declared.symbol.Symbol.TheVariants as symbol
 use Rattle.lq_pred.specs.Sum.{same_symbol}
 use Rattle.lq_model.specs.Core.{Pairs, value_in, Value, Values, no_values, more_values}
 use Rattle.lq_model.specs.Operations.{fits_all, both_pairs}
 use Rattle.lq_refined.specs.Context.{Context}
 use Rattle.lq_refined.specs.Operations.{symbol_of}
-use Rattle.lq_refined.specs.Refined.{Refineds, none, more, count}
+use Rattle.lq_refined.specs.Refined.{Refineds, none, more, top, count}
 use Rattle.lq_subtype.specs.Splitting.{first_of, rest_of}
 use Rattle.lq_checks.specs.Binders.{IsNotIn}
 use Rattle.lq_checks.specs.Match.{bind_all}
 use Rattle.lq_checks.specs.Operation.{bind}
-use Rattle.lq_inhabits.specs.Truth.{Givens, given, Scene}
-use Rattle.lq_inhabits.specs.Shut.{shut, shut_all, Shuts}
-use Rattle.lq_inhabits.specs.Inhabits.{Table, Inhabits}
+use Rattle.lq_inhabits.specs.Truth.{Givens, given, Scene, AreTrue}
+use Rattle.lq_inhabits.specs.Shut.{shut_all, Shuts}
+use Rattle.lq_inhabits.specs.Inhabits.{Table, CallsBelow, SameBelow}
 use Rattle.lq_inhabits.proofs.Keeping.{AllFit}
+use Rattle.lq_inhabits.proofs.Topped.{type_has, top_true}
+use Rattle.lq_included.specs.Apart.{IsKnown}
 use Rattle.lq_included.specs.Laws.{IsScene}
-use Rattle.lq_included.specs.Symbols.{Agree}
-use Rattle.lq_included.proofs.Truths.{at_self, same_symbol-refl}
-use Rattle.lq_runs.specs.Closed.{names_in, IsClosed}
-use Rattle.lq_runs.specs.Meets.{pairs, Meets}
-use Rattle.lq_runs.proofs.Closing.{or_left, or_right, new_name, agree_new}
+use Rattle.lq_included.specs.Symbols.{Symbols, Agree}
+use Rattle.lq_included.proofs.Truths.{at_self, same_symbol-refl, parts_same, agree_with, agree_back}
+use Rattle.lq_runs.specs.Closed.{names_in, with_value, IsClosedIn, IsClosed}
+use Rattle.lq_runs.specs.Meets.{pairs, Variables, Named, Meets}
+use Rattle.lq_runs.proofs.Closing.{or_left, or_right, new_name, agree_new, may_bind_in}
 use Rattle.lq_runs.proofs.Lower.{Lower}
-use Rattle.lq_runs.proofs.Meeting.{extends_self, meets_less, meets_bind}
+use Rattle.lq_runs.proofs.Meeting.{extends_self, meets_less, named_at, within_bind, only_own, new_outside}
 use Rattle.lq_fields.proofs.Stands.{HaveValues}
 use Rattle.lq_pures.specs.Cores.{name_patterns}
 
@@ -42,18 +46,26 @@ fit_counts S n W σ by none (more_values v vs) h = absurd h
 fit_counts S n W σ by (more t ts) no_values h = absurd h
 fit_counts S n W σ by (more t ts) (more_values v vs) h = ap suc (fit_counts S n W σ by ts vs h.1)
 
+-- what is no name of the environment is neither general nor hidden
+abbrev IsWithin : Variables → Context → Type 0
+IsWithin by Γ = (x : Symbol) → names_in Γ x ≡ false → (by.general x ≡ false) × (by.hidden x ≡ false)
+
 module _ (S : Scene) where
-  -- an environment in which names are bound is closed where it is with them
-  pub closed_before : (xs : List ℕ) (ts : Refineds) (Γ : Context) → IsClosed S (bind_all xs ts Γ) → IsClosed S Γ
-  closed_before [] ts Γ c = c
-  closed_before (x ∷ xs) ts Γ c = (closed_before xs (rest_of ts) (bind x (first_of ts) Γ) c).3
+  -- an environment in which names are bound is closed where it is with them, and what is inside its types speaks of these symbols
+  closed_before : (N : Symbols) (xs : List ℕ) (ts : Refineds) (Γ : Context) → IsClosedIn S N (bind_all xs ts Γ) → IsClosedIn S N Γ
+  closed_before N [] ts Γ c = c
+  closed_before N (x ∷ xs) ts Γ c = (closed_before N xs (rest_of ts) (bind x (first_of ts) Γ) c).3
+
+  -- the first of the names is new there, and its type is over the names before it
+  first_bound : (x : ℕ) (xs : List ℕ) (ts : Refineds) (Γ : Context) → IsClosed S (bind_all (x ∷ xs) ts Γ) → IsClosedIn S (names_in (bind_all (x ∷ xs) ts Γ)) (bind x (first_of ts) Γ)
+  first_bound x xs ts Γ c = closed_before (names_in (bind_all (x ∷ xs) ts Γ)) xs (rest_of ts) (bind x (first_of ts) Γ) c
 
   -- earlier names keep their values
   pub agree_all : (xs : List ℕ) (ts : Refineds) (vs : Values) (Γ : Context) (σ : Givens) → IsClosed S (bind_all xs ts Γ) → Agree (names_in Γ) (onto xs vs σ) σ
   agree_all [] ts vs Γ σ c y h = refl
   agree_all (x ∷ xs) ts no_values Γ σ c y h = refl
   agree_all (x ∷ xs) ts (more_values v vs) Γ σ c y h =
-      agree_all xs (rest_of ts) vs (bind x (first_of ts) Γ) (given (symbol_of x) v ∷ σ) c y (or_left (names_in Γ y) (same_symbol (symbol_of x) y) h) ∙ agree_new Γ (symbol_of x) v σ (closed_before xs (rest_of ts) (bind x (first_of ts) Γ) c).1 y h
+      agree_all xs (rest_of ts) vs (bind x (first_of ts) Γ) (given (symbol_of x) v ∷ σ) c y (or_left (names_in Γ y) (same_symbol (symbol_of x) y) h) ∙ agree_new Γ (symbol_of x) v σ (first_bound x xs ts Γ c).1 y h
 
   pub have_values : (xs : List ℕ) (ts : Refineds) (vs : Values) (Γ : Context) (σ : Givens) → length xs ≡ count_values vs → IsClosed S (bind_all xs ts Γ) → HaveValues (onto xs vs σ) xs vs
   have_values [] ts no_values Γ σ e c = tt
@@ -63,20 +75,31 @@ module _ (S : Scene) where
       (agree_all xs (rest_of ts) vs (bind x (first_of ts) Γ) (given (symbol_of x) v ∷ σ) c (symbol_of x) (or_right (names_in Γ (symbol_of x)) (same_symbol (symbol_of x) (symbol_of x)) (same_symbol-refl (symbol_of x))) ∙ at_self σ (symbol_of x) v, have_values xs (rest_of ts) vs (bind x (first_of ts) Γ) (given (symbol_of x) v ∷ σ) (omega (numbers, e)) c)
 
   -- values that inhabit the names' types, where all names have values, are good for the environment
-  pub meets_all : Lower → IsScene S → (by : Shuts) (n m : ℕ) (W : Table) → m ≤ n → (xs : List ℕ) (ts : Refineds) (vs : Values) → length xs ≡ count ts → (Γ : Context) (σ : Givens) → IsClosed S (bind_all xs ts Γ) → Meets S by n W Γ σ → AllFit S m W (shut_all (onto xs vs σ) by ts) vs → Meets S by m W (bind_all xs ts Γ) (onto xs vs σ)
-  meets_all law is by n m W le [] ts vs e Γ σ c k fit = meets_less law S by n m W W Γ σ le (extends_self W) k
-  meets_all law is by n m W le (x ∷ xs) none vs e Γ σ c k fit = absurd (omega (numbers, e))
-  meets_all law is by n m W le (x ∷ xs) (more t ts) no_values e Γ σ c k fit = absurd fit
-  meets_all law is by n m W le (x ∷ xs) (more t ts) (more_values v vs) e Γ σ c k fit =
-      let inner = closed_before xs ts (bind x t Γ) c in
-      let own : Inhabits S m W (shut σ by t) v = law.thin S is t (names_in Γ) inner.2.0 (onto xs vs (given (symbol_of x) v ∷ σ)) σ by (λ y h. agree_all (x ∷ xs) (more t ts) (more_values v vs) Γ σ c y h) m W v fit.0 in
-      meets_all law is by m m W (omega numbers) xs ts vs (omega (numbers, e)) (bind x t Γ) (given (symbol_of x) v ∷ σ) c (meets_bind law S is by n m W W Γ σ (symbol_of x) t v le (extends_self W) inner k own) fit.1
+  module _ (law : Lower) (is : IsScene S) (by : Variables) (m : ℕ) (W : Table) where
+    bound_all : (xs : List ℕ) (ts : Refineds) (vs : Values) → length xs ≡ count ts → (Γ : Context) (σ : Givens) → IsClosed S (bind_all xs ts Γ) → IsKnown S Γ σ → Named S by m W (onto xs vs σ) Γ σ → IsWithin by Γ → AllFit S m W (shut_all (onto xs vs σ) by.types ts) vs → Meets S by m W (bind_all xs ts Γ) (onto xs vs σ)
+    bound_all [] ts vs e Γ σ c k h i fit = record { known = k; named = h; within = i }
+    bound_all (x ∷ xs) none vs e Γ σ c k h i fit = absurd (omega (numbers, e))
+    bound_all (x ∷ xs) (more t ts) no_values e Γ σ c k h i fit = absurd fit
+    bound_all (x ∷ xs) (more t ts) (more_values v vs) e Γ σ c k h i fit =
+        let ρ = onto (x ∷ xs) (more_values v vs) σ in
+        let N = names_in (bind_all (x ∷ xs) (more t ts) Γ) in
+        let inner = first_bound x xs (more t ts) Γ c in
+        let agree : Agree (names_in Γ) ρ σ = agree_all (x ∷ xs) (more t ts) (more_values v vs) Γ σ c in
+        let holds : AreTrue S (given symbol.Value v ∷ σ) (top t) = parts_same S (with_value (names_in Γ)) (given symbol.Value v ∷ ρ) (given symbol.Value v ∷ σ) (top t) (agree_with (names_in Γ) ρ σ symbol.Value v agree) inner.2.0.1 (top_true S (CallsBelow S m) (SameBelow S m) W ρ ρ by.types t v fit.0) in
+        let known = law.bound S is Γ σ (symbol_of x) t v (may_bind_in law S is N Γ (symbol_of x) t inner) k (type_has S (CallsBelow S m) (SameBelow S m) W ρ ρ by.types t v fit.0) holds in
+        let own = only_own law S by m W ρ (symbol_of x) t v (i (symbol_of x) (new_outside law S Γ (symbol_of x) inner.1)).0 fit.0 in
+        bound_all xs ts vs (omega (numbers, e)) (bind x t Γ) (given (symbol_of x) v ∷ σ) c known (refl, own, h) (within_bind law S Γ (symbol_of x) t by i) fit.1
+
+  pub meets_all : Lower → IsScene S → (by : Variables) (n m : ℕ) (W : Table) → m ≤ n → (xs : List ℕ) (ts : Refineds) (vs : Values) → length xs ≡ count ts → (Γ : Context) (σ : Givens) → IsClosed S Γ → IsClosed S (bind_all xs ts Γ) → Meets S by n W Γ σ → AllFit S m W (shut_all (onto xs vs σ) by.types ts) vs → Meets S by m W (bind_all xs ts Γ) (onto xs vs σ)
+  meets_all law is by n m W le xs ts vs e Γ σ closed c k fit =
+      let less = meets_less law S by n m W W Γ σ le (extends_self W) k in
+      bound_all law is by m W xs ts vs e Γ σ c less.known (named_at law S is by m W (names_in Γ) σ (onto xs vs σ) (agree_back (names_in Γ) (onto xs vs σ) σ (agree_all xs ts vs Γ σ c)) Γ σ (λ y h. h) closed less.named) less.within fit
 
   -- no name comes twice
   pub name_differs : (xs : List ℕ) (ts : Refineds) (Γ : Context) (x : ℕ) → IsClosed S (bind_all xs ts Γ) → names_in Γ (symbol_of x) ≡ true → IsNotIn xs x
   name_differs [] ts Γ x c h = tt
   name_differs (z ∷ zs) ts Γ x c h =
-      (new_name Γ (symbol_of z) (symbol_of x) (closed_before zs (rest_of ts) (bind z (first_of ts) Γ) c).1 h, name_differs zs (rest_of ts) (bind z (first_of ts) Γ) x c (or_left (names_in Γ (symbol_of x)) (same_symbol (symbol_of z) (symbol_of x)) h))
+      (new_name Γ (symbol_of z) (symbol_of x) (first_bound z zs ts Γ c).1 h, name_differs zs (rest_of ts) (bind z (first_of ts) Γ) x c (or_left (names_in Γ (symbol_of x)) (same_symbol (symbol_of z) (symbol_of x)) h))
 
 -- ---- the program's variables
 

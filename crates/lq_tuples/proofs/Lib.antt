@@ -2,4 +2,5 @@ pub mod Rows
 pub mod Tupling
 pub mod Binding
 pub mod Arms
+pub mod Alike
 pub mod Matching

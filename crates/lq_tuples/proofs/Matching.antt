@@ -1,5 +1,5 @@
 -- Matches on values that are no datatype's: the first arm is taken.
-use Rattle.std.proofs.Common.{◌≡◌, ℕ, suc, ◌<◌, ◌≤◌, ◌==◌, ◌||◌, Bool, true, false, List, [], ◌∷◌, ◌++◌, length, Some, refl, sym, ap, ◌∙◌, subst, arith as numbers}
+use Rattle.std.proofs.Common.{◌≡◌, ◌⊎◌, inl, inr, ℕ, suc, ◌<◌, ◌≤◌, ◌==◌, ◌||◌, Bool, true, false, List, [], ◌∷◌, ◌++◌, length, Some, refl, sym, ap, ◌∙◌, subst, arith as numbers}
 use Rattle.std.proofs.lemmas.Bool.{eqb-true}
 use Rattle.lq_name.specs.declared.place.Place.{Place}
 use Rattle.lq_pred.specs.declared.symbol.Symbol.{Symbol}
@@ -15,7 +15,7 @@ use Rattle.lq_parts.specs.Substitution.{Subst, sum_at, flag_at}
 use Rattle.lq_tree.specs.MlType as ml
 use Rattle.lq_tree.specs.MlType.{MlType, MlTypes}
 use Rattle.lq_tree.specs.Types.{Constructor, count_types}
-use Rattle.lq_refined.specs.Context.{Context, type_in}
+use Rattle.lq_refined.specs.Context.{Context, IsNew}
 use Rattle.lq_refined.specs.Operations.{symbol_of, atom_of}
 use Rattle.lq_refined.specs.Refined.{Refined, Refineds, int_with, bool_with, unit_type, function, tuple_of, array_with, data_with, map_with, type_variable, none, more, Kind, number, truth_value, object, other, kind, top, with_top, count, erased, all_erased}
 use Rattle.lq_subtype.specs.Splitting.{first_of, rest_of}
@@ -28,7 +28,7 @@ use Rattle.lq_checks.specs.Pure as pures
 use Rattle.lq_checks.specs.Tree as tree
 use Rattle.lq_checks.specs.Tree.{Use, Pattern, pattern_any, pattern_name, pattern_unit, pattern_tuple, pattern_build}
 use Rattle.lq_checks.specs.Typing as typing
-use Rattle.lq_checks.specs.Typing.{Points, Types, HasPattern, has_any, has_name, has_nothing, has_components, has_fields}
+use Rattle.lq_checks.specs.Typing.{Points, AreTemplates, Types, HasPattern, has_any, has_name, has_nothing, has_components, has_fields}
 use Rattle.lq_inhabits.specs.Truth.{Givens, given, value_at, Objects, AreTrue, Scene}
 use Rattle.lq_inhabits.specs.Shut.{shut, read_at, shut_all, Shuts, position, components}
 use Rattle.lq_inhabits.specs.Inhabits.{Table, Inhabits, Agrees}
@@ -36,27 +36,28 @@ use Rattle.lq_inhabits.specs.Runs.{RunsWell, LandsIn}
 use Rattle.lq_inhabits.specs.Datatypes.{DatatypesFit}
 use Rattle.lq_inhabits.proofs.Keeping.{AllFit}
 use Rattle.lq_included.specs.Laws.{IsScene}
-use Rattle.lq_included.specs.Symbols.{Symbols, ComponentsOn, TypeOn, Agree}
+use Rattle.lq_included.specs.Symbols.{Symbols, ComponentsOn, TopOn, TypeOn, Agree}
 use Rattle.lq_included.proofs.Truths as truths
 use Rattle.lq_included.proofs.Truths.{agree_back, at_but}
 use Rattle.lq_included.proofs.Likes.{inside_like}
 use Rattle.lq_included.proofs.Putting.{same_like}
 use Rattle.lq_runs.specs.Closed.{names_in, with_value, IsClosed}
-use Rattle.lq_runs.specs.Meets.{pairs, Meets}
+use Rattle.lq_runs.specs.Meets.{pairs, Variables, Meets}
 use Rattle.lq_runs.specs.Runs.{Exactly, RunsTo}
 use Rattle.lq_runs.proofs.Closing.{value_apart, agree_new}
 use Rattle.lq_runs.proofs.Lower as lower
-use Rattle.lq_runs.proofs.Meeting.{Looked, look, extends_self, meets_less, meets_bind}
+use Rattle.lq_runs.proofs.Meeting.{extends_self, meets_less, new_outside}
 use Rattle.lq_fields.specs.Fields.{with_term, with_flag}
 use Rattle.lq_fields.specs.Standing.{StandsOn}
 use Rattle.lq_fields.proofs.Standing.{parts_put}
 use Rattle.lq_fields.proofs.Stands.{HaveValues, name_stands, own_sum_cons, own_flag_cons, stands_agree, stands_cons, stands_value}
 use Rattle.lq_pures.specs.Cores.{arm_pattern}
-use Rattle.lq_pures.specs.Pures.{KnowsLengths, scene_of, UseOver}
-use Rattle.lq_pures.proofs.Pures.{type_fits, value_of_pair}
+use Rattle.lq_pures.specs.Pures.{KnowsLengths, scene_of, UseIn}
+use Rattle.lq_pures.proofs.Pures.{Instancing, value_of_pair, no_position, Used, use_type, look_up}
 use Rattle.lq_calls.specs.Operands.{IsUsable, OperandsRun}
-use Rattle.lq_calls.proofs.Operands.{no_position}
+use Rattle.lq_calls.proofs.Operands.{no_value}
 use Rattle.lq_tuples.specs.Tuples.{AreComponentsOver, HasComponentsOver}
+use Rattle.lq_tuples.proofs.Alike.{plain_below, own_inside}
 use Rattle.lq_tuples.proofs.Arms.{Closings, match_goes, arm_runs}
 use Rattle.lq_tuples.proofs.Binding.{onto, count_values, agree_all, have_values, meets_all, zipped, names_fit, same_pairs}
 
@@ -225,29 +226,39 @@ pub count-erased : (ts : Refineds) → count_types (all_erased ts) ≡ count ts
 count-erased none = refl
 count-erased (more t ts) = ap suc (count-erased ts)
 
-module _ (law : lower.Lower) (closings : Closings) (fit : DatatypesFit) (operands : OperandsRun) (P : Basis) (A : Assignment) (O : Objects) (is : IsScene (scene_of P A O)) (lengths : KnowsLengths O) (by : Shuts) (Q : Points) (Δ : Types) (Γ : Context) (fits_in : Fits Δ Γ) (closed : IsClosed (scene_of P A O) Γ) (l : Place) (u : Use) (over : UseOver (names_in Γ) u) where
+module _ (law : lower.Lower) (inst : Instancing) (closings : Closings) (fit : DatatypesFit) (operands : OperandsRun) (P : Basis) (A : Assignment) (O : Objects) (is : IsScene (scene_of P A O)) (lengths : KnowsLengths O) (by : Variables) (Q : Points) (are : AreTemplates P Q) (Δ : Types) (Γ : Context) (fits_in : Fits Δ Γ) (closed : IsClosed (scene_of P A O) Γ) (l : Place) (u : Use) (over : UseIn P A by Γ u) where
   abbrev S : Scene
   S = scene_of P A O
 
   abbrev own : Refined
-  own = type_in Γ (symbol_of u.name)
-
-  -- the type of the variable in the rules
-  use-is : pures.type_of_use P Γ u ≡ own
-  use-is = ap (λ i. pures.instance_of P Γ i own) over.1
+  own = pures.type_of_use P Γ u
 
   -- its simple type
   simple-is : erased own ≡ typing.type_of_use Q Δ u
-  simple-is = type_fits Δ Γ fits_in u.name ∙ sym (ap (λ i. typing.instance_of Q i (typing.simple_type_in Δ u.name)) over.1)
+  simple-is = use_type law inst P A O is lengths by Q are Δ Γ fits_in closed u
 
   -- an arm whose pattern fits and whose names have good values
-  taken : (q : core.Pattern) (b : Core) (rest : core.Arms) (t : Refined) (Θ : Context) → TypeOn A t (names_in Γ) → RunsTo S by Θ b t → (n : ℕ) (W : Table) (σ τ : Givens) (w : World) → Agrees S n W w → (v : Value) → value_at σ (symbol_of u.name) ≡ Some v → (ps : Pairs) → fits q v ≡ Some ps → Agree (names_in Γ) τ σ → ((y : ℕ) → core.value_in (ps ++ pairs σ) y ≡ core.value_in (pairs τ) y) → Meets S by (suc n) W Θ τ → RunsWell n (close (pairs σ) (match_on l (use_of u.name) (more_arms q b rest))) w (LandsIn S W (shut σ by t))
+  taken : (q : core.Pattern) (b : Core) (rest : core.Arms) (t : Refined) (Θ : Context) → TypeOn A t (names_in Γ) → RunsTo S by Θ b t → (n : ℕ) (W : Table) (σ τ : Givens) (w : World) → Agrees S n W w → (v : Value) → value_at σ (symbol_of u.name) ≡ Some v → (ps : Pairs) → fits q v ≡ Some ps → Agree (names_in Γ) τ σ → ((y : ℕ) → core.value_in (ps ++ pairs σ) y ≡ core.value_in (pairs τ) y) → Meets S by (suc n) W Θ τ → RunsWell n (close (pairs σ) (match_on l (use_of u.name) (more_arms q b rest))) w (LandsIn S W (shut σ by.types t))
   taken q b rest t Θ on runs n W σ τ w ag v at ps fit agree same m =
-      match_goes l u.name (more_arms q b rest) σ v at n w (close ps (close (core.without (core.variables_of q) (pairs σ)) b)) (LandsIn S W (shut σ by t)) (rw fit) (λ k eq.
+      match_goes l u.name (more_arms q b rest) σ v at n w (close ps (close (core.without (core.variables_of q) (pairs σ)) b)) (LandsIn S W (shut σ by.types t)) (rw fit) (λ k eq.
       arm_runs law closings S is by Γ Θ t b runs on σ τ agree q v ps fit same k W w (meets_less law S by (suc n) (suc k) W W Θ τ (omega (numbers, eq)) (extends_self W) m) (law.stores S n k W w (omega (numbers, eq)) ag))
 
-  found : (n : ℕ) (W : Table) (σ : Givens) → Meets S by (suc n) W Γ σ → Looked S by (suc n) W Γ σ (symbol_of u.name)
-  found n W σ m = look law S is by (suc n) W Γ σ closed m.named (symbol_of u.name) over.0
+  found : (n : ℕ) (W : Table) (σ : Givens) → Meets S by (suc n) W Γ σ → Used P A O by Γ (suc n) W σ u
+  found n W σ m = look_up law inst P A O is lengths by Q are Δ Γ fits_in closed (suc n) W σ m u over
+
+  -- a value of the variable's own type inhabits it where a new name has the value
+  own_at : (y : ℕ) → IsNew (symbol_of y) Γ → TopOn A (pure_type P Γ (tree.use_of u)) (names_in Γ) → (n : ℕ) (W : Table) (σ : Givens) → Meets S by (suc n) W Γ σ → (v : Value) → TypeOn A own (names_in Γ) → Inhabits S (suc n) W (shut σ by.types (pure_type P Γ (tree.use_of u))) v → Inhabits S (suc n) W (shut (given (symbol_of y) v ∷ σ) by.types (pure_type P Γ (tree.use_of u))) v
+  own_at y new top n W σ m v on h =
+      let N = names_in Γ in
+      let T = pure_type P Γ (tree.use_of u) in
+      let τ = given (symbol_of y) v ∷ σ in
+      either (own_inside S P.setting.scopes u.name N own on.0) (λ i.
+      law.thin S is T N (i, top) σ τ by.types (agree_back N τ σ (agree_new Γ (symbol_of y) v σ new)) (suc n) W v h) (λ p.
+      plain_below fit S is by.types σ (symbol_of y) v (no_value S by (suc n) W σ Γ σ m.named (symbol_of y) (new_outside law S Γ (symbol_of y) new)) (p (suc n) W σ by.types v h) T (suc n) W v h)
+    where
+      either : {X Y Z : Type 0} → X ⊎ Y → (X → Z) → (Y → Z) → Z
+      either (inl x) f g = f x
+      either (inr y) f g = g y
 
   -- by the pattern of the first arm
   pub first_runs : (q : Pattern) → PatternHas P (typing.type_of_use Q Δ u) q → IsUsable S Γ own → is_data_match P Γ u ≡ false → HasComponentsOver A (names_in Γ) own → IsClosed S (in_arm P Γ u q) → (b : Core) (rest : core.Arms) (t : Refined) → TypeOn A t (names_in Γ) → RunsTo S by (in_arm P Γ u q) b t → RunsTo S by Γ (match_on l (use_of u.name) (more_arms (arm_pattern q) b rest)) t
@@ -257,33 +268,33 @@ module _ (law : lower.Lower) (closings : Closings) (fit : DatatypesFit) (operand
   first_runs (pattern_name y) h k d o c b rest t on runs n W σ w m ag =
       let f = found n W σ m in
       let T = pure_type P Γ (tree.use_of u) in
-      let r = operands P A O is lengths by Q Δ Γ fits_in closed (tree.use_of u) (typing.type_of_use Q Δ u) typing.has_use over k n W σ m in
-      let own_fit : Inhabits S (suc n) W (shut σ by T) f.value = subst (Inhabits S (suc n) W (shut σ by T)) (sym (exact_is σ u.name f.value r.0 w f.is (r.3 0 w))) r.1 in
-      taken (core.bind y) b rest t (bind y T Γ) on runs n W σ (given (symbol_of y) f.value ∷ σ) w ag f.value f.is ((y, f.value) ∷ []) refl (agree_new Γ (symbol_of y) f.value σ c.1) (λ z. refl) (meets_bind law S is by (suc n) (suc n) W W Γ σ (symbol_of y) T f.value (omega numbers) (extends_self W) c m own_fit)
+      let r = operands P A O is lengths by Q are Δ Γ fits_in closed (tree.use_of u) (typing.type_of_use Q Δ u) typing.has_use over k n W σ m in
+      let own_fit : Inhabits S (suc n) W (shut σ by.types T) f.value = subst (Inhabits S (suc n) W (shut σ by.types T)) (sym (exact_is σ u.name f.value r.0 w f.is (r.3 0 w))) r.1 in
+      taken (core.bind y) b rest t (bind y T Γ) on runs n W σ (given (symbol_of y) f.value ∷ σ) w ag f.value f.is ((y, f.value) ∷ []) refl (agree_new Γ (symbol_of y) f.value σ c.1) (λ z. refl) (meets_all S law is by (suc n) (suc n) W (omega numbers) (y ∷ []) (more T none) (more_values f.value no_values) refl Γ σ closed c m (own_at y c.1 c.2.0.1 n W σ m f.value f.over own_fit, tt))
   first_runs pattern_unit h k d o c b rest t on runs n W σ w m ag =
       let f = found n W σ m in
-      let e : f.value ≡ v_unit = unit_of S (suc n) W σ by f.value (subst (λ T. Inhabits S (suc n) W (shut σ by T) f.value) (unit_form own (simple-is ∙ h)) f.fits) in
+      let e : f.value ≡ v_unit = unit_of S (suc n) W σ by.types f.value (subst (λ T. Inhabits S (suc n) W (shut σ by.types T) f.value) (unit_form own (simple-is ∙ h)) f.fits) in
       taken core.nothing b rest t Γ on runs n W σ σ w ag v_unit (f.is ∙ ap Some e) [] refl (λ y i. refl) (λ y. refl) m
   first_runs (pattern_tuple xs) h k d o c b rest t on runs n W σ w m ag =
       let f = found n W σ m in
       let N = names_in Γ in
       let T = tuple_form own h.0 (simple-is ∙ h.1) in
       let ts = T.0 in
-      let V = tuple_of_them S (suc n) W σ by ts f.value (subst (λ z. Inhabits S (suc n) W (shut σ by z) f.value) T.1 f.fits) in
+      let V = tuple_of_them S (suc n) W σ by.types ts f.value (subst (λ z. Inhabits S (suc n) W (shut σ by.types z) f.value) T.1 f.fits) in
       let vs = V.0 in
       let cts = component_types P.setting.scopes [] 0 xs ts in
-      let E : in_arm P Γ u (pattern_tuple xs) ≡ bind_all xs cts Γ = ap (λ z. arm_context P Γ u.name z (pattern_tuple xs)) (use-is ∙ T.1) ∙ bound-components P.setting.scopes [] 0 xs ts Γ in
+      let E : in_arm P Γ u (pattern_tuple xs) ≡ bind_all xs cts Γ = ap (λ z. arm_context P Γ u.name z (pattern_tuple xs)) T.1 ∙ bound-components P.setting.scopes [] 0 xs ts Γ in
       let closed2 : IsClosed S (bind_all xs cts Γ) = subst (IsClosed S) E c in
       let τ = onto xs vs σ in
       let counted : length xs ≡ count ts = h.2 ∙ sym (ap count_types T.2) ∙ count-erased ts in
-      let valued : length xs ≡ count_values vs = counted ∙ components_counts S (suc n) W σ σ by 0 ts vs V.2 in
+      let valued : length xs ≡ count_values vs = counted ∙ components_counts S (suc n) W σ σ by.types 0 ts vs V.2 in
       let agree : Agree N τ σ = agree_all S xs cts vs Γ σ closed2 in
       let inner : ComponentsOn A ts N 0 N = (subst (λ z. TypeOn A z N) T.1 f.over).0 in
       let stands : (y : Value) → StandsOn O [] N N (given symbol.Value y ∷ τ) σ = λ y.
       let same : (z : Symbol) → N z ≡ true → value_at (given symbol.Value y ∷ τ) z ≡ value_at σ z = λ z i. at_but τ symbol.Value z y (value_apart S Γ closed z i) ∙ agree z i in
       stands_agree O N N (given symbol.Value y ∷ τ) σ same same in
-      let new : Before 0 N = λ i le. no_position Δ Γ fits_in (suc i) in
-      let good = components_named law fit S is by σ τ N (agree_back N τ σ agree) xs ts vs counted 0 N inner [] N N σ new new stands refl refl (subst (HasComponentsOver A N) T.1 o) (have_values S xs cts vs Γ σ valued closed2) (suc n) W V.2 in
-      taken (arm_pattern (pattern_tuple xs)) b rest t (bind_all xs cts Γ) on (subst (λ z. RunsTo S by z b t) E runs) n W σ τ w ag (v_tuple vs) (f.is ∙ ap Some V.1) (zipped xs vs) (names_fit xs vs valued) agree (same_pairs S xs cts vs Γ σ closed2) (meets_all S law is by (suc n) (suc n) W (omega numbers) xs cts vs (count-components P.setting.scopes [] 0 xs ts) Γ σ closed2 m good)
+      let new : Before 0 N = λ j le. no_position Δ Γ fits_in (suc j) in
+      let good = components_named law fit S is by.types σ τ N (agree_back N τ σ agree) xs ts vs counted 0 N inner [] N N σ new new stands refl refl (subst (HasComponentsOver A N) T.1 o) (have_values S xs cts vs Γ σ valued closed2) (suc n) W V.2 in
+      taken (arm_pattern (pattern_tuple xs)) b rest t (bind_all xs cts Γ) on (subst (λ z. RunsTo S by z b t) E runs) n W σ τ w ag (v_tuple vs) (f.is ∙ ap Some V.1) (zipped xs vs) (names_fit xs vs valued) agree (same_pairs S xs cts vs Γ σ closed2) (meets_all S law is by (suc n) (suc n) W (omega numbers) xs cts vs (count-components P.setting.scopes [] 0 xs ts) Γ σ closed closed2 m good)
   first_runs (pattern_build j xs) h k d o c b rest t on runs n W σ w m ag =
-      absurd (no_datatype own _ h.1 (simple-is ∙ h.2) (ap is_datatype (sym use-is) ∙ d))
+      absurd (no_datatype own _ h.1 (simple-is ∙ h.2) d)

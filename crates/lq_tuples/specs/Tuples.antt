@@ -7,55 +7,60 @@ use Rattle.lq_model.specs.Core.{Core, Row, row, match_on, more_arms, Values, no_
 use Rattle.lq_model.specs.Operations.{World}
 use Rattle.lq_parts.specs.Assignment.{Assignment, parts_under}
 use Rattle.lq_tree.specs.MlType.{MlTypes}
-use Rattle.lq_refined.specs.Context.{Context, type_in}
-use Rattle.lq_refined.specs.Operations.{symbol_of}
+use Rattle.lq_refined.specs.Context.{Context}
 use Rattle.lq_refined.specs.Refined.{Refined, int_with, bool_with, unit_type, function, tuple_of, array_with, data_with, map_with, type_variable, Refineds, none, more, kind, top}
 use Rattle.lq_checks.specs.Basis.{Basis}
 use Rattle.lq_checks.specs.Fitting.{Fits}
 use Rattle.lq_checks.specs.Match.{is_data_match, in_arm}
-use Rattle.lq_checks.specs.Pure.{pure_types, pure_atom}
+use Rattle.lq_checks.specs.Pure.{pure_type, pure_types, pure_atom}
+use Rattle.lq_checks.specs.Pure as pures
 use Rattle.lq_checks.specs.Tree.{Use, Pure, Pattern}
-use Rattle.lq_checks.specs.Typing.{Points, Types, type_of_use, HavePures, HasPattern}
-use Rattle.lq_inhabits.specs.Truth.{Givens, Objects, Scene}
-use Rattle.lq_inhabits.specs.Shut.{shut_all, Shuts}
+use Rattle.lq_checks.specs.Typing.{Points, AreTemplates, Types, type_of_use, HavePures, HasPattern}
+use Rattle.lq_inhabits.specs.Truth.{Givens, Objects}
+use Rattle.lq_inhabits.specs.Shut.{shut_all}
 use Rattle.lq_inhabits.specs.Inhabits.{Table}
 use Rattle.lq_inhabits.specs.Runs.{RunsWell}
 use Rattle.lq_included.specs.Laws.{IsScene}
-use Rattle.lq_included.specs.Putting.{StandsFor}
 use Rattle.lq_included.specs.Symbols.{Symbols, TypeOn}
 use Rattle.lq_runs.specs.Closed.{names_in, with_value, EachSorted, IsClosed}
-use Rattle.lq_runs.specs.Meets.{pairs, Meets}
+use Rattle.lq_runs.specs.Meets.{pairs, Variables, Meets}
 use Rattle.lq_runs.specs.Runs.{Exactly, RunsTo}
 use Rattle.lq_fields.specs.Fields.{AllInhabit, with_term, with_flag}
 use Rattle.lq_pures.specs.Cores.{pure_cores, arm_pattern}
-use Rattle.lq_pures.specs.Pures.{KnowsLengths, scene_of, UseOver, PureOver}
-use Rattle.lq_calls.specs.Operands.{IsUsable, IsUsablePure}
+use Rattle.lq_pures.specs.Pures.{KnowsLengths, scene_of, EachUse, PureOver, MayUse, UseIn}
+use Rattle.lq_calls.specs.Operands.{HasAtom, IsUsable, IsUsablePure}
 
 -- each is over names of the environment and may be used as an operand
-abbrev pub AreUsable : Scene → Context → List Pure → Type 0
-AreUsable S Γ [] = Unit {0}
-AreUsable S Γ (e ∷ es) = PureOver (names_in Γ) e × IsUsablePure S Γ e × AreUsable S Γ es
+abbrev pub AreUsable : Basis → Assignment → Objects → Context → List Pure → Type 0
+AreUsable P A O Γ [] = Unit {0}
+AreUsable P A O Γ (e ∷ es) = PureOver P A Γ e × IsUsablePure P (scene_of P A O) Γ e × AreUsable P A O Γ es
+
+-- what is known of the names' values is enough for each use in them
+abbrev pub MayUseAll : Variables → List Pure → Type 0
+MayUseAll by [] = Unit {0}
+MayUseAll by (e ∷ es) = EachUse (MayUse by) e × MayUseAll by es
 
 -- the atoms of operands stand for these values
 abbrev pub OperandsStand : Basis → Context → Objects → Givens → List Pure → Values → Type 0
 OperandsStand P Γ O σ [] no_values = Unit {0}
 OperandsStand P Γ O σ [] (more_values v vs) = ⊥
 OperandsStand P Γ O σ (e ∷ es) no_values = ⊥
-OperandsStand P Γ O σ (e ∷ es) (more_values v vs) = StandsFor O σ (pure_atom P Γ e) v × OperandsStand P Γ O σ es vs
+OperandsStand P Γ O σ (e ∷ es) (more_values v vs) = HasAtom O σ (pure_type P Γ e) (pure_atom P Γ e) v × OperandsStand P Γ O σ es vs
 
 -- operands in a row run to values of their types, and the row to what it makes of these
 abbrev pub RowsRun : Type 0
 RowsRun =
-    (P : Basis) (A : Assignment) (O : Objects) → IsScene (scene_of P A O) → KnowsLengths O → (by : Shuts) (Q : Points) (Δ : Types) (Γ : Context)
-    → Fits Δ Γ → IsClosed (scene_of P A O) Γ → (es : List Pure) (us : MlTypes) → HavePures Q Δ es us → AreUsable (scene_of P A O) Γ es → (r : Row)
-    → (n : ℕ) (W : Table) (σ : Givens) → Meets (scene_of P A O) by (suc n) W Γ σ
-    → (vs : Values) × AllInhabit (scene_of P A O) (suc n) W (shut_all σ by (pure_types P Γ es)) vs × OperandsStand P Γ O σ es vs
+    (P : Basis) (A : Assignment) (O : Objects) → IsScene (scene_of P A O) → KnowsLengths O → (by : Variables) (Q : Points) → AreTemplates P Q
+    → (Δ : Types) (Γ : Context) → Fits Δ Γ → IsClosed (scene_of P A O) Γ → (es : List Pure) (us : MlTypes) → HavePures Q Δ es us
+    → AreUsable P A O Γ es → MayUseAll by es → (r : Row) → (n : ℕ) (W : Table) (σ : Givens) → Meets (scene_of P A O) by (suc n) W Γ σ
+    → (vs : Values) × AllInhabit (scene_of P A O) (suc n) W (shut_all σ by.types (pure_types P Γ es)) vs × OperandsStand P Γ O σ es vs
     × ((k : ℕ) (w : World) → RunsWell k (close (pairs σ) (row r (pure_cores es))) w (Exactly (row_value r vs) w))
 
 abbrev pub TuplesRun : Type 0
 TuplesRun =
-    (P : Basis) (A : Assignment) (O : Objects) → IsScene (scene_of P A O) → KnowsLengths O → (by : Shuts) (Q : Points) (Δ : Types) (Γ : Context)
-    → Fits Δ Γ → IsClosed (scene_of P A O) Γ → (es : List Pure) (us : MlTypes) → HavePures Q Δ es us → AreUsable (scene_of P A O) Γ es
+    (P : Basis) (A : Assignment) (O : Objects) → IsScene (scene_of P A O) → KnowsLengths O → (by : Variables) (Q : Points) → AreTemplates P Q
+    → (Δ : Types) (Γ : Context) → Fits Δ Γ → IsClosed (scene_of P A O) Γ → (es : List Pure) (us : MlTypes) → HavePures Q Δ es us
+    → AreUsable P A O Γ es → MayUseAll by es
     → RunsTo (scene_of P A O) by Γ (row core.tuple (pure_cores es)) (tuple_of (pure_types P Γ es))
 
 -- ---- matches
@@ -83,9 +88,9 @@ HasComponentsOver A P (type_variable i) = Unit {0}
 -- a match on a variable that is no datatype's runs to what its first arm runs to
 abbrev pub FirstArmRuns : Type 0
 FirstArmRuns =
-    (P : Basis) (A : Assignment) (O : Objects) → IsScene (scene_of P A O) → KnowsLengths O → (by : Shuts) (Q : Points) (Δ : Types) (Γ : Context)
-    → Fits Δ Γ → IsClosed (scene_of P A O) Γ → (l : Place) (u : Use) (q : Pattern) (b : Core) (rest : core.Arms) (Θ : Types) (t : Refined)
-    → UseOver (names_in Γ) u → IsUsable (scene_of P A O) Γ (type_in Γ (symbol_of u.name)) → HasPattern P Δ (type_of_use Q Δ u) q Θ
-    → is_data_match P Γ u ≡ false → HasComponentsOver A (names_in Γ) (type_in Γ (symbol_of u.name)) → IsClosed (scene_of P A O) (in_arm P Γ u q)
-    → TypeOn A t (names_in Γ) → RunsTo (scene_of P A O) by (in_arm P Γ u q) b t
+    (P : Basis) (A : Assignment) (O : Objects) → IsScene (scene_of P A O) → KnowsLengths O → (by : Variables) (Q : Points) → AreTemplates P Q
+    → (Δ : Types) (Γ : Context) → Fits Δ Γ → IsClosed (scene_of P A O) Γ → (l : Place) (u : Use) (q : Pattern) (b : Core) (rest : core.Arms)
+    (Θ : Types) (t : Refined) → UseIn P A by Γ u → IsUsable (scene_of P A O) Γ (pures.type_of_use P Γ u) → HasPattern P Δ (type_of_use Q Δ u) q Θ
+    → is_data_match P Γ u ≡ false → HasComponentsOver A (names_in Γ) (pures.type_of_use P Γ u)
+    → IsClosed (scene_of P A O) (in_arm P Γ u q) → TypeOn A t (names_in Γ) → RunsTo (scene_of P A O) by (in_arm P Γ u q) b t
     → RunsTo (scene_of P A O) by Γ (match_on l (core.use_of u.name) (more_arms (arm_pattern q) b rest)) t

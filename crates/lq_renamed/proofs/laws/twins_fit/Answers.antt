@@ -9,7 +9,7 @@ use Rattle.lq_renamed.proofs.laws.twins_fit.Goals as goal
 pub returns-clause-twins : goal.returns-clause-twins
 returns-clause-twins c = λ S is t P o a σ n by.
     let l = c.like_types_fit.ensures in
-    twin_both l.thin l.put c.datatypes_fit.ensures.datatypes S is by t P o.0 a σ n σ
+    twin_both l.thin l.put c.datatypes_fit.ensures.datatypes c.substitutions.ensures.under S is by t P o.0 a σ n σ
 
 pub returns-clause-applied : goal.returns-clause-applied
 returns-clause-applied c = λ S is t x a n v p σ u s k by.

@@ -41,12 +41,12 @@ returns-clause-functions c =
 pub returns-clause-recursions : goal.returns-clause-recursions
 returns-clause-recursions c =
     let law : Lower = record { valid = c.whole_numbers_are_a_point.ensures.valid; truth-by = c.truth_under_substitution.ensures; under-by = c.substitutions.ensures.under; smaller = c.inhabitants_stay.ensures.smaller; extended = c.inhabitants_stay.ensures.extended; stores = c.inhabitants_stay.ensures.stores; calls = c.numbers_below.ensures.calls; elements = c.numbers_below.ensures.elements; subtypes = c.subtypes_fit.ensures.subtypes; bound = c.subtypes_fit.ensures.bound; thin = c.like_types_fit.ensures.thin; put = c.like_types_fit.ensures.put; inside = c.parts_step.ensures.inside; wait = c.parts_step.ensures.wait; behind = c.closing.ensures.behind; one = c.closing.ensures.one; join = c.closing.ensures.together } in
-    λ S is by Γ f y b x t u r k o h g e v j rest. recursion_ok law S is by Γ f y b x t u r k o h g e v j rest
+    λ S is by Γ f y b x t u r cf k o h g e v j rest. recursion_ok law S is by Γ f y b x t u r cf k o h g e v j rest
 
 pub returns-clause-values : goal.returns-clause-values
-returns-clause-values c = λ S is by Γ f y b x t u r k o h g n W σ m.
+returns-clause-values c = λ S is by Γ f y b x t u r cf k o h g n W σ m.
     let law : Lower = record { valid = c.whole_numbers_are_a_point.ensures.valid; truth-by = c.truth_under_substitution.ensures; under-by = c.substitutions.ensures.under; smaller = c.inhabitants_stay.ensures.smaller; extended = c.inhabitants_stay.ensures.extended; stores = c.inhabitants_stay.ensures.stores; calls = c.numbers_below.ensures.calls; elements = c.numbers_below.ensures.elements; subtypes = c.subtypes_fit.ensures.subtypes; bound = c.subtypes_fit.ensures.bound; thin = c.like_types_fit.ensures.thin; put = c.like_types_fit.ensures.put; inside = c.parts_step.ensures.inside; wait = c.parts_step.ensures.wait; behind = c.closing.ensures.behind; one = c.closing.ensures.one; join = c.closing.ensures.together } in
-    recursion_calls law S is by Γ f y b x t u r k o h g n W σ m n (omega numbers)
+    recursion_calls law S is by Γ f y b x t u r cf k o h g n W σ m n (omega numbers)
 
 pub returns-clause-calls : goal.returns-clause-calls
 returns-clause-calls c =

@@ -8,7 +8,7 @@ returns-clause-conditions c = has_all
 
 pub returns-clause-safe : goal.returns-clause-safe
 returns-clause-safe c =
-    c.checks_are_safe.ensures example_basis no_instances objects_by_length has_all.0 has_all.1 example_points has_all.2 example_program has_all.3 has_all.4 has_all.5 has_all.6
+    c.checks_are_safe.ensures example_basis no_instances objects_by_length has_all.0 has_all.1 example_points has_all.2 example_program has_all.3 has_all.4 has_all.5
 
 -- on the input 100
 pub returns-clause-unguarded : goal.returns-clause-unguarded

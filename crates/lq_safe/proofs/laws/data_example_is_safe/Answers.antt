@@ -9,7 +9,7 @@ returns-clause-conditions c = has_all
 
 pub returns-clause-safe : goal.returns-clause-safe
 returns-clause-safe c =
-    c.checks_are_safe.ensures data_basis no_instances objects_by_size has_all.0 has_all.1 data_points has_all.2 data_program has_all.3 has_all.4 has_all.5 has_all.6
+    c.checks_are_safe.ensures data_basis no_instances objects_by_size has_all.0 has_all.1 data_points has_all.2 data_program has_all.3 has_all.4 has_all.5
 
 -- on every input
 pub returns-clause-incomplete : goal.returns-clause-incomplete

@@ -1,0 +1,4 @@
+pub mod Closing
+pub mod Instancing
+pub mod Padding
+pub mod Staying

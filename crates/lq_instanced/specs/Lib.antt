@@ -1,0 +1,3 @@
+-- Refined types for type variables: definitions.
+pub mod Instances
+pub mod Laws
