@@ -14,7 +14,7 @@ use Rattle.lq_sorts.specs.Shapes.{Shape, int, bool, array, data_of}
 use Rattle.lq_sorts.specs.Shapes as shape
 use Rattle.lq_tree.specs.Types.{Signature}
 use Rattle.lq_included.specs.Symbols.{Symbols, with_symbol, with_some, SumOn, FormulaOn, EachOn, InsideOn, TopOn, ArgumentsOn, ComponentsOn}
-use Rattle.lq_runs.specs.Closed.{SortedOn, EachSorted, PartsSorted}
+use Rattle.lq_runs.specs.Closed.{SortedOn, EachSorted, PartsSorted, with_value}
 use Rattle.lq_templates.specs.Scopes.{Unknown}
 use Rattle.lq_in_scope.specs.Laws.{TypesAreOver}
 use Rattle.lq_in_scope.specs.Over.{IsWithin, Names, AreSorted, SymbolOver, ScopeOver, scope_names, unknown_names, kind_of, of_any_sort, with_sort, with_argument, PartOver, PartsOver, TopOver, InsideOver, TypesOver, ComponentsOver}
@@ -128,7 +128,7 @@ module _ (N : Names) (θ : Subst) where
   stands_more M bool x h w = record { terms = h.terms; flags = flag_more M.flags x h.flags w }
   stands_more M array x h w = record { terms = term_more M.terms x h.terms w; flags = h.flags }
   stands_more M (data_of d) x h w = record { terms = term_more M.terms x h.terms w; flags = h.flags }
-  stands_more M shape.other x h w = record { terms = term_more M.terms x h.terms w; flags = h.flags }
+  stands_more M shape.other x h w = h
 
   stands_scope : (Γ : Scope) → ScopeOver N θ Γ → Stands N θ (scope_names Γ)
   stands_scope [] h = record { terms = λ x e. absurd (no e); flags = λ x e. absurd (no e) }
@@ -162,7 +162,7 @@ of_sort : (N : Names) (Q : Symbols) (k : Kind) (x : Symbol) → AreOf N Q → Ar
 of_sort N Q number x h = record { terms = wider N.terms Q x h.terms; flags = λ y e. within_one Q x y (h.flags y e) }
 of_sort N Q truth_value x h = record { terms = λ y e. within_one Q x y (h.terms y e); flags = wider N.flags Q x h.flags }
 of_sort N Q object x h = record { terms = wider N.terms Q x h.terms; flags = λ y e. within_one Q x y (h.flags y e) }
-of_sort N Q other x h = record { terms = wider N.terms Q x h.terms; flags = λ y e. within_one Q x y (h.flags y e) }
+of_sort N Q other x h = record { terms = λ y e. within_one Q x y (h.terms y e); flags = λ y e. within_one Q x y (h.flags y e) }
 
 of_argument : (N : Names) (Q : Symbols) (x : Option ℕ) (k : Kind) → AreOf N Q → AreOf (with_argument N x k) (with_some Q x)
 of_argument N Q None k h = h
@@ -206,7 +206,8 @@ module _ (g : Signature) (unknowns : ℕ → Unknown) (A : Assignment) (sorted :
   top_sorted N number ps h = parts_over unknowns A sorted (with_sort (of_any_sort N) number Value) ps h
   top_sorted N truth_value ps h = parts_over unknowns A sorted (with_sort (of_any_sort N) truth_value Value) ps h
   top_sorted N object ps h = parts_over unknowns A sorted (with_sort (of_any_sort N) object Value) ps h
-  top_sorted N other ps h = parts_over unknowns A sorted (with_sort (of_any_sort N) other Value) ps h
+  top_sorted N other ps h =
+      each_within N N (with_value N) N (within_one N Value) (λ y e. e) (parts_under A ps) (parts_over unknowns A sorted (of_any_sort N) ps h)
 
 pub types_over : TypesAreOver
 types_over g unknowns S sorted N t h =

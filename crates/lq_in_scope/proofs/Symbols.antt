@@ -49,7 +49,7 @@ pub within_sort : (N : Names) (k : Kind) (x : Symbol) → AreWithin N (with_sort
 within_sort N number x = record { terms = within_one N.terms x; flags = λ y h. h }
 within_sort N truth_value x = record { terms = λ y h. h; flags = within_one N.flags x }
 within_sort N object x = record { terms = within_one N.terms x; flags = λ y h. h }
-within_sort N other x = record { terms = within_one N.terms x; flags = λ y h. h }
+within_sort N other x = record { terms = λ y h. h; flags = λ y h. h }
 
 -- ---- scopes
 
@@ -65,14 +65,14 @@ in_sort N int x = own_one N.terms x
 in_sort N bool x = own_one N.flags x
 in_sort N array x = own_one N.terms x
 in_sort N (data_of d) x = own_one N.terms x
-in_sort N shape.other x = own_one N.terms x
+in_sort N shape.other x = tt
 
 pub in_within : (N M : Names) → AreWithin N M → (s : Shape) (x : Symbol) → IsIn N s x → IsIn M s x
 in_within N M w int x h = w.terms x h
 in_within N M w bool x h = w.flags x h
 in_within N M w array x h = w.terms x h
 in_within N M w (data_of d) x h = w.terms x h
-in_within N M w shape.other x h = w.terms x h
+in_within N M w shape.other x h = tt
 
 pub scope_within : (N M : Names) → AreWithin N M → (Γ : Scope) → ScopeIn N Γ → ScopeIn M Γ
 scope_within N M w [] h = tt
@@ -105,7 +105,7 @@ in_any N int x h = h
 in_any N bool x h = h
 in_any N array x h = h
 in_any N (data_of d) x h = h
-in_any N shape.other x h = h
+in_any N shape.other x h = tt
 
 -- a scope is of its own names
 pub own_names : (Γ : Scope) → ScopeIn (scope_names Γ) Γ

@@ -39,12 +39,12 @@ pub record AreWithin (N M : Names) : Type 0 where
   pub terms : IsWithin N.terms M.terms
   pub flags : IsWithin N.flags M.flags
 
--- one more, at the sort of its kind; of another kind it is a term
+-- one more, at the sort of its kind; no part speaks of one of another kind
 abbrev pub with_sort : Names → Kind → Symbol → Names
 with_sort N number x = record { terms = with_symbol N.terms x; flags = N.flags }
 with_sort N truth_value x = record { terms = N.terms; flags = with_symbol N.flags x }
 with_sort N object x = record { terms = with_symbol N.terms x; flags = N.flags }
-with_sort N other x = record { terms = with_symbol N.terms x; flags = N.flags }
+with_sort N other x = N
 
 -- with a function's name of its argument, where it has one
 abbrev pub with_argument : Names → Option ℕ → Kind → Names
@@ -60,13 +60,13 @@ kind_of array = object
 kind_of (data_of d) = object
 kind_of shape.other = other
 
--- what stands for a symbol of a shape is of these names
+-- what stands for a symbol of a shape is of these names; predicates speak of none of another shape
 abbrev pub SymbolOver : Names → Subst → Shape → Symbol → Type 0
 SymbolOver N θ int x = SumOn N.terms (sum_at θ x)
 SymbolOver N θ bool x = SortedOn N.terms N.flags (flag_at θ x)
 SymbolOver N θ array x = SumOn N.terms (sum_at θ x)
 SymbolOver N θ (data_of d) x = SumOn N.terms (sum_at θ x)
-SymbolOver N θ shape.other x = SumOn N.terms (sum_at θ x)
+SymbolOver N θ shape.other x = Unit {0}
 
 abbrev pub ScopeOver : Names → Subst → Scope → Type 0
 ScopeOver N θ [] = Unit {0}

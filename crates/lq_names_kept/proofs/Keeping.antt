@@ -7,21 +7,22 @@ use Rattle.lq_pred.specs.Sum.{Sum, var, same_symbol}
 use Rattle.lq_pred.specs.Formula.{Formula, flag}
 use Rattle.lq_parts.specs.Part.{known, Parts, Scopes}
 use Rattle.lq_parts.specs.Substitution.{Atom, of_sum, of_formula, swap, sum_at, flag_at}
-use Rattle.lq_refined.specs.Operations.{applied, atom_of, is_atom, renamed, self_by, self_type, symbol_of, twin, twins, twin_of, twin_binder}
+use Rattle.lq_refined.specs.Operations.{applied, atom_of, is_atom, renamed, self_by, self_type, symbol_of, twin, twins, twin_of}
 use Rattle.lq_refined.specs.Refined.{Refined, int_with, bool_with, unit_type, function, tuple_of, array_with, data_with, map_with, type_variable, Refineds, none, more, Kind, number, truth_value, object, other, kind, top, all_erased, with_top}
 use Rattle.lq_refined.proofs.Erasing.{twin-erased}
 use Rattle.lq_tree.specs.MlType as ml
 use Rattle.lq_tree.specs.Types.{Signature}
-use Rattle.lq_included.specs.Symbols.{with_symbol, SumOn}
+use Rattle.lq_included.specs.Symbols.{Symbols, with_symbol, SumOn}
 use Rattle.lq_runs.specs.Closed.{SortedOn}
 use Rattle.lq_templates.specs.Scopes.{Unknown, symbols_in}
-use Rattle.lq_in_scope.specs.Over.{Names, with_sort, with_argument, PartsOver, TopOver, InsideOver, TypesOver, ComponentsOver, TypeOver}
-use Rattle.lq_in_scope.proofs.Assigned.{or_cases, sorted_within, sum_within}
+use Rattle.lq_in_scope.specs.Over.{AreWithin, IsWithin, Names, of_any_sort, with_sort, with_argument, PartsOver, TopOver, InsideOver, TypesOver, ComponentsOver, TypeOver}
+use Rattle.lq_in_scope.proofs.Assigned.{or_cases, sorted_within, sum_within, wider}
 use Rattle.lq_in_scope.proofs.Made.{inside_with}
 use Rattle.lq_in_scope.proofs.Symbols.{own_one, within_one, within_sort}
 use Rattle.lq_names_kept.specs.Laws.{KeepNames}
-use Rattle.lq_names_kept.specs.Puts.{AtomOver, HasKind, Puts}
+use Rattle.lq_names_kept.specs.Puts.{AllNamesAway, AtomOver, HasKind, NamesAway, Puts}
 use Rattle.lq_names_kept.proofs.Putting.{cells_same, same_kind, type_more, type_put, within_both}
+use Rattle.lq_names_kept.proofs.Skipping.{NamesNot, Without, clash, not_twin, type_stays}
 
 -- ---- one thing for one name
 
@@ -87,7 +88,14 @@ module _ (N : Names) (x : Symbol) where
   put_one truth_value (of_formula p) h w = put_formula p h
   put_one object (of_sum t) h w = put_sum t h
   put_one object (of_formula p) h w = absurd w
-  put_one other (of_sum t) h w = put_sum t h
+  put_one other (of_sum t) h w =
+      let p = put_sum t h in
+      record {
+        terms = λ y e. p.terms y (within_one N.terms x y e);
+        flags = λ y e. p.flags y e;
+        any_term = λ y. p.any_term y;
+        any_flag = λ y. p.any_flag y;
+      }
   put_one other (of_formula p) h w = absurd w
 
 -- ---- types
@@ -102,31 +110,47 @@ module _ (g : Signature) (unknowns : ℕ → Unknown) (scopes : Scopes) (agree :
   applied_over N (Some x) k a h w t o =
       type_put g unknowns scopes agree N (with_sort N k (symbol_of x)) (swap (symbol_of x) a ∷ []) (put_one N (symbol_of x) k a h w) t o
 
-  -- a name as an atom of its kind
+  -- ---- other names
+
+  -- a name as an atom of its kind, of which predicates speak
+  abbrev IsSpoken : Kind → Type 0
+  IsSpoken number = Unit {0}
+  IsSpoken truth_value = Unit {0}
+  IsSpoken object = Unit {0}
+  IsSpoken other = ⊥
+
   named_kind : (k : Kind) (x : Symbol) → HasKind k (atom_of k x)
   named_kind number x = tt
   named_kind truth_value x = tt
   named_kind object x = tt
   named_kind other x = tt
 
-  named_over : (N : Names) (k : Kind) (x : Symbol) → AtomOver (with_sort N k x) (atom_of k x)
-  named_over N number x = own_one N.terms x
-  named_over N truth_value x = own_one N.flags x
-  named_over N object x = own_one N.terms x
-  named_over N other x = own_one N.terms x
+  named_over : (N : Names) (k : Kind) (x : Symbol) → IsSpoken k → AtomOver (with_sort N k x) (atom_of k x)
+  named_over N number x s = own_one N.terms x
+  named_over N truth_value x s = own_one N.flags x
+  named_over N object x s = own_one N.terms x
+  named_over N other x s = absurd s
 
-  renamed_over : (N : Names) (x : Option ℕ) (z : ℕ) (k : Kind) (t : Refined) → Over (with_argument N x k) t
-      → Over (with_argument N (Some z) k) (renamed scopes x (Some z) k t)
-  renamed_over N None z k t o = type_more g unknowns N (with_sort N k (symbol_of z)) (within_sort N k (symbol_of z)) t o
-  renamed_over N (Some x) z k t o = by (x == z) refl
+  renamed_over : (N : Names) (x z : ℕ) (k : Kind) → IsSpoken k → (t : Refined) → Over (with_sort N k (symbol_of x)) t
+      → Over (with_sort N k (symbol_of z)) (renamed scopes (Some x) (Some z) k t)
+  renamed_over N x z k s t o = by (x == z) refl
     where
       by : (b : Bool) → (x == z) ≡ b
           → Over (with_sort N k (symbol_of z)) (cond b t (applied scopes (Some x) (atom_of k (symbol_of z)) t))
       by true e = subst (λ (y : ℕ). Over (with_sort N k (symbol_of y)) t) (eqb-true x z e) o
       by false e =
-          applied_over (with_sort N k (symbol_of z)) (Some x) k (atom_of k (symbol_of z)) (named_over N k (symbol_of z)) (named_kind k (symbol_of z)) t
+          applied_over (with_sort N k (symbol_of z)) (Some x) k (atom_of k (symbol_of z)) (named_over N k (symbol_of z) s) (named_kind k (symbol_of z)) t
           (type_more g unknowns (with_sort N k (symbol_of x)) (with_sort (with_sort N k (symbol_of z)) k (symbol_of x))
           (within_both N (with_sort N k (symbol_of z)) (within_sort N k (symbol_of z)) k (symbol_of x)) t o)
+
+  -- a name of which nothing speaks
+  unspoken_over : (N : Names) (x z : ℕ) → Without x (var (symbol_of z)) N → (t : Refined) → NamesNot x t → Over N t
+      → Over N (renamed scopes (Some x) (Some z) other t)
+  unspoken_over N x z w t n o = by (x == z)
+    where
+      by : (b : Bool) → Over N (cond b t (applied scopes (Some x) (atom_of other (symbol_of z)) t))
+      by true = o
+      by false = type_stays x (var (symbol_of z)) g unknowns scopes agree N w t n o
 
   -- ---- the types of atoms
 
@@ -188,44 +212,79 @@ module _ (g : Signature) (unknowns : ℕ → Unknown) (scopes : Scopes) (agree :
       (subst (λ (qs : Parts). PartsOver unknowns (with_sort N (kind t) Value) qs) (sym (top_twin t)) h)
 
   -- a result with the twin of a function's name of its argument
-  twin_result : (N : Names) (x : Option ℕ) (k : Kind) (t : Refined) → Over (with_argument N x k) t
-      → Over (with_argument N (twin_binder x) k) (renamed scopes x (twin_binder x) k t)
-  twin_result N None k t o = o
-  twin_result N (Some x) k t o = renamed_over N (Some x) (twin_of x) k t o
+  twin_result : (N : Names) (x : ℕ) (k : Kind) (t : Refined) → (N.terms (symbol_of x) ≡ false) × (N.flags (symbol_of x) ≡ false) → NamesNot x t
+      → Over (with_sort N k (symbol_of x)) t → Over (with_sort N k (symbol_of (twin_of x))) (renamed scopes (Some x) (Some (twin_of x)) k t)
+  twin_result N x number t e n o = renamed_over N x (twin_of x) number tt t o
+  twin_result N x truth_value t e n o = renamed_over N x (twin_of x) truth_value tt t o
+  twin_result N x object t e n o = renamed_over N x (twin_of x) object tt t o
+  twin_result N x other t e n o = unspoken_over N x (twin_of x) (record { terms = e.0; flags = e.1 }) t n o
+
+  -- symbols that have the names don't lack one
+  none_there : (N Q : Symbols) → IsWithin N Q → (x : Symbol) → Q x ≡ false → N x ≡ false
+  none_there N Q w x h = by (N x) refl
+    where
+      by : (b : Bool) → N x ≡ b → b ≡ false
+      by true e = absurd (clash (Q x) (w x e) h)
+      by false e = refl
+
+  abbrev AreOf : Names → Symbols → Type 0
+  AreOf N Q = AreWithin N (of_any_sort Q)
+
+  more_of : (N : Names) (Q : Symbols) → AreOf N Q → (x : Symbol) → AreOf N (with_symbol Q x)
+  more_of N Q w x = record { terms = λ y e. within_one Q x y (w.terms y e); flags = λ y e. within_one Q x y (w.flags y e) }
+
+  one_of : (N : Names) (Q : Symbols) → AreOf N Q → (k : Kind) (x : Symbol) → AreOf (with_sort N k x) (with_symbol Q x)
+  one_of N Q w number x = record { terms = wider N.terms Q x w.terms; flags = λ y e. within_one Q x y (w.flags y e) }
+  one_of N Q w truth_value x = record { terms = λ y e. within_one Q x y (w.terms y e); flags = wider N.flags Q x w.flags }
+  one_of N Q w object x = record { terms = wider N.terms Q x w.terms; flags = λ y e. within_one Q x y (w.flags y e) }
+  one_of N Q w other x = more_of N Q w x
 
   mutual
-    twin_inside : (N : Names) (t : Refined) → InsideOver g unknowns N t → InsideOver g unknowns N (twin scopes t)
-    twin_inside N (int_with p) h = tt
-    twin_inside N (bool_with p) h = tt
-    twin_inside N unit_type h = tt
-    twin_inside N (function x a b) h =
-        let V : Names = with_argument N x (kind a) in
-        let r : Over (with_argument N (twin_binder x) (kind a)) (renamed scopes x (twin_binder x) (kind a) (twin scopes b)) =
-        twin_result N x (kind a) (twin scopes b) (twin_inside V b h.2, twin_top V b h.3) in
-        let z : Over (with_argument N (twin_binder x) (kind (twin scopes a))) (renamed scopes x (twin_binder x) (kind a) (twin scopes b)) =
-        subst (λ (k : Kind). Over (with_argument N (twin_binder x) k) (renamed scopes x (twin_binder x) (kind a) (twin scopes b))) (sym (kind_twin a)) r in
-        (twin_inside N a h.0, twin_top N a h.1, z.0, z.1)
-    twin_inside N (tuple_of ts) h = twin_components N N 0 ts h
-    twin_inside N (array_with e p) h = (twin_inside N e h.0, twin_top N e h.1)
-    twin_inside N (data_with d ts m p) h = (twin_types N ts h.0, cells_same g unknowns d ts (twins scopes ts) m (twins_erased ts) h.1)
-    twin_inside N (map_with e p) h = (twin_inside N e h.0, twin_top (with_sort N number (Position 0)) e h.1)
-    twin_inside N (type_variable i) h = tt
+    twin_inside : (N : Names) (Q : Symbols) → AreOf N Q → (t : Refined) → NamesAway Q t → InsideOver g unknowns N t
+        → InsideOver g unknowns N (twin scopes t)
+    twin_inside N Q w (int_with p) n h = tt
+    twin_inside N Q w (bool_with p) n h = tt
+    twin_inside N Q w unit_type n h = tt
+    twin_inside N Q w (function None a b) n h =
+        (twin_inside N Q w a n.0 h.0, twin_top N a h.1, twin_inside N Q w b n.1 h.2, twin_top N b h.3)
+    twin_inside N Q w (function (Some x) a b) n h =
+        let V : Names = with_sort N (kind a) (symbol_of x) in
+        let M = with_symbol Q (symbol_of x) in
+        let R = with_symbol M (symbol_of (twin_of x)) in
+        let v = more_of V M (one_of N Q w (kind a) (symbol_of x)) (symbol_of (twin_of x)) in
+        let q : R (symbol_of x) ≡ true = within_one M (symbol_of (twin_of x)) (symbol_of x) (own_one Q (symbol_of x)) in
+        let c : Refined = renamed scopes (Some x) (Some (twin_of x)) (kind a) (twin scopes b) in
+        let r : Over (with_sort N (kind a) (symbol_of (twin_of x))) c =
+        twin_result N x (kind a) (twin scopes b)
+        (none_there N.terms Q w.terms (symbol_of x) n.0, none_there N.flags Q w.flags (symbol_of x) n.0) (not_twin scopes x R q b n.3)
+        (twin_inside V R v b n.3 h.2, twin_top V b h.3) in
+        let z : Over (with_sort N (kind (twin scopes a)) (symbol_of (twin_of x))) c =
+        subst (λ (k : Kind). Over (with_sort N k (symbol_of (twin_of x))) c) (sym (kind_twin a)) r in
+        (twin_inside N Q w a n.2 h.0, twin_top N a h.1, z.0, z.1)
+    twin_inside N Q w (tuple_of ts) n h = twin_components N N Q w 0 ts n h
+    twin_inside N Q w (array_with e p) n h = (twin_inside N Q w e n h.0, twin_top N e h.1)
+    twin_inside N Q w (data_with d ts m p) n h =
+        (twin_types N Q w ts n h.0, cells_same g unknowns d ts (twins scopes ts) m (twins_erased ts) h.1)
+    twin_inside N Q w (map_with e p) n h = (twin_inside N Q w e n h.0, twin_top (with_sort N number (Position 0)) e h.1)
+    twin_inside N Q w (type_variable i) n h = tt
 
-    twin_types : (N : Names) (ts : Refineds) → TypesOver g unknowns N ts → TypesOver g unknowns N (twins scopes ts)
-    twin_types N none h = tt
-    twin_types N (more t ts) h = (twin_inside N t h.0, twin_top N t h.1, twin_types N ts h.2)
+    twin_types : (N : Names) (Q : Symbols) → AreOf N Q → (ts : Refineds) → AllNamesAway Q ts → TypesOver g unknowns N ts
+        → TypesOver g unknowns N (twins scopes ts)
+    twin_types N Q w none n h = tt
+    twin_types N Q w (more t ts) n h = (twin_inside N Q w t n.0 h.0, twin_top N t h.1, twin_types N Q w ts n.1 h.2)
 
-    twin_components : (N M : Names) (k : ℕ) (ts : Refineds) → ComponentsOver g unknowns N M k ts → ComponentsOver g unknowns N M k (twins scopes ts)
-    twin_components N M k none h = tt
-    twin_components N M k (more t ts) h = (
-      twin_inside N t h.0,
+    twin_components : (N M : Names) (Q : Symbols) → AreOf N Q → (k : ℕ) (ts : Refineds) → AllNamesAway Q ts → ComponentsOver g unknowns N M k ts
+        → ComponentsOver g unknowns N M k (twins scopes ts)
+    twin_components N M Q w k none n h = tt
+    twin_components N M Q w k (more t ts) n h = (
+      twin_inside N Q w t n.0 h.0,
       twin_top M t h.1,
       subst (λ (z : Kind). ComponentsOver g unknowns N (with_sort M z (Position (suc k))) (suc k) (twins scopes ts)) (sym (kind_twin t))
-          (twin_components N (with_sort M (kind t) (Position (suc k))) (suc k) ts h.2),
+          (twin_components N (with_sort M (kind t) (Position (suc k))) Q w (suc k) ts n.1 h.2),
     )
 
-  twin_over : (N : Names) (t : Refined) → Over N t → Over N (twin scopes t)
-  twin_over N t h = (twin_inside N t h.0, twin_top N t h.1)
+  twin_over : (N : Names) (Q : Symbols) → AreOf N Q → (t : Refined) → NamesAway Q t → Over N t → Over N (twin scopes t)
+  twin_over N Q w t n h = (twin_inside N Q w t n h.0, twin_top N t h.1)
 
   pub kept : KeepNames g unknowns scopes
   kept = record {
@@ -233,7 +292,6 @@ module _ (g : Signature) (unknowns : ℕ → Unknown) (scopes : Scopes) (agree :
     putting = λ N M θ p t h. type_put g unknowns scopes agree N M θ p t h;
     one = λ N x k a h w. put_one N x k a h w;
     applying = applied_over;
-    renaming = renamed_over;
     naming = self_over;
     twinning = twin_over;
   }

@@ -1,3 +1,4 @@
 -- Lemmas.
 mod Putting
+mod Skipping
 mod Keeping

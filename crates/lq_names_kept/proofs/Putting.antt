@@ -36,7 +36,7 @@ pub within_both : (N M : Names) → AreWithin N M → (k : Kind) (x : Symbol) �
 within_both N M w number x = record { terms = wider N.terms M.terms x w.terms; flags = w.flags }
 within_both N M w truth_value x = record { terms = w.terms; flags = wider N.flags M.flags x w.flags }
 within_both N M w object x = record { terms = wider N.terms M.terms x w.terms; flags = w.flags }
-within_both N M w other x = record { terms = wider N.terms M.terms x w.terms; flags = w.flags }
+within_both N M w other x = w
 
 pub within_argument : (N M : Names) → AreWithin N M → (x : Option ℕ) (k : Kind) → AreWithin (with_argument N x k) (with_argument M x k)
 within_argument N M w None k = w
@@ -83,13 +83,21 @@ module _ (N M : Names) (θ : Subst) (p : Puts N θ M) where
   puts_sort number x = with_term x
   puts_sort truth_value x = with_flag x
   puts_sort object x = with_term x
-  puts_sort other x = with_term x
+  puts_sort other x = p
 
   pub puts_argument : (x : Option ℕ) (k : Kind) → Puts (with_argument N x k) θ (with_argument M x k)
   puts_argument None k = p
   puts_argument (Some x) k = puts_sort k (symbol_of x)
 
 -- ---- parts
+
+-- what stands for the symbols of names
+pub record Stands (N : Names) (θ : Subst) (M : Names) : Type 0 where
+  pub terms : (x : Symbol) → M.terms x ≡ true → SumOn N.terms (sum_at θ x)
+  pub flags : (x : Symbol) → M.flags x ≡ true → SortedOn N.terms N.flags (flag_at θ x)
+
+pub stands_of : (N M : Names) (θ : Subst) → Puts N θ M → Stands N θ M
+stands_of N M θ p = record { terms = p.terms; flags = p.flags }
 
 -- what stands for a symbol of a scope, where one substitution is behind another
 abbrev left_of : Formula → Sum
@@ -103,7 +111,7 @@ sum_there xs θ σ x h =
 flag_there : (xs : List Symbol) (θ σ : Subst) (x : Symbol) → is_in xs x ≡ true → flag_at (restricted xs (after θ σ)) x ≡ formula_by θ (flag_at σ x)
 flag_there xs θ σ x h = formula-restricted xs (after θ σ) (flag x) h ∙ formula-after θ σ (flag x)
 
-module _ (N M : Names) (θ : Subst) (p : Puts N θ M) (xs : List Symbol) (σ : Subst) where
+module _ (N M : Names) (θ : Subst) (p : Stands N θ M) (xs : List Symbol) (σ : Subst) where
   term_put : (x : Symbol) → is_in xs x ≡ true → SumOn M.terms (sum_at σ x) → SumOn N.terms (sum_at (restricted xs (after θ σ)) x)
   term_put x h w = subst (λ (t : Sum). SumOn N.terms t) (sym (sum_there xs θ σ x h)) (sum_put M N θ p.terms p.flags (sum_at σ x) w)
 
@@ -113,7 +121,7 @@ module _ (N M : Names) (θ : Subst) (p : Puts N θ M) (xs : List Symbol) (σ : S
       subst (λ (q : Formula). SortedOn N.terms N.flags q) (sym (flag_there xs θ σ x h)) (formula_put M N θ p.terms p.flags (flag_at σ x) w)
   symbol_put array x h w = term_put x h w
   symbol_put (data_of d) x h w = term_put x h w
-  symbol_put shape.other x h w = term_put x h w
+  symbol_put shape.other x h w = tt
 
   scope_put : (Γ : Scope) → ((x : Symbol) → is_in (map (λ e. e.0) Γ) x ≡ true → is_in xs x ≡ true) → ScopeOver M σ Γ
       → ScopeOver N (restricted xs (after θ σ)) Γ
@@ -124,7 +132,7 @@ module _ (N M : Names) (θ : Subst) (p : Puts N θ M) (xs : List Symbol) (σ : S
   )
 
 module _ (unknowns : ℕ → Unknown) (scopes : Scopes) (agree : (u : ℕ) → scopes u ≡ symbols_in (unknowns u).0) where
-  part_put : (N M : Names) (θ : Subst) → Puts N θ M → (q : Part) → PartOver unknowns M q → PartOver unknowns N (part_by scopes θ q)
+  part_put : (N M : Names) (θ : Subst) → Stands N θ M → (q : Part) → PartOver unknowns M q → PartOver unknowns N (part_by scopes θ q)
   part_put N M θ p (known f) h = formula_put M N θ p.terms p.flags f h
   part_put N M θ p (unknown u σ) h =
       let s : Shape = (unknowns u).1 in
@@ -134,7 +142,7 @@ module _ (unknowns : ℕ → Unknown) (scopes : Scopes) (agree : (u : ℕ) → s
         scope_put N M θ p (symbols_in Γ) σ Γ (λ x k. or_right (same_symbol Value x) (is_in (map (λ e. e.0) Γ) x) k) h.1,
       )
 
-  pub parts_put : (N M : Names) (θ : Subst) → Puts N θ M → (qs : Parts) → PartsOver unknowns M qs → PartsOver unknowns N (parts_by scopes θ qs)
+  pub parts_put : (N M : Names) (θ : Subst) → Stands N θ M → (qs : Parts) → PartsOver unknowns M qs → PartsOver unknowns N (parts_by scopes θ qs)
   parts_put N M θ p [] h = tt
   parts_put N M θ p (q ∷ qs) h = (part_put N M θ p q h.0, parts_put N M θ p qs h.1)
 
@@ -145,7 +153,7 @@ module _ (unknowns : ℕ → Unknown) (N M : Names) (w : AreWithin N M) where
   symbol_more θ bool x h = sorted_within N.terms N.flags M.terms M.flags w.terms w.flags (flag_at θ x) h
   symbol_more θ array x h = sum_within N.terms M.terms w.terms (sum_at θ x) h
   symbol_more θ (data_of d) x h = sum_within N.terms M.terms w.terms (sum_at θ x) h
-  symbol_more θ shape.other x h = sum_within N.terms M.terms w.terms (sum_at θ x) h
+  symbol_more θ shape.other x h = tt
 
   scope_more : (θ : Subst) (Γ : Scope) → ScopeOver N θ Γ → ScopeOver M θ Γ
   scope_more θ [] h = tt
@@ -223,14 +231,14 @@ cells_same g unknowns d ts us (c ∷ m) e h = (
 -- ---- types with something put for names
 
 module _ (g : Signature) (unknowns : ℕ → Unknown) (scopes : Scopes) (agree : (u : ℕ) → scopes u ≡ symbols_in (unknowns u).0) where
-  types_by_erased : (θ : Subst) (ts : Refineds) → all_erased ts ≡ all_erased (types_by scopes θ ts)
+  pub types_by_erased : (θ : Subst) (ts : Refineds) → all_erased ts ≡ all_erased (types_by scopes θ ts)
   types_by_erased θ none = refl
   types_by_erased θ (more t ts) = ap₂ ml.more_types (sym (type_by-erased scopes θ t)) (types_by_erased θ ts)
 
-  kind_by : (θ : Subst) (t : Refined) → kind (type_by scopes θ t) ≡ kind t
+  pub kind_by : (θ : Subst) (t : Refined) → kind (type_by scopes θ t) ≡ kind t
   kind_by θ t = same_kind (type_by scopes θ t) t (type_by-erased scopes θ t)
 
-  top_by : (θ : Subst) (t : Refined) → top (type_by scopes θ t) ≡ parts_by scopes θ (top t)
+  pub top_by : (θ : Subst) (t : Refined) → top (type_by scopes θ t) ≡ parts_by scopes θ (top t)
   top_by θ (int_with p) = refl
   top_by θ (bool_with p) = refl
   top_by θ unit_type = refl
@@ -243,9 +251,11 @@ module _ (g : Signature) (unknowns : ℕ → Unknown) (scopes : Scopes) (agree :
 
   pub top_put : (N M : Names) (θ : Subst) → Puts N θ M → (t : Refined) → TopOver unknowns M t → TopOver unknowns N (type_by scopes θ t)
   top_put N M θ p t h =
+      let V = with_sort N (kind t) Value in
+      let W = with_sort M (kind t) Value in
       subst (λ (k : Kind). PartsOver unknowns (with_sort N k Value) (top (type_by scopes θ t))) (sym (kind_by θ t))
       (subst (λ (qs : Parts). PartsOver unknowns (with_sort N (kind t) Value) qs) (sym (top_by θ t))
-      (parts_put unknowns scopes agree (with_sort N (kind t) Value) (with_sort M (kind t) Value) θ (puts_sort N M θ p (kind t) Value) (top t) h))
+      (parts_put unknowns scopes agree V W θ (stands_of V W θ (puts_sort N M θ p (kind t) Value)) (top t) h))
 
   mutual
     pub inside_put : (N M : Names) (θ : Subst) → Puts N θ M → (t : Refined) → InsideOver g unknowns M t → InsideOver g unknowns N (type_by scopes θ t)

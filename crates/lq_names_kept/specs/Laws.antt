@@ -1,14 +1,15 @@
 -- What operations on types keep of the names of which types speak.
-use Rattle.std.specs.Prelude.{◌≡◌, ℕ, [], ◌∷◌, Option, Some}
+use Rattle.std.specs.Prelude.{◌≡◌, ℕ, [], ◌∷◌, Option}
 use Rattle.lq_pred.specs.declared.symbol.Symbol.{Symbol}
 use Rattle.lq_parts.specs.Part.{Scopes}
 use Rattle.lq_parts.specs.Substitution.{Atom, Subst, swap}
-use Rattle.lq_refined.specs.Operations.{applied, renamed, self_type, twin, type_by}
+use Rattle.lq_included.specs.Symbols.{Symbols}
+use Rattle.lq_refined.specs.Operations.{applied, self_type, twin, type_by}
 use Rattle.lq_refined.specs.Refined.{Kind, Refined}
 use Rattle.lq_templates.specs.Scopes.{Unknown, symbols_in}
 use Rattle.lq_tree.specs.Types.{Signature}
-use Rattle.lq_in_scope.specs.Over.{AreWithin, Names, TypeOver, with_argument, with_sort}
-use Rattle.lq_names_kept.specs.Puts.{AtomOver, HasKind, Puts}
+use Rattle.lq_in_scope.specs.Over.{AreWithin, Names, TypeOver, of_any_sort, with_argument, with_sort}
+use Rattle.lq_names_kept.specs.Puts.{AtomOver, HasKind, NamesAway, Puts}
 
 pub record KeepNames (constructors : Signature) (unknowns : ℕ → Unknown) (scopes : Scopes) : Type 0 where
   -- more names
@@ -21,13 +22,11 @@ pub record KeepNames (constructors : Signature) (unknowns : ℕ → Unknown) (sc
   -- an argument for a function's name of it
   pub applying : (N : Names) (x : Option ℕ) (k : Kind) (a : Atom) → AtomOver N a → HasKind k a → (t : Refined)
       → TypeOver constructors unknowns (with_argument N x k) t → TypeOver constructors unknowns N (applied scopes x a t)
-  -- another name for it
-  pub renaming : (N : Names) (x : Option ℕ) (z : ℕ) (k : Kind) (t : Refined) → TypeOver constructors unknowns (with_argument N x k) t
-      → TypeOver constructors unknowns (with_argument N (Some z) k) (renamed scopes x (Some z) k t)
   -- that the value is an atom's
   pub naming : (N : Names) (a : Atom) → AtomOver N a → (t : Refined) → TypeOver constructors unknowns N t → TypeOver constructors unknowns N (self_type t a)
-  -- twins for the names of arguments
-  pub twinning : (N : Names) (t : Refined) → TypeOver constructors unknowns N t → TypeOver constructors unknowns N (twin scopes t)
+  -- twins for the names of arguments, which are away from symbols that have these names
+  pub twinning : (N : Names) (Q : Symbols) → AreWithin N (of_any_sort Q) → (t : Refined) → NamesAway Q t → TypeOver constructors unknowns N t
+      → TypeOver constructors unknowns N (twin scopes t)
 
 -- where the scopes are those of the unknowns
 abbrev pub NamesAreKept : Type 0

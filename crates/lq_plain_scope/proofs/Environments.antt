@@ -1,9 +1,10 @@
 -- Templates and bodies' types over names, in an environment that binds these.
-use Rattle.std.proofs.Common.{◌≡◌, ℕ, Option, Some, None, refl}
+use Rattle.std.proofs.Common.{◌≡◌, ℕ, cond, Some, None, refl, sym, subst}
+use Rattle.std.proofs.lemmas.Bool.{eq-eqb}
 use Rattle.lq_pred.specs.declared.symbol.Symbol.{Symbol}
 use Rattle.lq_parts.specs.Assignment.{Assignment}
 use Rattle.lq_refined.specs.Context.{Context}
-use Rattle.lq_refined.specs.Operations.{renamed, symbol_of}
+use Rattle.lq_refined.specs.Operations.{applied, atom_of, renamed, symbol_of}
 use Rattle.lq_refined.specs.Refined.{Refined, int_with, bool_with, unit_type, function, tuple_of, array_with, data_with, map_with, type_variable, Kind, number, truth_value, object, other, kind, argument_of}
 use Rattle.lq_inhabits.specs.Truth.{Objects}
 use Rattle.lq_included.specs.Symbols.{Symbols, with_symbol, TypeOn}
@@ -15,7 +16,7 @@ use Rattle.lq_safe.specs.Scoped.{NamesArgument}
 use Rattle.lq_templates.specs.Scopes.{Unknown, symbols_in}
 use Rattle.lq_in_scope.specs.InScope.{NamesParameter}
 use Rattle.lq_in_scope.specs.Laws.{TypesAreOver}
-use Rattle.lq_in_scope.specs.Over.{AreSorted, AreWithin, IsWithin, TypeOver, of_any_sort, with_argument, with_sort}
+use Rattle.lq_in_scope.specs.Over.{AreSorted, AreWithin, IsWithin, TypeOver, of_any_sort, with_sort}
 use Rattle.lq_in_scope.proofs.Assigned.{wider}
 use Rattle.lq_in_scope.proofs.Symbols.{within_one}
 use Rattle.lq_names_kept.specs.Laws.{KeepNames, NamesAreKept}
@@ -29,7 +30,7 @@ sort_within : (N : Symbols) (k : Kind) (x : Symbol) → AreWithin (with_sort (of
 sort_within N number x = record { terms = λ y e. e; flags = within_one N x }
 sort_within N truth_value x = record { terms = within_one N x; flags = λ y e. e }
 sort_within N object x = record { terms = λ y e. e; flags = within_one N x }
-sort_within N other x = record { terms = λ y e. e; flags = within_one N x }
+sort_within N other x = record { terms = within_one N x; flags = within_one N x }
 
 -- widening asks for no more than scopes of the unknowns
 module _ (over : TypesAreOver) (kept : NamesAreKept) (P : Basis) (unknowns : ℕ → Unknown) (A : Assignment) (O : Objects) (sorted : AreSorted unknowns A) where
@@ -43,18 +44,25 @@ module _ (over : TypesAreOver) (kept : NamesAreKept) (P : Basis) (unknowns : ℕ
   type_over N M w t h = over P.setting.constructors unknowns (scene_of P A O) sorted M t (wide.widening (of_any_sort N) (of_any_sort M) (any_within N M w) t h)
 
   module _ (agree : (u : ℕ) → P.setting.scopes u ≡ symbols_in (unknowns u).0) (N : Symbols) (Γ : Context) (w : IsWithin N (names_in Γ)) (g y : ℕ) where
-    -- a result with the parameter's name for the name of its argument
-    body_over : (x : Option ℕ) (k : Kind) (b : Refined) → TypeOver P.setting.constructors unknowns (with_argument (of_any_sort N) x k) b
-        → TypeOn A (renamed P.setting.scopes x (Some y) k b) (with_symbol (with_symbol (names_in Γ) (symbol_of g)) (symbol_of y))
-    body_over x k b h =
-        let keep : KeepNames P.setting.constructors unknowns P.setting.scopes = kept P.setting.constructors unknowns P.setting.scopes agree in
-        let r : Refined = renamed P.setting.scopes x (Some y) k b in
-        let M : Symbols = with_symbol N (symbol_of y) in
-        let o : TypeOver P.setting.constructors unknowns (of_any_sort M) r =
-        keep.widening (with_sort (of_any_sort N) k (symbol_of y)) (of_any_sort M) (sort_within N k (symbol_of y)) r (keep.renaming (of_any_sort N) x y k b h) in
-        let v : IsWithin M (with_symbol (with_symbol (names_in Γ) (symbol_of g)) (symbol_of y)) =
-        wider N (with_symbol (names_in Γ) (symbol_of g)) (symbol_of y) (λ z e. within_one (names_in Γ) (symbol_of g) z (w z e)) in
-        (type_over M (with_symbol (with_symbol (names_in Γ) (symbol_of g)) (symbol_of y)) v r o).0
+    -- these with the function's own name and the parameter
+    abbrev Inner : Symbols
+    Inner = with_symbol (with_symbol (names_in Γ) (symbol_of g)) (symbol_of y)
+
+    inner_within : IsWithin (with_symbol N (symbol_of y)) Inner
+    inner_within = wider N (with_symbol (names_in Γ) (symbol_of g)) (symbol_of y) (λ z e. within_one (names_in Γ) (symbol_of g) z (w z e))
+
+    -- a result whose argument is named by the parameter, or not at all
+    unnamed_over : (b : Refined) → TypeOver P.setting.constructors unknowns (of_any_sort N) b → TypeOn A b Inner
+    unnamed_over b h = (type_over N Inner (λ z e. inner_within z (within_one N (symbol_of y) z e)) b h).0
+
+    named_over : (x : ℕ) → x ≡ y → (k : Kind) (b : Refined) → TypeOver P.setting.constructors unknowns (with_sort (of_any_sort N) k (symbol_of x)) b
+        → TypeOn A (renamed P.setting.scopes (Some x) (Some y) k b) Inner
+    named_over x e k b h =
+        let M = with_symbol N (symbol_of x) in
+        let o = wide.widening (with_sort (of_any_sort N) k (symbol_of x)) (of_any_sort M) (sort_within N k (symbol_of x)) b h in
+        let own = subst (λ z. TypeOver P.setting.constructors unknowns (of_any_sort (with_symbol N (symbol_of z))) b) e o in
+        subst (λ c. TypeOn A (cond c b (applied P.setting.scopes (Some x) (atom_of k (symbol_of y)) b)) Inner) (sym (eq-eqb x y e))
+        (type_over (with_symbol N (symbol_of y)) Inner inner_within b own).0
 
     -- of a function type
     record FunctionOver (t : Refined) : Type 0 where
@@ -67,13 +75,13 @@ module _ (over : TypesAreOver) (kept : NamesAreKept) (P : Basis) (unknowns : ℕ
         record {
           names = (type_over N (names_in Γ) w b (h.0.2, h.0.3)).0;
           argument = type_over N (with_symbol (names_in Γ) (symbol_of g)) (λ z e. within_one (names_in Γ) (symbol_of g) z (w z e)) a (h.0.0, h.0.1);
-          body = body_over None (kind a) b (h.0.2, h.0.3);
+          body = unnamed_over b (h.0.2, h.0.3);
         }
     function_over (function (Some x) a b) h n =
         record {
           names = n;
           argument = type_over N (with_symbol (names_in Γ) (symbol_of g)) (λ z e. within_one (names_in Γ) (symbol_of g) z (w z e)) a (h.0.0, h.0.1);
-          body = body_over (Some x) (kind a) b (h.0.2, h.0.3);
+          body = named_over x n (kind a) b (h.0.2, h.0.3);
         }
     function_over (int_with p) h n = absurd n
     function_over (bool_with p) h n = absurd n

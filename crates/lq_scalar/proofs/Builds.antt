@@ -13,12 +13,12 @@ use Rattle.lq_names_kept.specs.Laws.{KeepNames}
 use Rattle.lq_names_kept.specs.Puts.{HasKind}
 use Rattle.lq_parts.specs.Substitution.{Subst}
 use Rattle.lq_pred.specs.declared.symbol.Symbol.TheVariants.{Position, Value}
+use Rattle.lq_pures.specs.Pures.{IsOf}
 use Rattle.lq_refined.specs.Context.{Context}
-use Rattle.lq_refined.specs.Refined.{Matrix, Refined, Refineds, none, more, int_with, bool_with, unit_type, function, tuple_of, array_with, data_with, map_with, type_variable, Kind, object, kind, arguments_of, matrix_of, count, erased, all_erased}
+use Rattle.lq_refined.specs.Refined.{Matrix, Refined, Refineds, none, more, int_with, bool_with, unit_type, function, tuple_of, array_with, data_with, map_with, type_variable, object, kind, arguments_of, matrix_of, count, erased, all_erased}
 use Rattle.lq_refined.specs.Unfolding.{is_again, unfolded_from}
 use Rattle.lq_refined.proofs.Erasing.{unfolded-erased}
 use Rattle.lq_runs.specs.Closed.{names_in}
-use Rattle.lq_safe.specs.Programs.{PuresOver}
 use Rattle.lq_sorts.specs.Shapes.{shape_of}
 use Rattle.lq_subtype.specs.Subtype.{fields_of}
 use Rattle.lq_templates.specs.Scopes.{Unknown, symbols_in}
@@ -27,39 +27,39 @@ use Rattle.lq_tree.specs.MlType.{MlType, MlTypes}
 use Rattle.lq_tree.specs.Types as types
 use Rattle.lq_tree.specs.Types.{Constructor, count_types, put}
 use Rattle.lq_scalar.specs.Data.{AreEquationsSorted}
-use Rattle.lq_scalar.specs.Scalar.{Arities, AreScalarDatatypes, AreScalarFields}
-use Rattle.lq_scalar.specs.Written.{IsNameless}
+use Rattle.lq_scalar.specs.Written.{EachUseIn, IsNameless, LackEntries}
+use Rattle.lq_scalar.proofs.NameKinds.{Naming}
 use Rattle.lq_scalar.proofs.Contexts as contexts
 use Rattle.lq_scalar.proofs.Datatypes.{equations_over, fields_more, no_field}
 use Rattle.lq_scalar.proofs.Fields.{AreNameless, cells_same, field_nameless, field_over}
 use Rattle.lq_scalar.proofs.Fine.{atom_over, own_has}
 use Rattle.lq_scalar.proofs.Standing.{FieldsOver, ValueOver, fields_later, fields_scope, symbol_first, value_later, where_of}
 use Rattle.lq_scalar.proofs.Types.{apart_nameless}
+use Rattle.lq_scalar.proofs.Uses.{PuresOf, names_of_pures}
 
 -- ---- arguments without values
 
-module _ (U : Arities) where
-  empty_nameless : (t : Refined) → IsNameless U t → IsNameless U (empty_type t)
-  empty_nameless (int_with p) h = h
-  empty_nameless (bool_with p) h = h
-  empty_nameless unit_type h = h
-  empty_nameless (function x a b) h = h
-  empty_nameless (tuple_of ts) h = h
-  empty_nameless (array_with e p) h = h
-  empty_nameless (data_with d ts m p) h = h
-  empty_nameless (map_with e p) h = h
-  empty_nameless (type_variable i) h = h
+empty_nameless : (t : Refined) → IsNameless t → IsNameless (empty_type t)
+empty_nameless (int_with p) h = h
+empty_nameless (bool_with p) h = h
+empty_nameless unit_type h = h
+empty_nameless (function x a b) h = h
+empty_nameless (tuple_of ts) h = h
+empty_nameless (array_with e p) h = h
+empty_nameless (data_with d ts m p) h = h
+empty_nameless (map_with e p) h = h
+empty_nameless (type_variable i) h = h
 
-  all_empty_nameless : (ts : Refineds) → AreNameless U ts → AreNameless U (empty_types ts)
-  all_empty_nameless none h = (tt, tt)
-  all_empty_nameless (more t ts) h =
-      let x = empty_nameless t (h.0.0, h.1.0) in
-      let y = all_empty_nameless ts (h.0.1, h.1.1) in
-      ((x.0, y.0), (x.1, y.1))
+all_empty_nameless : (ts : Refineds) → AreNameless ts → AreNameless (empty_types ts)
+all_empty_nameless none h = (tt, tt)
+all_empty_nameless (more t ts) h =
+    let x = empty_nameless t (h.0.0, h.1.0) in
+    let y = all_empty_nameless ts (h.0.1, h.1.1) in
+    ((x.0, y.0), (x.1, y.1))
 
-  built_nameless : (es : List Pure) (ts : Refineds) → AreNameless U ts → AreNameless U (built_arguments es ts)
-  built_nameless [] ts h = all_empty_nameless ts h
-  built_nameless (e ∷ es) ts h = h
+built_nameless : (es : List Pure) (ts : Refineds) → AreNameless ts → AreNameless (built_arguments es ts)
+built_nameless [] ts h = all_empty_nameless ts h
+built_nameless (e ∷ es) ts h = h
 
 empty_erased : (t : Refined) → erased t ≡ erased (empty_type t)
 empty_erased (int_with p) = refl
@@ -100,7 +100,8 @@ module _ (P : Basis) (unknowns : ℕ → Unknown) where
   empty_over N (map_with e p) h = h
   empty_over N (type_variable i) h = h
 
-  all_empty_over : (N : Names) (ts : Refineds) → TypesOver P.setting.constructors unknowns N ts → TypesOver P.setting.constructors unknowns N (empty_types ts)
+  all_empty_over : (N : Names) (ts : Refineds) → TypesOver P.setting.constructors unknowns N ts
+      → TypesOver P.setting.constructors unknowns N (empty_types ts)
   all_empty_over N none h = tt
   all_empty_over N (more t ts) h = let x = empty_over N t (h.0, h.1) in (x.0, x.1, all_empty_over N ts h.2)
 
@@ -134,7 +135,8 @@ module _ (P : Basis) (Γ : Context) where
       (own_kind (pure_type P Γ e) ∙ ap (λ (a : MlType). kind_of (shape_of a)) same, each_kind θ d ts m c (suc j) es fs one h.1)
 
   -- what stands for the fields are the operands
-  operands_over : (skip : MlType → Bool) (N : Symbols) (us : MlTypes) (j : ℕ) (es : List Pure) (fs : MlTypes) → EachKind us es fs → PuresOver N es
+  operands_over : (skip : MlType → Bool) (N : Symbols) (us : MlTypes) (j : ℕ) (es : List Pure) (fs : MlTypes) → EachKind us es fs
+      → EachUseIn (IsOf N) es
       → FieldsOver skip (of_any_sort N) us (operands_for P Γ j es) j fs
   operands_over skip N us j [] ml.no_types k o = tt
   operands_over skip N us j [] (ml.more_types f fs) k o = absurd k
@@ -154,10 +156,10 @@ module _ (P : Basis) (Γ : Context) where
 
 -- ---- constructors
 
-module _ (P : Basis) (unknowns : ℕ → Unknown) (keep : KeepNames P.setting.constructors unknowns P.setting.scopes) (m : ℕ → Kind) (U : Arities)
+module _ (P : Basis) (unknowns : ℕ → Unknown) (keep : KeepNames P.setting.constructors unknowns P.setting.scopes) (m : Naming)
     (agree : (u : ℕ) → P.setting.scopes u ≡ symbols_in (unknowns u).0) where
   abbrev Fine : Symbols → Refined → Type 0
-  Fine = contexts.IsFine P unknowns keep m U
+  Fine = contexts.IsFine P unknowns keep m
 
   abbrev Over : Symbols → Refined → Type 0
   Over N t = TypeOver P.setting.constructors unknowns (of_any_sort N) t
@@ -165,20 +167,21 @@ module _ (P : Basis) (unknowns : ℕ → Unknown) (keep : KeepNames P.setting.co
   -- types without names of arguments, over these names
   abbrev pub AreFields : Symbols → Refineds → Type 0
   AreFields N none = Unit {0}
-  AreFields N (more t ts) = (IsNameless U t × Over N t) × AreFields N ts
+  AreFields N (more t ts) = (IsNameless t × Over N t) × AreFields N ts
 
-  fields_fine : (N : Symbols) (θ : Subst) → ValueOver (of_any_sort N) θ → (d : ℕ) (ts : Refineds) (M : Matrix) (c : ℕ) → U d ≡ Some (count ts)
-      → AreNameless U ts → TypesOver P.setting.constructors unknowns (of_any_sort N) ts → CellsOver P.setting.constructors unknowns d ts M
-      → FieldsOver (is_again d (count_types (all_erased ts))) (of_any_sort N) (all_erased ts) θ 0 (fields_of (P.setting.constructors c)) → (n j : ℕ)
-      (fs : MlTypes) → AreScalarFields U n fs → AreFields N (unfolded_from P.setting.scopes θ d ts M c j fs)
-  fields_fine N θ v d ts M c u a h cells w n j ml.no_types s = tt
-  fields_fine N θ v d ts M c u a h cells w n j (ml.more_types f fs) s = (
+  fields_fine : (N : Symbols) (θ : Subst) → ValueOver (of_any_sort N) θ → (d : ℕ) (ts : Refineds) (M : Matrix) (c : ℕ)
+      → AreNameless ts → LackEntries M 0 (all_erased ts) → TypesOver P.setting.constructors unknowns (of_any_sort N) ts
+      → CellsOver P.setting.constructors unknowns d ts M
+      → FieldsOver (is_again d (count_types (all_erased ts))) (of_any_sort N) (all_erased ts) θ 0 (fields_of (P.setting.constructors c)) → (j : ℕ)
+      (fs : MlTypes) → AreFields N (unfolded_from P.setting.scopes θ d ts M c j fs)
+  fields_fine N θ v d ts M c a lack h cells w j ml.no_types = tt
+  fields_fine N θ v d ts M c a lack h cells w j (ml.more_types f fs) = (
     (
-      field_nameless U P.setting.scopes θ M c j d n ts u a f s.0 (is_again d (count ts) f),
+      field_nameless P.setting.scopes θ M c j d ts a lack f (is_again d (count ts) f),
       field_over P.setting.constructors unknowns P.setting.scopes agree keep (of_any_sort N) θ M c j v d ts cells h f (is_again d (count ts) f)
           (λ e. fields_scope (of_any_sort N) d (all_erased ts) θ 0 (fields_of (P.setting.constructors c)) [] w tt),
     ),
-    fields_fine N θ v d ts M c u a h cells w n (suc j) fs s.1,
+    fields_fine N θ v d ts M c a lack h cells w (suc j) fs,
   )
 
   -- the value of a constructor of a template, and what its operands are to have
@@ -194,26 +197,26 @@ module _ (P : Basis) (unknowns : ℕ → Unknown) (keep : KeepNames P.setting.co
   number_in (ml.named d us) = d
   number_in _ = 0
 
-  pub built_fine : AreScalarDatatypes U P.setting.constructors → AreEquationsSorted P → (Γ : Context) (c : ℕ) (es : List Pure) (k : Constructor)
-      (us : MlTypes) (t : Refined) → P.setting.constructors c ≡ Some k → erased t ≡ ml.named k.datatype us → IsNameless U t → Over (names_in Γ) t
-      → length es ≡ count_types k.fields → PuresOver (names_in Γ) es → SameTypes P Γ es (FieldsBy Γ c es t)
+  pub built_fine : AreEquationsSorted P → (Γ : Context) (c : ℕ) (es : List Pure) (k : Constructor)
+      (us : MlTypes) (t : Refined) → P.setting.constructors c ≡ Some k → erased t ≡ ml.named k.datatype us → IsNameless t → Over (names_in Γ) t
+      → length es ≡ count_types k.fields → PuresOf P unknowns keep m (names_in Γ) es → SameTypes P Γ es (FieldsBy Γ c es t)
       → Fine (names_in Γ) (BuiltBy Γ c es t) × AreFields (names_in Γ) (FieldsBy Γ c es t)
-  built_fine scalar equations Γ c es k us (data_with d ts M p) e g w h l o same =
+  built_fine equations Γ c es k us (data_with d ts M p) e g w h l o same =
       let N = names_in Γ in
       let θ = operands_for P Γ 0 es in
       let fs = fields_of (P.setting.constructors c) in
       let is : fs ≡ k.fields = ap fields_of e in
-      let u : U k.datatype ≡ Some (count ts) = ap U (sym (ap number_in g)) ∙ w.0.0 in
-      let fields = subst (λ (gs : MlTypes). AreScalarFields U (count ts) gs) (sym is) (scalar c k (count ts) e u).0 in
       let kinds = each_kind P Γ θ d ts M c 0 es fs (l ∙ ap count_types (sym is)) same in
       let v = value_operands P Γ N 0 es in
-      let a : AreNameless U ts = (w.0.1, w.0.2) in
-      let stand = operands_over P Γ (is_again d (count_types (all_erased ts))) N (all_erased ts) 0 es fs kinds o in
-      let all = operands_over P Γ no_field N (all_erased ts) 0 es fs kinds o in
+      let named = names_of_pures P unknowns keep m N es o in
+      let a : AreNameless ts = (w.0.0, w.0.1) in
+      let stand = operands_over P Γ (is_again d (count_types (all_erased ts))) N (all_erased ts) 0 es fs kinds named in
+      let all = operands_over P Γ no_field N (all_erased ts) 0 es fs kinds named in
       let V = with_sort (of_any_sort N) object Value in
       let more = fields_more no_field (of_any_sort N) V (within_sort (of_any_sort N) object Value) (all_erased ts) θ 0 fs all in
-      let own = built_nameless U es ts a in
-      let b : IsNameless U (BuiltBy Γ c es (data_with d ts M p)) = ((w.0.0 ∙ ap Some (count_built es ts), own.0, own.1), own.1) in (
+      let own = built_nameless es ts a in
+      let lack = subst (λ (vs : MlTypes). LackEntries M 0 vs) (built_erased es ts) w.0.2 in
+      let b : IsNameless (BuiltBy Γ c es (data_with d ts M p)) = ((own.0, own.1, lack), own.1) in (
         record {
           scalar = b.0;
           over = (
@@ -224,16 +227,16 @@ module _ (P : Basis) (unknowns : ℕ → Unknown) (keep : KeepNames P.setting.co
             equations_over unknowns V (all_erased ts) θ k.fields v.0
                 (subst (λ (gs : MlTypes). FieldsOver no_field V (all_erased ts) θ 0 gs) is more) (P.equations c) (equations c k e),
           );
-          apart = apart_nameless U N (BuiltBy Γ c es (data_with d ts M p)) b.0 b.1;
+          apart = apart_nameless N (BuiltBy Γ c es (data_with d ts M p)) b.0 b.1;
           named = tt;
         },
-        fields_fine N θ v d ts M c w.0.0 a h.0.0 h.0.1 stand (count ts) 0 fs fields,
+        fields_fine N θ v d ts M c a w.0.2 h.0.0 h.0.1 stand 0 fs,
       )
-  built_fine scalar equations Γ c es k us (int_with p) e g w h l o same = cc
-  built_fine scalar equations Γ c es k us (bool_with p) e g w h l o same = cc
-  built_fine scalar equations Γ c es k us unit_type e g w h l o same = cc
-  built_fine scalar equations Γ c es k us (function x a b) e g w h l o same = cc
-  built_fine scalar equations Γ c es k us (tuple_of ts) e g w h l o same = cc
-  built_fine scalar equations Γ c es k us (array_with i p) e g w h l o same = cc
-  built_fine scalar equations Γ c es k us (map_with i p) e g w h l o same = cc
-  built_fine scalar equations Γ c es k us (type_variable i) e g w h l o same = cc
+  built_fine equations Γ c es k us (int_with p) e g w h l o same = cc
+  built_fine equations Γ c es k us (bool_with p) e g w h l o same = cc
+  built_fine equations Γ c es k us unit_type e g w h l o same = cc
+  built_fine equations Γ c es k us (function x a b) e g w h l o same = cc
+  built_fine equations Γ c es k us (tuple_of ts) e g w h l o same = cc
+  built_fine equations Γ c es k us (array_with i p) e g w h l o same = cc
+  built_fine equations Γ c es k us (map_with i p) e g w h l o same = cc
+  built_fine equations Γ c es k us (type_variable i) e g w h l o same = cc

@@ -14,7 +14,7 @@ use Rattle.lq_in_scope.proofs.Assigned.{each_within, or_cases, parts_over, sorte
 use Rattle.lq_in_scope.proofs.Symbols.{own_one, within_one}
 use Rattle.lq_inhabits.specs.Truth.{Objects, Scene}
 use Rattle.lq_names_kept.specs.Laws.{KeepNames}
-use Rattle.lq_names_kept.specs.Puts.{Puts}
+use Rattle.lq_names_kept.specs.Puts.{AllNamesAway, NamesAway, Puts}
 use Rattle.lq_parts.specs.Assignment.{Assignment, parts_under}
 use Rattle.lq_parts.specs.Part.{Parts, parts_by}
 use Rattle.lq_parts.specs.Substitution.{of_sum, of_formula, swap, Subst, sum_at, flag_at}
@@ -26,17 +26,16 @@ use Rattle.lq_pures.specs.Pures.{scene_of}
 use Rattle.lq_refined.specs.Context.{Context}
 use Rattle.lq_refined.specs.Operations.{atom_of, symbol_of}
 use Rattle.lq_refined.specs.Refined.{Refined, Refineds, int_with, bool_with, unit_type, function, tuple_of, array_with, data_with, map_with, type_variable, none, more, Kind, number, truth_value, object, other, kind, top, with_top}
-use Rattle.lq_renamed.specs.Names.{AllNamesApart, NamesApart}
 use Rattle.lq_runs.specs.Closed.{names_in, with_value, IsClosed, SortedOn}
-use Rattle.lq_runs.proofs.Closing.{with_within}
+use Rattle.lq_runs.proofs.Closing.{closed_bind, with_within}
 use Rattle.lq_subtype.specs.Splitting.{first_of, rest_of}
 use Rattle.lq_templates.specs.Scopes.{Unknown}
 use Rattle.lq_tuples.specs.Tuples.{AreComponentsOver}
-use Rattle.lq_scalar.specs.Scalar.{Arities, HaveTwins}
+use Rattle.lq_scalar.specs.Scalar.{HaveTwins}
 use Rattle.lq_scalar.specs.Written.{AreScalar, IsScalar}
 use Rattle.lq_scalar.proofs.Contexts as contexts
 use Rattle.lq_scalar.proofs.Contexts.{good_bind, inside_wide, type_over, wide}
-use Rattle.lq_scalar.proofs.NameKinds.{Agree, component_kinds}
+use Rattle.lq_scalar.proofs.NameKinds.{Agree, IsBound, component_kinds, name_kind, Naming}
 use Rattle.lq_scalar.proofs.Types.{AreNamed, IsNamed, apart_nameless}
 
 -- ---- names
@@ -126,13 +125,20 @@ module _ (N : Symbols) (M : Names) (θ : Subst) (p : Puts (of_any_sort N) θ M) 
   with_name number = with_sum
   with_name truth_value = with_formula
   with_name object = with_sum
-  with_name other = with_sum
+  with_name other =
+      let q = with_sum in
+      record {
+        terms = λ y h. q.terms y (within_one M.terms z y h);
+        flags = λ y h. q.flags y h;
+        any_term = λ y. q.any_term y;
+        any_flag = λ y. q.any_flag y;
+      }
 
 -- nothing is put
 nothing_put : (N T : Symbols) → IsWithin T N → Puts (of_any_sort N) [] (of_any_sort T)
 nothing_put N T w = record { terms = λ y h. w y h; flags = λ y h. w y h; any_term = λ y. own_one N y; any_flag = λ y. own_one N y }
 
-kind_topped : (q : Parts) (t : Refined) → kind (with_top q t) ≡ kind t
+kind_topped : (q : Parts) (t : Refined) → name_kind (with_top q t) ≡ name_kind t
 kind_topped q (int_with p) = refl
 kind_topped q (bool_with p) = refl
 kind_topped q unit_type = refl
@@ -148,7 +154,7 @@ more_terms : (M : Names) (k : Kind) (x : Symbol) (T : Symbols) → IsWithin M.te
 more_terms M number x T w = wider M.terms T x w
 more_terms M truth_value x T w = w
 more_terms M object x T w = wider M.terms T x w
-more_terms M other x T w = wider M.terms T x w
+more_terms M other x T w = λ y h. within_one T x y (w y h)
 
 more_flags : (M : Names) (k : Kind) (x : Symbol) (F : Symbols) → IsWithin M.flags F → IsWithin (with_sort M k x).flags (with_flag k F x)
 more_flags M number x F w = w
@@ -170,14 +176,14 @@ flag_symbol other F x y h = within_one F x y h
 
 -- ---- components
 
-module _ (P : Basis) (unknowns : ℕ → Unknown) (keep : KeepNames P.setting.constructors unknowns P.setting.scopes) (m : ℕ → Kind)
-    (U : Arities) (laws : TypesAreOver) (A : Assignment) (O : Objects)
+module _ (P : Basis) (unknowns : ℕ → Unknown) (keep : KeepNames P.setting.constructors unknowns P.setting.scopes) (m : Naming)
+    (laws : TypesAreOver) (A : Assignment) (O : Objects)
     (sorted : AreSorted unknowns A) where
   abbrev Good : Context → Type 0
-  Good = contexts.IsGood P unknowns keep m U
+  Good = contexts.IsGood P unknowns keep m
 
   abbrev Known : Symbols → Refined → Type 0
-  Known = contexts.IsKnown P unknowns keep m U
+  Known = contexts.IsKnown P unknowns keep m
 
   abbrev S : Scene
   S = scene_of P A O
@@ -185,11 +191,11 @@ module _ (P : Basis) (unknowns : ℕ → Unknown) (keep : KeepNames P.setting.co
   -- components of scalar types behind the first j: inside over the first symbols, their tops over the second names
   abbrev AreFine : Symbols → Names → ℕ → Refineds → Type 0
   AreFine own M j ts =
-      AreScalar U ts × AllNamesApart own ts × AreNamed U m ts × over.ComponentsOver P.setting.constructors unknowns (of_any_sort own) M j ts
+      AreScalar ts × AllNamesAway own ts × AreNamed m ts × over.ComponentsOver P.setting.constructors unknowns (of_any_sort own) M j ts
 
   abbrev IsFineFirst : Symbols → Names → Refined → Type 0
   IsFineFirst own M t =
-      IsScalar U t × NamesApart own t × IsNamed U m t × over.InsideOver P.setting.constructors unknowns (of_any_sort own) t × over.TopOver unknowns M t
+      IsScalar t × NamesAway own t × IsNamed m t × over.InsideOver P.setting.constructors unknowns (of_any_sort own) t × over.TopOver unknowns M t
 
   first_fine : (own : Symbols) (M : Names) (j : ℕ) (ts : Refineds) → AreFine own M j ts → IsFineFirst own M (first_of ts)
   first_fine own M j none h = (tt, tt, tt, tt, tt)
@@ -214,25 +220,30 @@ module _ (P : Basis) (unknowns : ℕ → Unknown) (keep : KeepNames P.setting.co
       record { scalar = h.0; own = own; within = w; over = (h.3, tt); apart = h.1; named = h.2 }
   component_known N own w M θ p (array_with e q) h =
       let o = keep.putting (of_any_sort N) M θ p (array_with unit_type q) ((tt, tt), h.4) in
-      let i = inside_wide P unknowns keep m U (of_any_sort own) (of_any_sort N) (record { terms = w; flags = w }) (array_with e q) h.3 in
-      record { scalar = h.0; own = N; within = λ y k. k; over = (i, o.1); apart = apart_nameless U N e h.0.0 h.0.1; named = tt }
+      let i = inside_wide P unknowns keep m (of_any_sort own) (of_any_sort N) (record { terms = w; flags = w }) (array_with e q) h.3 in
+      record { scalar = h.0; own = N; within = λ y k. k; over = (i, o.1); apart = apart_nameless N e h.0.0 h.0.1; named = tt }
   component_known N own w M θ p (data_with d ts n q) h =
       let o = keep.putting (of_any_sort N) M θ p (array_with unit_type q) ((tt, tt), h.4) in
-      let i = inside_wide P unknowns keep m U (of_any_sort own) (of_any_sort N) (record { terms = w; flags = w }) (data_with d ts n q) h.3 in
-      record { scalar = h.0; own = N; within = λ y k. k; over = (i, o.1); apart = apart_nameless U N (data_with d ts n q) h.0 h.0.2; named = tt }
-  component_known N own w M θ p (map_with e q) h = absurd h.0
-  component_known N own w M θ p (type_variable i) h = absurd h.0
+      let i = inside_wide P unknowns keep m (of_any_sort own) (of_any_sort N) (record { terms = w; flags = w }) (data_with d ts n q) h.3 in
+      record { scalar = h.0; own = N; within = λ y k. k; over = (i, o.1); apart = apart_nameless N (data_with d ts n q) h.0 h.0.1; named = tt }
+  component_known N own w M θ p (map_with e q) h =
+      let o = keep.putting (of_any_sort N) M θ p (map_with unit_type q) ((tt, tt), h.4) in
+      let i = inside_wide P unknowns keep m (of_any_sort own) (of_any_sort N) (record { terms = w; flags = w }) (map_with e q) h.3 in
+      record { scalar = h.0; own = N; within = λ y k. k; over = (i, o.1); apart = apart_nameless N e h.0.0 h.0.1; named = tt }
+  component_known N own w M θ p (type_variable i) h =
+      record { scalar = tt; own = N; within = λ y e. e; over = (tt, tt); apart = tt; named = tt }
 
   -- the environment of an arm: good, and closed where that of the match is
   abbrev pub IsOpened : Context → Context → Type 0
   IsOpened Γ Λ = Good Λ × (IsClosed S Γ → IsClosed S Λ)
 
-  pub known_opened : (Γ : Context) → Good Γ → (x : ℕ) (t : Refined) → IsNewName x Γ → x < 2 ^ 31 → m x ≡ kind t → Known (names_in Γ) t
+  pub known_opened : (Γ : Context) → Good Γ → (x : ℕ) (t : Refined) → IsNewName x Γ → x < 2 ^ 31 → IsBound m x (name_kind t) → Known (names_in Γ) t
       → IsOpened Γ (bind x t Γ)
   known_opened Γ good x t new low is k = (
-    good_bind P unknowns keep m U Γ good x t low is k,
+    good_bind P unknowns keep m Γ good x t low is k,
     (λ c.
-        (refl, new, type_over P unknowns keep m U laws A O sorted (names_in Γ) t (wide P unknowns keep m U k.own (names_in Γ) k.within t k.over), c)),
+        closed_bind S (symbol_of x) t Γ
+        (refl, new, type_over P unknowns keep m laws A O sorted (names_in Γ) t (wide P unknowns keep m k.own (names_in Γ) k.within t k.over), c)),
   )
 
   components_opened : (xs : List ℕ) (ts : Refineds) (θ : Subst) (j : ℕ) (Γ : Context) (own : Symbols) (M : Names) → Good Γ
@@ -244,7 +255,8 @@ module _ (P : Basis) (unknowns : ℕ → Unknown) (keep : KeepNames P.setting.co
       let q = parts_by P.setting.scopes θ (top s) in
       let t = with_top q s in
       let k = component_known (names_in Γ) own w M θ p s (first_fine own M j ts h) in
-      let one = known_opened Γ good x t new.0 twins.0 (kinds.0 ∙ sym (kind_topped q s)) k in
+      let is = kinds.0 in
+      let one = known_opened Γ good x t new.0 twins.0 (is.0 ∙ sym (kind_topped q s), is.1, is.2) k in
       let z = Position (suc j) in
       let rest = components_opened xs (rest_of ts) (name_for j x s ∷ θ) (suc j) (bind x t Γ) own (with_sort M (kind s) z) one.0
       (λ y e. within_one (names_in Γ) (symbol_of x) y (w y e)) (rest_fine own M j ts h) (with_name (names_in Γ) M θ p z (symbol_of x) (kind s))

@@ -1,5 +1,5 @@
 -- Types that are scalar, over names and apart from these, and environments of such.
-use Rattle.std.proofs.Common.{◌≡◌, ◌⊎◌, inl, inr, ℕ, ◌<◌, ◌^◌, Bool, true, false, ◌||◌, ◌==◌, cond, [], ◌∷◌, Option, Some, None, refl, sym, ap, subst}
+use Rattle.std.proofs.Common.{◌≡◌, ◌⊎◌, inl, inr, ℕ, suc, ◌<◌, ◌^◌, Bool, true, false, ◌||◌, ◌==◌, cond, [], ◌∷◌, Option, Some, None, refl, sym, ap, subst}
 use Rattle.std.proofs.lemmas.Bool.{eqb-true, eq-eqb}
 use Rattle.lq_calls.specs.Operands.{IsUsable, IsUsablePure}
 use Rattle.lq_checks.specs.Basis.{Basis}
@@ -9,33 +9,43 @@ use Rattle.lq_checks.specs.Pure.{formula_of, instance_of, number_type, pure_type
 use Rattle.lq_checks.specs.Ready.{IsReadyBlock, IsReadyOperation}
 use Rattle.lq_checks.specs.Tree as tree
 use Rattle.lq_checks.specs.Tree.{Pure, Use, Operation, pure, fun, if_else, match_on, call, tuple, build, make, fetch, store, divide, remainder, assert, assert_false, read, print, map_empty, map_add, map_find, Block, last, binding, recursive}
-use Rattle.lq_included.specs.Symbols.{Symbols, with_symbol, FormulaOn}
+use Rattle.lq_included.specs.Symbols.{Symbols, with_symbol, FormulaOn, TypeOn}
+use Rattle.lq_in_scope.proofs.Assigned.{wider}
+use Rattle.lq_in_scope.specs.InScope.{ArgumentsOver}
 use Rattle.lq_in_scope.specs.Laws.{TypesAreOver}
 use Rattle.lq_in_scope.specs.Over as over
 use Rattle.lq_in_scope.specs.Over.{AreSorted, AreWithin, IsWithin, Names, TypeOver, of_any_sort}
 use Rattle.lq_inhabits.specs.Truth.{Objects, Scene}
+use Rattle.lq_instanced.specs.Instances.{AllTypesOn, NamesOutside}
 use Rattle.lq_names_kept.specs.Laws.{KeepNames}
-use Rattle.lq_new_names.specs.NewNames.{HasNoPositions}
+use Rattle.lq_names_kept.specs.Puts.{AllNamesAway, NamesAway}
+use Rattle.lq_new_names.specs.NewNames.{HasNoPositions, HaveNoNames}
 use Rattle.lq_parts.specs.Assignment.{Assignment}
 use Rattle.lq_parts.specs.Part.{Part}
 use Rattle.lq_parts.specs.Substitution.{of_sum, of_formula}
 use Rattle.lq_plain.proofs.Datatypes.{clean_bind}
 use Rattle.lq_pred.specs.Formula as f
+use Rattle.lq_pred.specs.declared.symbol.Symbol.TheVariants.{Position}
 use Rattle.lq_pred.specs.Formula.{Formula}
+use Rattle.lq_pures.specs.Pures as pures
 use Rattle.lq_pures.specs.Pures.{PureOver, UseOver, scene_of}
+use Rattle.lq_pures.proofs.Pures.{each_use}
 use Rattle.lq_pures.proofs.Values.{formula_over, sum_over}
 use Rattle.lq_refined.specs.Context.{Context, type_in, guard}
-use Rattle.lq_refined.specs.Operations.{applied, atom_of, renamed, symbol_of, twin_of}
-use Rattle.lq_refined.specs.Refined.{Refined, int_with, bool_with, unit_type, function, tuple_of, array_with, data_with, map_with, type_variable, Kind, number, truth_value, object, kind, argument_of}
-use Rattle.lq_renamed.specs.Names.{IsNoVariable, NamesApart, with_twins}
+use Rattle.lq_refined.specs.Operations.{applied, atom_of, instantiated, renamed, symbol_of, twin, twin_of}
+use Rattle.lq_refined.specs.Refined.{Refined, Refineds, none, more, int_with, bool_with, unit_type, function, tuple_of, array_with, data_with, map_with, type_variable, Kind, number, truth_value, object, other, kind, argument_of}
+use Rattle.lq_renamed.specs.Names.{IsNoVariable, NamesApart, AllNamesApart, with_twins}
 use Rattle.lq_runs.specs.Closed.{names_in, IsTypeOver, SortedOn}
 use Rattle.lq_runs.proofs.Closing.{new_name, or_left, or_parts, or_right, within_with}
+use Rattle.lq_safe.specs.Programs.{IsUseOf}
 use Rattle.lq_templates.specs.Scopes.{Unknown}
-use Rattle.lq_scalar.specs.Scalar.{Arities, HaveTwins}
-use Rattle.lq_scalar.specs.Written.{IsScalar, IsNameless, IsNamedBy, IsFunctionFor, IsBlockFor, IsOperationFor}
-use Rattle.lq_scalar.proofs.NameKinds.{Agree, block_kinds, operation_kinds}
+use Rattle.lq_scalar.specs.Scalar.{HaveTwins}
+use Rattle.lq_scalar.specs.Written.{AreArgumentsNameless, AreScalar, IsScalar, IsNameless, IsNamedBy, IsFunctionFor, IsBlockFor, IsOperationFor}
+use Rattle.lq_scalar.proofs.Instances.{away_instance, away_other, named_outside, outside_instance, outside_less, over_instance, scalar_instance}
+use Rattle.lq_scalar.proofs.NameKinds.{Agree, block_kinds, IsBound, name_kind, Naming, operation_kinds}
 use Rattle.lq_scalar.proofs.Twins.{AreSmall, big_small, clash, false_unless, twin_big, twin_one}
-use Rattle.lq_scalar.proofs.Types.{HasKinds, IsNamed, apart_nameless, apart_twin, kinds_agree, named_nameless, named_twin, no_variable, outside, scalar_twin}
+use Rattle.lq_scalar.proofs.Types.{HasKinds, IsNamed, apart_nameless, apart_twin, kinds_agree, named_nameless, named_twin, outside, scalar_twin, twins_within}
+use Rattle.lq_scalar.proofs.Uses.{PureOf, UseOf, names_of_pure}
 
 pub sorted_any : (N : Symbols) (p : Formula) → FormulaOn N p → SortedOn N N p
 sorted_any N f.truth h = tt
@@ -95,39 +105,42 @@ near_twins Q Γ y t near z h =
 new_apart : (Q : Symbols) (Γ : Context) (y : ℕ) → IsNear Q Γ → AreSmall (names_in Γ) → IsNewName y Γ → y < 2 ^ 31
     → (Q (symbol_of y) ≡ false) × (Q (symbol_of (twin_of y)) ≡ false)
 new_apart Q Γ y near small new low =
-    (false_unless (Q (symbol_of y)) (λ e. first (near y e)), false_unless (Q (symbol_of (twin_of y))) (λ e. second (near (twin_of y) e)))
-  where
-    first : (names_in Γ (symbol_of y) ≡ true) ⊎ ((w : ℕ) × (names_in Γ (symbol_of w) ≡ true) × (y ≡ twin_of w)) → ⊥
-    first (inl k) = not_there Γ y new k
-    first (inr k) = big_small y (twin_of k.0) low (twin_big k.0) k.2
+    (false_unless (Q (symbol_of y)) (λ e. first (near y e)), false_unless (Q (symbol_of (twin_of y))) (λ e. second (near (twin_of y) e))) where
+      first : (names_in Γ (symbol_of y) ≡ true) ⊎ ((w : ℕ) × (names_in Γ (symbol_of w) ≡ true) × (y ≡ twin_of w)) → ⊥
+      first (inl k) = not_there Γ y new k
+      first (inr k) = big_small y (twin_of k.0) low (twin_big k.0) k.2
 
-    second : (names_in Γ (symbol_of (twin_of y)) ≡ true) ⊎ ((w : ℕ) × (names_in Γ (symbol_of w) ≡ true) × (twin_of y ≡ twin_of w)) → ⊥
-    second (inl k) = big_small (twin_of y) (twin_of y) (small (twin_of y) k) (twin_big y) refl
-    second (inr k) =
-        not_there Γ y new (subst (λ z. names_in Γ (symbol_of z) ≡ true) (sym (twin_one y k.0 low (small k.0 k.1) k.2)) k.1)
+      second : (names_in Γ (symbol_of (twin_of y)) ≡ true) ⊎ ((w : ℕ) × (names_in Γ (symbol_of w) ≡ true) × (twin_of y ≡ twin_of w)) → ⊥
+      second (inl k) = big_small (twin_of y) (twin_of y) (small (twin_of y) k) (twin_big y) refl
+      second (inr k) =
+          not_there Γ y new (subst (λ z. names_in Γ (symbol_of z) ≡ true) (sym (twin_one y k.0 low (small k.0 k.1) k.2)) k.1)
 
-module _ (P : Basis) (m : ℕ → Kind) (U : Arities) where
+own_twins : (Q : Symbols) (x : ℕ) → IsWithin (with_symbol Q (symbol_of x)) (with_twins Q x)
+own_twins Q x = within_with (with_symbol Q (symbol_of x)) (symbol_of (twin_of x))
+
+module _ (P : Basis) (m : Naming) where
   -- a result with its own parameter for the name of its argument
   pub own_body : (y : ℕ) (x : Option ℕ) → IsNamedBy y x → (k : Kind) (r : Refined) → renamed P.setting.scopes x (Some y) k r ≡ r
   own_body y None h k r = refl
   own_body y (Some x) h k r = ap (λ b. cond b r (applied P.setting.scopes (Some x) (atom_of k (symbol_of y)) r)) (eq-eqb x y h)
 
   abbrev IsFar : Symbols → Refined → Type 0
-  IsFar Q t = NamesApart Q t × IsNamed U m t
+  IsFar Q t = NamesAway Q t × IsNamed m t
 
-  nameless_far : (Q : Symbols) (t : Refined) → IsNameless U t → IsFar Q t
-  nameless_far Q t h = (apart_nameless U Q t h.0 h.1, named_nameless U m t h.1)
+  nameless_far : (Q : Symbols) (t : Refined) → IsNameless t → IsFar Q t
+  nameless_far Q t h = (apart_nameless Q t h.0 h.1, named_nameless m t h.1)
 
   abbrev BlockFar : Block → Type 0
   BlockFar b =
       (Γ : Context) (t : Refined) (Q : Symbols) → IsNear Q Γ → AreSmall (names_in Γ) → IsReadyBlock P Γ b t → HaveTwins (block_binders b)
-      → Agree m (block_kinds P Γ b t) → IsBlockFor U b t → IsFar Q t
+      → Agree m (block_kinds P Γ b t) → IsBlockFor b t → IsFar Q t
 
   abbrev FunctionFar : ℕ → Block → Type 0
   FunctionFar y b =
       (Γ : Context) (t : Refined) (Q : Symbols) → IsNear Q Γ → AreSmall (names_in Γ) → IsNewName y Γ
       → IsReadyBlock P (body_context Γ y t) b (body_type P.setting.scopes y t) → HaveTwins (y ∷ block_binders b)
-      → Agree m ((y, kind (argument_of t)) ∷ block_kinds P (body_context Γ y t) b (body_type P.setting.scopes y t)) → IsFunctionFor U y b t → IsFar Q t
+      → Agree m ((y, name_kind (argument_of t)) ∷ block_kinds P (body_context Γ y t) b (body_type P.setting.scopes y t)) → IsFunctionFor y b t
+      → IsFar Q t
 
   function_by : (y : ℕ) (b : Block) → BlockFar b → FunctionFar y b
   function_by y b body Γ (function x a r) Q near small new ready twins kinds w =
@@ -140,10 +153,10 @@ module _ (P : Basis) (m : ℕ → Kind) (U : Arities) where
       at_name rest =
           let free = new_apart Q Γ y near small new twins.0 in
           let there = rest (with_twins Q y) (near_twins Q Γ y a near) in
-          ((free.0, free.1, no_variable U a w.1.0, apart_nameless U Q a w.1.0 w.1.1, there.0), ((λ l. kinds.0), there.1))
+          ((free.0, free.1, apart_nameless Q a w.1.0 w.1.1, there.0), ((λ l. kinds.0.0), there.1))
 
       by : (x : Option ℕ) → IsNamedBy y x → ((R : Symbols) → IsNear R (bind y a Γ) → IsFar R r) → IsFar Q (function x a r)
-      by None h rest = let there = rest Q (near_bind Q Γ y a near) in ((apart_nameless U Q a w.1.0 w.1.1, there.0), there.1)
+      by None h rest = let there = rest Q (near_bind Q Γ y a near) in ((apart_nameless Q a w.1.0 w.1.1, there.0), there.1)
       by (Some x) h rest = subst (λ z. IsFar Q (function (Some z) a r)) (sym h) (at_name rest)
   function_by y b body Γ (int_with p) Q near small new ready twins kinds w = nameless_far Q (int_with p) w
   function_by y b body Γ (bool_with p) Q near small new ready twins kinds w = nameless_far Q (bool_with p) w
@@ -161,7 +174,7 @@ module _ (P : Basis) (m : ℕ → Kind) (U : Arities) where
     block_far (recursive g p y b c) Γ t Q near small ready twins kinds w = nameless_far Q t w
 
     operation_far : (o : Operation) (Γ : Context) (t : Refined) (Q : Symbols) → IsNear Q Γ → AreSmall (names_in Γ) → IsReadyOperation P Γ o t
-        → HaveTwins (operation_binders o) → Agree m (operation_kinds P Γ o t) → IsOperationFor U o t → IsFar Q t
+        → HaveTwins (operation_binders o) → Agree m (operation_kinds P Γ o t) → IsOperationFor o t → IsFar Q t
     operation_far (fun p y b) Γ t Q near small ready twins kinds w =
         function_by y b (λ Δ s R n z q u k v. block_far b Δ s R n z q u k v) Γ t Q near small ready.0 ready.1 twins kinds w
     operation_far (pure e) Γ t Q near small ready twins kinds w = nameless_far Q t w
@@ -188,8 +201,7 @@ module _ (P : Basis) (m : ℕ → Kind) (U : Arities) where
 
 -- ---- types and environments
 
-module _ (P : Basis) (unknowns : ℕ → Unknown) (keep : KeepNames P.setting.constructors unknowns P.setting.scopes) (m : ℕ → Kind)
-    (U : Arities) where
+module _ (P : Basis) (unknowns : ℕ → Unknown) (keep : KeepNames P.setting.constructors unknowns P.setting.scopes) (m : Naming) where
   abbrev pub Over : Symbols → Refined → Type 0
   Over N t = TypeOver P.setting.constructors unknowns (of_any_sort N) t
 
@@ -211,19 +223,19 @@ module _ (P : Basis) (unknowns : ℕ → Unknown) (keep : KeepNames P.setting.co
 
   -- scalar, over these names, and its names of arguments apart from them
   pub record IsFine (N : Symbols) (t : Refined) : Type 0 where
-    pub scalar : IsScalar U t
+    pub scalar : IsScalar t
     pub over : Over N t
-    pub apart : NamesApart N t
-    pub named : IsNamed U m t
+    pub apart : NamesAway N t
+    pub named : IsNamed m t
 
   -- the same with names of its own, which are among these
   pub record IsKnown (N : Symbols) (t : Refined) : Type 0 where
-    pub scalar : IsScalar U t
+    pub scalar : IsScalar t
     pub own : Symbols
     pub within : IsWithin own N
     pub over : Over own t
-    pub apart : NamesApart own t
-    pub named : IsNamed U m t
+    pub apart : NamesAway own t
+    pub named : IsNamed m t
 
   pub fine_known : (N : Symbols) (t : Refined) → IsFine N t → IsKnown N t
   fine_known N t k = record { scalar = k.scalar; own = N; within = λ y h. h; over = k.over; apart = k.apart; named = k.named }
@@ -232,11 +244,26 @@ module _ (P : Basis) (unknowns : ℕ → Unknown) (keep : KeepNames P.setting.co
   known_more N M w t k =
       record { scalar = k.scalar; own = k.own; within = λ y h. w y (k.within y h); over = k.over; apart = k.apart; named = k.named }
 
-  -- each name is small and has its kind, and its type is known
-  pub record IsGood (Γ : Context) : Type 0 where
-    pub kinds : HasKinds U m Γ
+  -- Each name is small and has its kind, and its type is known over these names. That of what an earlier definition defined names no argument by
+  -- a name there is.
+  pub record IsGoodIn (N : Symbols) (Γ : Context) : Type 0 where
+    pub kinds : HasKinds m Γ
     pub clean : HasNoPositions (names_in Γ)
-    pub types : (z : ℕ) → names_in Γ (symbol_of z) ≡ true → IsKnown (names_in Γ) (type_in Γ (symbol_of z))
+    pub types : (z : ℕ) → names_in Γ (symbol_of z) ≡ true → IsKnown N (type_in Γ (symbol_of z))
+    pub general : (z : ℕ) → m.general (symbol_of z) ≡ true → NamesOutside m.all (type_in Γ (symbol_of z))
+
+  -- over all that the environment has
+  abbrev pub IsGood : Context → Type 0
+  IsGood Γ = IsGoodIn (names_in Γ) Γ
+
+  pub good_more : (N M : Symbols) → IsWithin N M → (Γ : Context) → IsGoodIn N Γ → IsGoodIn M Γ
+  good_more N M w Γ good =
+      record {
+        kinds = good.kinds;
+        clean = good.clean;
+        types = λ z h. known_more N M w (type_in Γ (symbol_of z)) (good.types z h);
+        general = good.general;
+      }
 
   pub small_names : (Γ : Context) → IsGood Γ → AreSmall (names_in Γ)
   small_names Γ good z h = (good.kinds z h).0
@@ -247,26 +274,48 @@ module _ (P : Basis) (unknowns : ℕ → Unknown) (keep : KeepNames P.setting.co
         kinds = λ z h. good.kinds z h;
         clean = λ k. good.clean k;
         types = λ z h. known_more (names_in Γ) (names_in (guard p ∷ Γ)) (λ y k. k) (type_in Γ (symbol_of z)) (good.types z h);
+        general = λ z h. good.general z h;
       }
 
-  pub good_bind : (Γ : Context) → IsGood Γ → (x : ℕ) (t : Refined) → x < 2 ^ 31 → m x ≡ kind t → IsKnown (names_in Γ) t → IsGood (bind x t Γ)
-  good_bind Γ good x t low is known =
-      record { kinds = λ z h. kinds_at z (x == z) refl h; clean = clean_bind Γ x t good.clean; types = λ z h. types_at z (x == z) h }
+  -- one more name
+  pub good_bind_in : (N : Symbols) (Γ : Context) → IsGoodIn N Γ → (x : ℕ) (t : Refined) → x < 2 ^ 31 → IsBound m x (name_kind t) → IsKnown N t
+      → IsGoodIn N (bind x t Γ)
+  good_bind_in N Γ good x t low is known =
+      record {
+        kinds = λ z h. kinds_at z (x == z) refl h;
+        clean = clean_bind Γ x t good.clean;
+        types = λ z h. types_at z (x == z) h;
+        general = λ z h. general_at z (x == z) refl h;
+      }
     where
       kinds_at : (z : ℕ) (b : Bool) → (x == z) ≡ b → (names_in Γ (symbol_of z) || b) ≡ true
-          → let s = cond b t (type_in Γ (symbol_of z)) in (z < 2 ^ 31) × (kind s ≡ m z) × IsNoVariable s
+          → let s = cond b t (type_in Γ (symbol_of z)) in (z < 2 ^ 31) × (name_kind s ≡ m.kinds z) × (m.all (symbol_of z) ≡ true)
       kinds_at z true e h =
-          subst (λ y. (y < 2 ^ 31) × (kind t ≡ m y) × IsNoVariable t) (eqb-true x z e) (low, sym is, no_variable U t known.scalar)
+          subst (λ y. (y < 2 ^ 31) × (name_kind t ≡ m.kinds y) × (m.all (symbol_of y) ≡ true)) (eqb-true x z e) (low, sym is.0, is.1)
       kinds_at z false e h = good.kinds z (or_first (names_in Γ (symbol_of z)) h)
 
       types_at : (z : ℕ) (b : Bool) → (names_in Γ (symbol_of z) || b) ≡ true
-          → IsKnown (names_in (bind x t Γ)) (cond b t (type_in Γ (symbol_of z)))
-      types_at z true h = known_more (names_in Γ) (names_in (bind x t Γ)) (within_with (names_in Γ) (symbol_of x)) t known
-      types_at z false h =
-          known_more (names_in Γ) (names_in (bind x t Γ)) (within_with (names_in Γ) (symbol_of x)) (type_in Γ (symbol_of z))
-          (good.types z (or_first (names_in Γ (symbol_of z)) h))
+          → IsKnown N (cond b t (type_in Γ (symbol_of z)))
+      types_at z true h = known
+      types_at z false h = good.types z (or_first (names_in Γ (symbol_of z)) h)
+
+      -- no such name is bound again
+      general_at : (z : ℕ) (b : Bool) → (x == z) ≡ b → m.general (symbol_of z) ≡ true → NamesOutside m.all (cond b t (type_in Γ (symbol_of z)))
+      general_at z true e h =
+          absurd (clash (m.general (symbol_of z)) h (subst (λ y. m.general (symbol_of y) ≡ false) (eqb-true x z e) is.2))
+      general_at z false e h = good.general z h
+
+  pub good_bind : (Γ : Context) → IsGood Γ → (x : ℕ) (t : Refined) → x < 2 ^ 31 → IsBound m x (name_kind t) → IsKnown (names_in Γ) t
+      → IsGood (bind x t Γ)
+  good_bind Γ good x t low is known =
+      let N = names_in (bind x t Γ) in
+      let w = within_with (names_in Γ) (symbol_of x) in
+      good_bind_in N Γ (good_more (names_in Γ) N w Γ good) x t low is (known_more (names_in Γ) N w t known)
 
   -- ---- uses
+
+  twin_over : (N : Symbols) (t : Refined) → NamesAway N t → Over N t → Over N (twin P.setting.scopes t)
+  twin_over N t n h = keep.twinning (of_any_sort N) N (record { terms = λ y e. e; flags = λ y e. e }) t n h
 
   -- the type of a variable
   variable_fine : (Γ : Context) → IsGood Γ → (x : ℕ) → names_in Γ (symbol_of x) ≡ true → (t : Refined) → IsKnown (names_in Γ) t
@@ -274,7 +323,8 @@ module _ (P : Basis) (unknowns : ℕ → Unknown) (keep : KeepNames P.setting.co
   variable_fine Γ good x h (int_with p) k =
       record {
         scalar = tt;
-        over = keep.naming (of_any_sort (names_in Γ)) (atom_of number (symbol_of x)) h (int_with p) (wide k.own (names_in Γ) k.within (int_with p) k.over);
+        over = keep.naming (of_any_sort (names_in Γ)) (atom_of number (symbol_of x)) h (int_with p)
+            (wide k.own (names_in Γ) k.within (int_with p) k.over);
         apart = tt;
         named = tt;
       }
@@ -290,25 +340,25 @@ module _ (P : Basis) (unknowns : ℕ → Unknown) (keep : KeepNames P.setting.co
   variable_fine Γ good x h (function z a b) k =
       let t = function z a b in
       record {
-        scalar = scalar_twin U P.setting.scopes t k.scalar;
-        over = keep.twinning (of_any_sort (names_in Γ)) t (wide k.own (names_in Γ) k.within t k.over);
-        apart = apart_twin U P.setting.scopes k.own (names_in Γ) (λ y l e. absurd (big_small y y (small_names Γ good y e) l refl)) t k.scalar k.apart;
-        named = named_twin U P.setting.scopes m t;
+        scalar = scalar_twin P.setting.scopes t k.scalar;
+        over = wide k.own (names_in Γ) k.within (twin P.setting.scopes t) (twin_over k.own t k.apart k.over);
+        apart = apart_twin P.setting.scopes k.own (names_in Γ) (λ y l e. absurd (big_small y y (small_names Γ good y e) l refl)) t k.scalar k.apart;
+        named = named_twin P.setting.scopes m t;
       }
   variable_fine Γ good x h (tuple_of ts) k =
       let t = tuple_of ts in
       record {
-        scalar = scalar_twin U P.setting.scopes t k.scalar;
-        over = keep.twinning (of_any_sort (names_in Γ)) t (wide k.own (names_in Γ) k.within t k.over);
-        apart = apart_twin U P.setting.scopes k.own (names_in Γ) (λ y l e. absurd (big_small y y (small_names Γ good y e) l refl)) t k.scalar k.apart;
-        named = named_twin U P.setting.scopes m t;
+        scalar = scalar_twin P.setting.scopes t k.scalar;
+        over = wide k.own (names_in Γ) k.within (twin P.setting.scopes t) (twin_over k.own t k.apart k.over);
+        apart = apart_twin P.setting.scopes k.own (names_in Γ) (λ y l e. absurd (big_small y y (small_names Γ good y e) l refl)) t k.scalar k.apart;
+        named = named_twin P.setting.scopes m t;
       }
   variable_fine Γ good x h (array_with e p) k =
       record {
         scalar = k.scalar;
         over = keep.naming (of_any_sort (names_in Γ)) (atom_of object (symbol_of x)) h (array_with e p)
             (wide k.own (names_in Γ) k.within (array_with e p) k.over);
-        apart = apart_nameless U (names_in Γ) e k.scalar.0 k.scalar.1;
+        apart = apart_nameless (names_in Γ) e k.scalar.0 k.scalar.1;
         named = tt;
       }
   variable_fine Γ good x h (data_with d ts n p) k =
@@ -316,36 +366,69 @@ module _ (P : Basis) (unknowns : ℕ → Unknown) (keep : KeepNames P.setting.co
         scalar = k.scalar;
         over = keep.naming (of_any_sort (names_in Γ)) (atom_of object (symbol_of x)) h (data_with d ts n p)
             (wide k.own (names_in Γ) k.within (data_with d ts n p) k.over);
-        apart = apart_nameless U (names_in Γ) (data_with d ts n p) k.scalar k.scalar.2;
+        apart = apart_nameless (names_in Γ) (data_with d ts n p) k.scalar k.scalar.1;
         named = tt;
       }
-  variable_fine Γ good x h (map_with e p) k = absurd k.scalar
-  variable_fine Γ good x h (type_variable i) k = absurd k.scalar
+  variable_fine Γ good x h (map_with e p) k =
+      let t = map_with e p in
+      record {
+        scalar = scalar_twin P.setting.scopes t k.scalar;
+        over = wide k.own (names_in Γ) k.within (twin P.setting.scopes t) (twin_over k.own t k.apart k.over);
+        apart = apart_twin P.setting.scopes k.own (names_in Γ) (λ y l e. absurd (big_small y y (small_names Γ good y e) l refl)) t k.scalar k.apart;
+        named = named_twin P.setting.scopes m t;
+      }
+  variable_fine Γ good x h (type_variable i) k = record { scalar = tt; over = (tt, tt); apart = tt; named = tt }
 
-  number_fine : (Γ : Context) (e : Pure) → PureOver (names_in Γ) e → IsFine (names_in Γ) (number_type e)
+  number_fine : (Γ : Context) (e : Pure) → PureOf P unknowns keep m (names_in Γ) e → IsFine (names_in Γ) (number_type e)
   number_fine Γ e o =
       record {
         scalar = tt;
-        over = keep.naming (of_any_sort (names_in Γ)) (of_sum (sum_of e)) (sum_over (names_in Γ) e o) (int_with []) (tt, tt);
+        over = keep.naming (of_any_sort (names_in Γ)) (of_sum (sum_of e)) (sum_over (names_in Γ) e (names_of_pure P unknowns keep m (names_in Γ) e o))
+            (int_with []) (tt, tt);
         apart = tt;
         named = tt;
       }
 
-  truth_fine : (Γ : Context) (e : Pure) → PureOver (names_in Γ) e → IsFine (names_in Γ) (truth_type e)
+  truth_fine : (Γ : Context) (e : Pure) → PureOf P unknowns keep m (names_in Γ) e → IsFine (names_in Γ) (truth_type e)
   truth_fine Γ e o =
       record {
         scalar = tt;
-        over = keep.naming (of_any_sort (names_in Γ)) (of_formula (formula_of e)) (sorted_any (names_in Γ) (formula_of e) (formula_over (names_in Γ) e o))
+        over = keep.naming (of_any_sort (names_in Γ)) (of_formula (formula_of e))
+            (sorted_any (names_in Γ) (formula_of e) (formula_over (names_in Γ) e (names_of_pure P unknowns keep m (names_in Γ) e o)))
             (bool_with []) (tt, tt);
         apart = tt;
         named = tt;
       }
 
-  pub use_known : (Γ : Context) → IsGood Γ → (u : Use) → UseOver (names_in Γ) u → IsKnown (names_in Γ) (type_of_use P Γ u)
-  use_known Γ good u o =
-      subst (λ a. IsKnown (names_in Γ) (instance_of P Γ a (type_in Γ (symbol_of u.name)))) (sym o.1) (good.types u.name o.0)
+  -- the environment's names are among all
+  all_names : (Γ : Context) → IsGood Γ → (z : ℕ) → names_in Γ (symbol_of z) ≡ true → m.all (symbol_of z) ≡ true
+  all_names Γ good z h = (good.kinds z h).2
 
-  pub pure_fine : (Γ : Context) → IsGood Γ → (e : Pure) → PureOver (names_in Γ) e → IsFine (names_in Γ) (pure_type P Γ e)
+  -- the type of what an earlier definition defined, at types for its variables
+  instance_known : (Γ : Context) → IsGood Γ → (t : Refined) → IsKnown (names_in Γ) t → NamesOutside m.all t → (Ts : Refineds) → AreScalar Ts
+      → HaveNoNames Ts → over.TypesOver P.setting.constructors unknowns (of_any_sort (names_in Γ)) Ts → IsKnown (names_in Γ) (instantiated Ts t)
+  instance_known Γ good t k outer Ts s n o =
+      let N = names_in Γ in
+      let away = away_other m.all m.small k.own N (λ z h. inr (all_names Γ good z h)) t k.scalar outer k.apart in
+      record {
+        scalar = scalar_instance Ts s n t k.scalar;
+        own = N;
+        within = λ y h. h;
+        over = over_instance P.setting.constructors unknowns P.setting.scopes keep Ts (of_any_sort N) o t (wide k.own N k.within t k.over);
+        apart = away_instance Ts s n N t away;
+        named = named_outside m (instantiated Ts t) (outside_instance Ts s n m.all t outer);
+      }
+
+  pub use_known : (Γ : Context) → IsGood Γ → (u : Use) → UseOf P unknowns keep m (names_in Γ) u → IsKnown (names_in Γ) (type_of_use P Γ u)
+  use_known Γ good u o = by u.type_arguments o.1 o.2.0 o.2.1
+    where
+      by : (a : Option ℕ) → ArgumentsOver P unknowns (names_in Γ) a → AreArgumentsNameless P a → IsUseOf m.general u.name a
+          → IsKnown (names_in Γ) (instance_of P Γ a (type_in Γ (symbol_of u.name)))
+      by None h n g = good.types u.name o.0
+      by (Some i) h n g =
+          instance_known Γ good (type_in Γ (symbol_of u.name)) (good.types u.name o.0) (good.general u.name g) (P.type_arguments i) n.0 n.1 h
+
+  pub pure_fine : (Γ : Context) → IsGood Γ → (e : Pure) → PureOf P unknowns keep m (names_in Γ) e → IsFine (names_in Γ) (pure_type P Γ e)
   pure_fine Γ good (tree.whole n) o = number_fine Γ (tree.whole n) o
   pure_fine Γ good (tree.flag b) o = truth_fine Γ (tree.flag b) o
   pure_fine Γ good tree.unit o = record { scalar = tt; over = (tt, tt); apart = tt; named = tt }
@@ -368,6 +451,80 @@ module _ (P : Basis) (unknowns : ℕ → Unknown) (keep : KeepNames P.setting.co
     pub type_over : (N : Symbols) (t : Refined) → Over N t → IsTypeOver S N t
     type_over N t h = laws P.setting.constructors unknowns S sorted N t h
 
+    types_on : (N : Symbols) (ts : Refineds) → over.TypesOver P.setting.constructors unknowns (of_any_sort N) ts → AllTypesOn A ts N
+    types_on N none h = tt
+    types_on N (more t ts) h = ((type_over N t (h.0, h.1)).0, types_on N ts h.2)
+
+    -- uses over an environment
+    pub use_over : (Γ : Context) → IsGood Γ → (u : Use) → UseOf P unknowns keep m (names_in Γ) u → UseOver P A Γ u
+    use_over Γ good u o = (o.0, by u.type_arguments o.1 o.2.1)
+      where
+        by : (a : Option ℕ) → ArgumentsOver P unknowns (names_in Γ) a → IsUseOf m.general u.name a
+            → pures.ArgumentsOver P A Γ (type_in Γ (symbol_of u.name)) a
+        by None h g = tt
+        by (Some i) h g = (
+          types_on (names_in Γ) (P.type_arguments i) h,
+          outside_less (names_in Γ) m.all (all_names Γ good) (type_in Γ (symbol_of u.name)) (good.general u.name g),
+        )
+
+    pub pure_over : (Γ : Context) → IsGood Γ → (e : Pure) → PureOf P unknowns keep m (names_in Γ) e → PureOver P A Γ e
+    pure_over Γ good e o = each_use (UseOf P unknowns keep m (names_in Γ)) (UseOver P A Γ) (use_over Γ good) e o
+
+    -- One more name: that of an argument and its twin.
+    one_of : (N : Names) (Q : Symbols) → AreWithin N (of_any_sort Q) → (k : Kind) (x : ℕ)
+        → AreWithin (over.with_sort N k (symbol_of x)) (of_any_sort (with_twins Q x))
+    one_of N Q w number x =
+        record { terms = λ y e. own_twins Q x y (wider N.terms Q (symbol_of x) w.terms y e); flags = λ y e. twins_within Q x y (w.flags y e) }
+    one_of N Q w truth_value x =
+        record { terms = λ y e. twins_within Q x y (w.terms y e); flags = λ y e. own_twins Q x y (wider N.flags Q (symbol_of x) w.flags y e) }
+    one_of N Q w object x =
+        record { terms = λ y e. own_twins Q x y (wider N.terms Q (symbol_of x) w.terms y e); flags = λ y e. twins_within Q x y (w.flags y e) }
+    one_of N Q w other x = record { terms = λ y e. twins_within Q x y (w.terms y e); flags = λ y e. twins_within Q x y (w.flags y e) }
+
+    -- Names that are away are apart: no part speaks of the name of an argument that is of a variable's type.
+    argument_apart : (N : Names) (Q : Symbols) → AreWithin N (of_any_sort Q) → (x : ℕ) (a b : Refined)
+        → TypeOver P.setting.constructors unknowns (over.with_sort N (kind a) (symbol_of x)) b → IsNoVariable a ⊎ TypeOn A b Q
+    argument_apart N Q w x (type_variable i) b h = inr (type_over Q b (keep.widening N (of_any_sort Q) w b h)).0
+    argument_apart N Q w x (int_with p) b h = inl tt
+    argument_apart N Q w x (bool_with p) b h = inl tt
+    argument_apart N Q w x unit_type b h = inl tt
+    argument_apart N Q w x (function y c d) b h = inl tt
+    argument_apart N Q w x (tuple_of ts) b h = inl tt
+    argument_apart N Q w x (array_with e p) b h = inl tt
+    argument_apart N Q w x (data_with d ts n p) b h = inl tt
+    argument_apart N Q w x (map_with e p) b h = inl tt
+
+    mutual
+      apart_of : (N : Names) (Q : Symbols) → AreWithin N (of_any_sort Q) → (t : Refined) → NamesAway Q t
+          → over.InsideOver P.setting.constructors unknowns N t → NamesApart A Q t
+      apart_of N Q w (int_with p) n h = tt
+      apart_of N Q w (bool_with p) n h = tt
+      apart_of N Q w unit_type n h = tt
+      apart_of N Q w (function None a b) n h = (apart_of N Q w a n.0 h.0, apart_of N Q w b n.1 h.2)
+      apart_of N Q w (function (Some x) a b) n h = (
+        n.0,
+        n.1,
+        argument_apart N Q w x a b (h.2, h.3),
+        apart_of N Q w a n.2 h.0,
+        apart_of (over.with_sort N (kind a) (symbol_of x)) (with_twins Q x) (one_of N Q w (kind a) x) b n.3 h.2,
+      )
+      apart_of N Q w (tuple_of ts) n h = components_apart N N Q w 0 ts n h
+      apart_of N Q w (array_with e p) n h = apart_of N Q w e n h.0
+      apart_of N Q w (data_with d ts m p) n h = arguments_apart N Q w ts n h.0
+      apart_of N Q w (map_with e p) n h = tt
+      apart_of N Q w (type_variable i) n h = tt
+
+      arguments_apart : (N : Names) (Q : Symbols) → AreWithin N (of_any_sort Q) → (ts : Refineds) → AllNamesAway Q ts
+          → over.TypesOver P.setting.constructors unknowns N ts → AllNamesApart A Q ts
+      arguments_apart N Q w none n h = tt
+      arguments_apart N Q w (more t ts) n h = (apart_of N Q w t n.0 h.0, arguments_apart N Q w ts n.1 h.2)
+
+      components_apart : (N M : Names) (Q : Symbols) → AreWithin N (of_any_sort Q) → (k : ℕ) (ts : Refineds) → AllNamesAway Q ts
+          → over.ComponentsOver P.setting.constructors unknowns N M k ts → AllNamesApart A Q ts
+      components_apart N M Q w k none n h = tt
+      components_apart N M Q w k (more t ts) n h =
+          (apart_of N Q w t n.0 h.0, components_apart N (over.with_sort M (kind t) (Position (suc k))) Q w (suc k) ts n.1 h.2)
+
     pub known_usable : (Γ : Context) → IsGood Γ → (t : Refined) → IsKnown (names_in Γ) t → IsUsable S Γ t
     known_usable Γ good (int_with p) k = tt
     known_usable Γ good (bool_with p) k = tt
@@ -377,26 +534,26 @@ module _ (P : Basis) (unknowns : ℕ → Unknown) (keep : KeepNames P.setting.co
         record {
           over = k.own;
           on = (type_over k.own t k.over).0;
-          apart = k.apart;
-          kinds = kinds_agree U m Γ good.kinds t k.scalar k.named;
-          outside = outside U (names_in Γ) (small_names Γ good) t k.scalar;
+          apart = apart_of (of_any_sort k.own) k.own (record { terms = λ y e. e; flags = λ y e. e }) t k.apart k.over.0;
+          kinds = kinds_agree m Γ good.kinds t k.scalar k.named;
+          outside = outside (names_in Γ) (small_names Γ good) t k.scalar;
         }
     known_usable Γ good (tuple_of ts) k =
         let t = tuple_of ts in
         record {
           over = k.own;
           on = (type_over k.own t k.over).0;
-          apart = k.apart;
-          kinds = kinds_agree U m Γ good.kinds t k.scalar k.named;
-          outside = outside U (names_in Γ) (small_names Γ good) t k.scalar;
+          apart = apart_of (of_any_sort k.own) k.own (record { terms = λ y e. e; flags = λ y e. e }) t k.apart k.over.0;
+          kinds = kinds_agree m Γ good.kinds t k.scalar k.named;
+          outside = outside (names_in Γ) (small_names Γ good) t k.scalar;
         }
     known_usable Γ good (array_with e p) k = tt
     known_usable Γ good (data_with d ts n p) k = tt
-    known_usable Γ good (map_with e p) k = absurd k.scalar
-    known_usable Γ good (type_variable i) k = absurd k.scalar
+    known_usable Γ good (map_with e p) k = tt
+    known_usable Γ good (type_variable i) k = tt
 
-    pub pure_usable : (Γ : Context) → IsGood Γ → (e : Pure) → PureOver (names_in Γ) e → IsUsablePure S Γ e
-    pure_usable Γ good (tree.use_of u) o = known_usable Γ good (type_in Γ (symbol_of u.name)) (good.types u.name o.0)
+    pub pure_usable : (Γ : Context) → IsGood Γ → (e : Pure) → PureOf P unknowns keep m (names_in Γ) e → IsUsablePure P S Γ e
+    pure_usable Γ good (tree.use_of u) o = known_usable Γ good (type_of_use P Γ u) (use_known Γ good u o)
     pure_usable Γ good (tree.whole n) o = tt
     pure_usable Γ good (tree.flag b) o = tt
     pure_usable Γ good tree.unit o = tt

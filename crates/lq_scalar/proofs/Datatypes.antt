@@ -1,5 +1,5 @@
 -- Scalar datatypes: they are datatypes for their constructors, and equations of measures with something put for v and for the fields.
-use Rattle.std.proofs.Common.{◌≡◌, ◌∙◌, ℕ, suc, ◌+◌, ◌<◌, ◌≤◌, Bool, true, false, cond, List, [], ◌∷◌, map, Some, refl, ap, subst, arith}
+use Rattle.std.proofs.Common.{◌≡◌, ℕ, suc, ◌+◌, ◌<◌, ◌≤◌, Bool, true, false, cond, List, [], ◌∷◌, map, Some, refl, ap, subst, arith}
 use Rattle.std.proofs.lemmas.Bool.{lt-ltb}
 use Rattle.lq_checks.specs.Basis.{Basis}
 use Rattle.lq_fields.specs.Fields.{AreEntriesSorted, HaveNoEntries, IsDatatypeFor, flags_from, terms_from, with_flag, with_term}
@@ -8,7 +8,6 @@ use Rattle.lq_included.specs.Symbols.{Symbols, with_symbol, SumOn}
 use Rattle.lq_in_scope.specs.Over.{AreSorted, AreWithin, CellsOver, IsWithin, Names, PartsOver, SymbolOver, TypesOver, of_any_sort}
 use Rattle.lq_in_scope.proofs.Assigned.{each_on, each_within, formula_put, or_cases, sorted_within, sum_within, wider}
 use Rattle.lq_in_scope.proofs.Symbols.{same_is, within_one}
-use Rattle.lq_inhabits.specs.Datatypes.{CovariantIn, AllCovariantIn, NoVariable}
 use Rattle.lq_inhabits.specs.Truth.{Objects, Scene}
 use Rattle.lq_new_names.specs.NewNames.{HasNoPositions}
 use Rattle.lq_parts.specs.Assignment.{Assignment, parts_under}
@@ -19,7 +18,7 @@ use Rattle.lq_pred.specs.Sum.{same_symbol}
 use Rattle.lq_pred.specs.declared.symbol.Symbol.{Symbol}
 use Rattle.lq_pred.specs.declared.symbol.Symbol.TheVariants.{Position, Value}
 use Rattle.lq_pures.specs.Pures.{scene_of}
-use Rattle.lq_refined.specs.Refined.{Matrix, Refined, Refineds, none, more, int_with, bool_with, unit_type, function, tuple_of, array_with, data_with, map_with, type_variable, Kind, number, truth_value, object, other, kind, count}
+use Rattle.lq_refined.specs.Refined.{Matrix, Refined, Refineds, none, more, int_with, bool_with, unit_type, function, tuple_of, array_with, data_with, map_with, type_variable, Kind, number, truth_value, object, other, kind, count, all_erased}
 use Rattle.lq_refined.specs.Unfolding.{all_bare, bare, cell, is_again, pushed, unfolded_from}
 use Rattle.lq_runs.specs.Closed.{EachSorted, with_value}
 use Rattle.lq_sorted_matrices.specs.Laws.{ArgumentsLackFields, MatricesAreSorted}
@@ -31,47 +30,8 @@ use Rattle.lq_tree.specs.MlType as ml
 use Rattle.lq_tree.specs.MlType.{MlType, MlTypes}
 use Rattle.lq_tree.specs.Types.{Constructor, count_types, put, type_at}
 use Rattle.lq_scalar.specs.Data.{AreEquationsSorted, measured_from, with_measured}
-use Rattle.lq_scalar.specs.Scalar.{Arities, AreScalarDatatypes, AreScalarFields, IsScalarField}
-use Rattle.lq_scalar.specs.Written.{AreScalar}
+use Rattle.lq_scalar.specs.Written.{LackEntries}
 use Rattle.lq_scalar.proofs.Standing.{FieldsOver, symbol_later, where_map}
-
--- ---- parameters
-
-none_below : (i : ℕ) → i < 0 → ⊥
-none_below i h = omega (arith, h)
-
--- a field over so many parameters is covariant in them, and one over none has no variable
-mutual
-  closed : (U : Arities) (f : MlType) → IsScalarField U 0 f → CovariantIn NoVariable f
-  closed U ml.int s = tt
-  closed U ml.bool s = tt
-  closed U ml.unit s = tt
-  closed U (ml.var i) s = absurd (none_below i s)
-  closed U (ml.arrow a b) s = (closed U a s.0, closed U b s.1)
-  closed U (ml.tuple ts) s = all_closed U ts s
-  closed U (ml.array a) s = closed U a s
-  closed U (ml.named d ts) s = all_closed U ts s.1
-  closed U (ml.map_of a) s = absurd s
-
-  all_closed : (U : Arities) (fs : MlTypes) → AreScalarFields U 0 fs → AllCovariantIn NoVariable fs
-  all_closed U ml.no_types s = tt
-  all_closed U (ml.more_types f fs) s = (closed U f s.0, all_closed U fs s.1)
-
-mutual
-  covariant : (U : Arities) (n : ℕ) (f : MlType) → IsScalarField U n f → CovariantIn (λ i. i < n) f
-  covariant U n ml.int s = tt
-  covariant U n ml.bool s = tt
-  covariant U n ml.unit s = tt
-  covariant U n (ml.var i) s = s
-  covariant U n (ml.arrow a b) s = (closed U a s.0, covariant U n b s.1)
-  covariant U n (ml.tuple ts) s = all_covariant U n ts s
-  covariant U n (ml.array a) s = closed U a s
-  covariant U n (ml.named d ts) s = all_covariant U n ts s.1
-  covariant U n (ml.map_of a) s = absurd s
-
-  all_covariant : (U : Arities) (n : ℕ) (fs : MlTypes) → AreScalarFields U n fs → AllCovariantIn (λ i. i < n) fs
-  all_covariant U n ml.no_types s = tt
-  all_covariant U n (ml.more_types f fs) s = (covariant U n f s.0, all_covariant U n fs s.1)
 
 -- ---- symbols of fields
 
@@ -167,18 +127,18 @@ count_unfolded scopes θ d ts m c j (ml.more_types f fs) = ap suc (count_unfolde
 
 -- ---- datatypes
 
-scalar_entries : (U : Arities) (S : Scene) (d : ℕ) (ts : Refineds) (m : Matrix) (c j i : ℕ) (us : Refineds) → AreScalar U us
+lacking_entries : (S : Scene) (d : ℕ) (ts : Refineds) (m : Matrix) (c j i : ℕ) (us : Refineds) → LackEntries m i (all_erased us)
     → HaveNoEntries S d ts m c j i us
-scalar_entries U S d ts m c j i none s = tt
-scalar_entries U S d ts m c j i (more (int_with p) us) s = (tt, scalar_entries U S d ts m c j (suc i) us s.1)
-scalar_entries U S d ts m c j i (more (bool_with p) us) s = (tt, scalar_entries U S d ts m c j (suc i) us s.1)
-scalar_entries U S d ts m c j i (more unit_type us) s = (tt, scalar_entries U S d ts m c j (suc i) us s.1)
-scalar_entries U S d ts m c j i (more (function x a b) us) s = (tt, scalar_entries U S d ts m c j (suc i) us s.1)
-scalar_entries U S d ts m c j i (more (tuple_of vs) us) s = (tt, scalar_entries U S d ts m c j (suc i) us s.1)
-scalar_entries U S d ts m c j i (more (array_with e p) us) s = (tt, scalar_entries U S d ts m c j (suc i) us s.1)
-scalar_entries U S d ts m c j i (more (data_with e vs n p) us) s = (tt, scalar_entries U S d ts m c j (suc i) us s.1)
-scalar_entries U S d ts m c j i (more (map_with e p) us) s = absurd s.0
-scalar_entries U S d ts m c j i (more (type_variable a) us) s = absurd s.0
+lacking_entries S d ts m c j i none h = tt
+lacking_entries S d ts m c j i (more (int_with p) us) h = (tt, lacking_entries S d ts m c j (suc i) us h.1)
+lacking_entries S d ts m c j i (more (bool_with p) us) h = (tt, lacking_entries S d ts m c j (suc i) us h.1)
+lacking_entries S d ts m c j i (more unit_type us) h = (tt, lacking_entries S d ts m c j (suc i) us h.1)
+lacking_entries S d ts m c j i (more (function x a b) us) h = (tt, lacking_entries S d ts m c j (suc i) us h.1)
+lacking_entries S d ts m c j i (more (tuple_of vs) us) h = (tt, lacking_entries S d ts m c j (suc i) us h.1)
+lacking_entries S d ts m c j i (more (array_with e p) us) h = (tt, lacking_entries S d ts m c j (suc i) us h.1)
+lacking_entries S d ts m c j i (more (data_with e vs n p) us) h = (tt, lacking_entries S d ts m c j (suc i) us h.1)
+lacking_entries S d ts m c j i (more (map_with e p) us) h = (tt, lacking_entries S d ts m c j (suc i) us h.1)
+lacking_entries S d ts m c j i (more (type_variable a) us) h = (h.0 c j, lacking_entries S d ts m c j (suc i) us h.1)
 
 module _ (matrices : MatricesAreSorted) (P : Basis) (unknowns : ℕ → Unknown) (A : Assignment) (O : Objects) (sorted : AreSorted unknowns A) where
   abbrev S : Scene
@@ -195,20 +155,18 @@ module _ (matrices : MatricesAreSorted) (P : Basis) (unknowns : ℕ → Unknown)
       (with_v n (flags_from 0 us) (flags_of n 0 us l)) (parts_under A (cell m c j i)) (matrices unknowns S sorted d ts m h c j i)
 
   -- a scalar datatype is one for its constructors
-  pub datatype_for : ArgumentsLackFields → (U : Arities) → AreScalarDatatypes U P.setting.constructors → AreEquationsSorted P → (N : Symbols) → HasNoPositions N → (d : ℕ)
-      (ts : Refineds) (m : Matrix) (p : _) → U d ≡ Some (count ts) → AreScalar U ts → TypesOver P.setting.constructors unknowns (of_any_sort N) ts
+  pub datatype_for : ArgumentsLackFields → AreEquationsSorted P → (N : Symbols) → HasNoPositions N → (d : ℕ)
+      (ts : Refineds) (m : Matrix) (p : _) → LackEntries m 0 (all_erased ts) → TypesOver P.setting.constructors unknowns (of_any_sort N) ts
       → CellsOver P.setting.constructors unknowns d ts m → (c : ℕ) (k : Constructor) → P.setting.constructors c ≡ Some k → k.datatype ≡ d
       → IsDatatypeFor S P c k (data_with d ts m p)
-  datatype_for lack U scalar equations N clean d ts m p u s types cells c k e same =
-      let fields = scalar c k (count ts) e (ap U same ∙ u) in
+  datatype_for lack equations N clean d ts m p s types cells c k e same =
       let us = unfolded_from P.setting.scopes [] d ts m c 0 k.fields in
       let w = measured_terms P.setting.scopes [] d ts m c 0 k.fields in
       record {
         matrix = record {
           entries = subst (λ (fs : MlTypes). AreEntriesSorted S d ts m c fs) (ap fields_of e) (matrices unknowns S sorted d ts m cells c);
-          variables = λ j. scalar_entries U S d ts m c j 0 ts s;
+          variables = λ j. lacking_entries S d ts m c j 0 ts s;
           tops = lack P.setting.constructors unknowns S sorted N (λ j. clean (suc j)) ts types;
-          within = all_covariant U (count ts) k.fields fields.0;
         };
         equations = each_within (with_value (measured_from 0 k.fields)) (λ y. false) (with_value (terms_from 0 us)) (flags_from 0 us)
             (wider (measured_from 0 k.fields) (terms_from 0 us) Value w) (nothing_within (flags_from 0 us)) (P.equations c) (equations c k e);
@@ -222,7 +180,7 @@ symbol_more N M w θ int x h = sum_within N.terms M.terms w.terms (sum_at θ x) 
 symbol_more N M w θ bool x h = sorted_within N.terms N.flags M.terms M.flags w.terms w.flags (flag_at θ x) h
 symbol_more N M w θ array x h = sum_within N.terms M.terms w.terms (sum_at θ x) h
 symbol_more N M w θ (data_of d) x h = sum_within N.terms M.terms w.terms (sum_at θ x) h
-symbol_more N M w θ shape.other x h = sum_within N.terms M.terms w.terms (sum_at θ x) h
+symbol_more N M w θ shape.other x h = tt
 
 pub fields_more : (skip : MlType → Bool) (N M : Names) → AreWithin N M → (us : MlTypes) (θ : Subst) (j : ℕ) (fs : MlTypes) → FieldsOver skip N us θ j fs
     → FieldsOver skip M us θ j fs

@@ -1,5 +1,5 @@
 -- The example is scalar.
-use Rattle.std.proofs.Common.{ℕ, ◌<◌, ◌^◌, arith, refl}
+use Rattle.std.proofs.Common.{ℕ, ◌<◌, ◌^◌, arith}
 use Rattle.lq_scalar.specs.Example.{ExampleIsScalar}
 
 below : (x : ℕ) → x < 11 → x < 2 ^ 31
@@ -8,60 +8,8 @@ below x h = omega (arith, h)
 pub example_scalar : ExampleIsScalar
 example_scalar = (
   (
-    (
-      (tt, (tt, tt)),
-      (
-        (tt, tt),
-        (
-          tt,
-          (
-            (tt, ((tt, refl), (tt, refl))),
-            (
-              tt,
-              (
-                (tt, ((tt, refl), (tt, tt))),
-                (tt, refl),
-                (
-                  tt,
-                  (
-                    ((tt, tt), (((tt, (tt, tt)), refl), (tt, refl))),
-                    (tt, (((tt, tt), refl), (tt, ((tt, refl), (tt, tt))))),
-                  ),
-                ),
-              ),
-            ),
-          ),
-        ),
-      ),
-    ),
-    (
-      (
-        tt,
-        (
-          (tt, ((tt, tt), (tt, tt))),
-          (
-            tt,
-            (
-              ((tt, tt), (((tt, (tt, tt)), refl), (tt, refl))),
-              (
-                tt,
-                (
-                  (tt, (((tt, tt), refl), (tt, tt))),
-                  (
-                    tt,
-                    (
-                      ((tt, (tt, tt)), ((tt, refl), ((tt, tt), tt))),
-                      (tt, (((tt, (tt, tt)), refl), tt, ((tt, (tt, ((tt, refl), (tt, refl)))), tt))),
-                    ),
-                  ),
-                ),
-              ),
-            ),
-          ),
-        ),
-      ),
-      tt,
-    ),
+    ((tt, tt), ((tt, tt), tt, ((tt, tt), (tt, (tt, tt))))),
+    ((((tt, tt), ((tt, tt), ((tt, tt), ((tt, (tt, tt)), (tt, ((tt, tt), tt)))))), tt), tt),
   ),
   (
     below 0 (omega arith),

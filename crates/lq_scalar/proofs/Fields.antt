@@ -1,6 +1,6 @@
 -- The types of a constructor's fields: no function in them names its argument, and they are over names.
-use Rattle.std.proofs.Common.{◌≡◌, ◌∙◌, ℕ, zero, suc, Bool, true, false, cond, [], ◌∷◌, ◌++◌, Some, refl, sym, ap, ap₂, subst}
-use Rattle.lq_in_scope.specs.Over.{AreWithin, CellsOver, ComponentsOver, Names, PartsOver, ScopeOver, TypeOver, TypesOver, kind_of, scope_names, with_sort}
+use Rattle.std.proofs.Common.{◌≡◌, ◌∙◌, ℕ, zero, suc, Bool, true, false, cond, [], ◌∷◌, ◌++◌, refl, sym, ap, ap₂, subst}
+use Rattle.lq_in_scope.specs.Over.{AreWithin, CellsOver, ComponentsOver, Names, PartsOver, ScopeOver, TopOver, TypeOver, TypesOver, kind_of, scope_names, with_sort}
 use Rattle.lq_in_scope.proofs.Made.{own_kind}
 use Rattle.lq_in_scope.proofs.Symbols.{within_sort}
 use Rattle.lq_names_kept.specs.Laws.{KeepNames}
@@ -19,82 +19,90 @@ use Rattle.lq_tree.specs.MlType as ml
 use Rattle.lq_tree.specs.MlType.{MlType, MlTypes}
 use Rattle.lq_tree.specs.Types as types
 use Rattle.lq_tree.specs.Types.{Signature, count_types}
-use Rattle.lq_scalar.specs.Scalar.{Arities, IsScalarField, AreScalarFields}
-use Rattle.lq_scalar.specs.Written.{AreScalar, IsNameless}
+use Rattle.lq_scalar.specs.Written.{AreScalar, IsNameless, LackEntries}
 use Rattle.lq_scalar.proofs.Standing.{ValueOver, cell_over}
 
 -- ---- without names of arguments
 
-count_bare : (by : Refineds) (us : MlTypes) → count (all_bare by us) ≡ count_types us
-count_bare by ml.no_types = refl
-count_bare by (ml.more_types u us) = ap suc (count_bare by us)
+-- nothing is said of any argument where there are no entries
+pub no_entries : (i : ℕ) (us : MlTypes) → LackEntries [] i us
+no_entries i ml.no_types = tt
+no_entries i (ml.more_types ml.int us) = (tt, no_entries (suc i) us)
+no_entries i (ml.more_types ml.bool us) = (tt, no_entries (suc i) us)
+no_entries i (ml.more_types ml.unit us) = (tt, no_entries (suc i) us)
+no_entries i (ml.more_types (ml.var a) us) = ((λ c j. refl), no_entries (suc i) us)
+no_entries i (ml.more_types (ml.arrow a b) us) = (tt, no_entries (suc i) us)
+no_entries i (ml.more_types (ml.tuple ts) us) = (tt, no_entries (suc i) us)
+no_entries i (ml.more_types (ml.array a) us) = (tt, no_entries (suc i) us)
+no_entries i (ml.more_types (ml.named d ts) us) = (tt, no_entries (suc i) us)
+no_entries i (ml.more_types (ml.map_of a) us) = (tt, no_entries (suc i) us)
 
-pub count_erased : (ts : Refineds) → count_types (all_erased ts) ≡ count ts
-count_erased none = refl
-count_erased (more t ts) = ap suc (count_erased ts)
+-- no function in these names its argument
+abbrev pub AreNameless : Refineds → Type 0
+AreNameless ts = AreScalar ts × HaveNoNames ts
 
-module _ (U : Arities) where
-  -- no function in these names its argument
-  abbrev pub AreNameless : Refineds → Type 0
-  AreNameless ts = AreScalar U ts × HaveNoNames ts
+at_nameless : (ts : Refineds) → AreNameless ts → (i : ℕ) → IsNameless (type_at ts i)
+at_nameless none h i = (tt, tt)
+at_nameless (more t ts) h zero = (h.0.0, h.1.0)
+at_nameless (more t ts) h (suc i) = at_nameless ts (h.0.1, h.1.1) i
 
-  at_nameless : (ts : Refineds) → AreNameless ts → (i : ℕ) → IsNameless U (type_at ts i)
-  at_nameless none h i = (tt, tt)
-  at_nameless (more t ts) h zero = (h.0.0, h.1.0)
-  at_nameless (more t ts) h (suc i) = at_nameless ts (h.0.1, h.1.1) i
+mutual
+  bare_nameless : (by : Refineds) → AreNameless by → (f : MlType) → IsNameless (bare by f)
+  bare_nameless by a ml.int = (tt, tt)
+  bare_nameless by a ml.bool = (tt, tt)
+  bare_nameless by a ml.unit = (tt, tt)
+  bare_nameless by a (ml.var i) = at_nameless by a i
+  bare_nameless by a (ml.arrow b c) =
+      let x = bare_nameless by a b in
+      let y = bare_nameless by a c in
+      ((x.0, x.1, y.0), (x.1, y.1))
+  bare_nameless by a (ml.tuple ts) = all_bare_nameless by a ts
+  bare_nameless by a (ml.array b) = let x = bare_nameless by a b in ((x.0, x.1), x.1)
+  bare_nameless by a (ml.named d ts) =
+      let x = all_bare_nameless by a ts in ((x.0, x.1, no_entries 0 (all_erased (all_bare by ts))), x.1)
+  bare_nameless by a (ml.map_of b) = let x = bare_nameless by a b in ((x.0, x.1), tt)
 
-  mutual
-    bare_nameless : (by : Refineds) → AreNameless by → (n : ℕ) (f : MlType) → IsScalarField U n f → IsNameless U (bare by f)
-    bare_nameless by a n ml.int h = (tt, tt)
-    bare_nameless by a n ml.bool h = (tt, tt)
-    bare_nameless by a n ml.unit h = (tt, tt)
-    bare_nameless by a n (ml.var i) h = at_nameless by a i
-    bare_nameless by a n (ml.arrow b c) h =
-        let x = bare_nameless by a 0 b h.0 in
-        let y = bare_nameless by a n c h.1 in
-        ((x.0, x.1, y.0), (x.1, y.1))
-    bare_nameless by a n (ml.tuple ts) h = all_bare_nameless by a n ts h
-    bare_nameless by a n (ml.array b) h = let x = bare_nameless by a 0 b h in ((x.0, x.1), x.1)
-    bare_nameless by a n (ml.named d ts) h =
-        let x = all_bare_nameless by a n ts h.1 in ((h.0 ∙ ap Some (sym (count_bare by ts)), x.0, x.1), x.1)
-    bare_nameless by a n (ml.map_of b) h = absurd h
+  all_bare_nameless : (by : Refineds) → AreNameless by → (fs : MlTypes) → AreNameless (all_bare by fs)
+  all_bare_nameless by a ml.no_types = (tt, tt)
+  all_bare_nameless by a (ml.more_types f fs) =
+      let x = bare_nameless by a f in
+      let y = all_bare_nameless by a fs in
+      ((x.0, y.0), (x.1, y.1))
 
-    all_bare_nameless : (by : Refineds) → AreNameless by → (n : ℕ) (fs : MlTypes) → AreScalarFields U n fs → AreNameless (all_bare by fs)
-    all_bare_nameless by a n ml.no_types h = (tt, tt)
-    all_bare_nameless by a n (ml.more_types f fs) h =
-        let x = bare_nameless by a n f h.0 in
-        let y = all_bare_nameless by a n fs h.1 in
-        ((x.0, y.0), (x.1, y.1))
+strengthened_nameless : (q : Parts) (t : Refined) → IsNameless t → IsNameless (strengthened q t)
+strengthened_nameless q (int_with p) h = h
+strengthened_nameless q (bool_with p) h = h
+strengthened_nameless q unit_type h = h
+strengthened_nameless q (function x a b) h = h
+strengthened_nameless q (tuple_of ts) h = h
+strengthened_nameless q (array_with e p) h = h
+strengthened_nameless q (data_with d ts m p) h = h
+strengthened_nameless q (map_with e p) h = h
+strengthened_nameless q (type_variable i) h = h
 
-  strengthened_nameless : (q : Parts) (t : Refined) → IsNameless U t → IsNameless U (strengthened q t)
-  strengthened_nameless q (int_with p) h = h
-  strengthened_nameless q (bool_with p) h = h
-  strengthened_nameless q unit_type h = h
-  strengthened_nameless q (function x a b) h = h
-  strengthened_nameless q (tuple_of ts) h = h
-  strengthened_nameless q (array_with e p) h = h
-  strengthened_nameless q (data_with d ts m p) h = h
-  strengthened_nameless q (map_with e p) h = h
-  strengthened_nameless q (type_variable i) h = h
+module _ (scopes : Scopes) (θ : Subst) (m : Matrix) (c j : ℕ) where
+  count_pushed : (i : ℕ) (ts : Refineds) → count (pushed scopes θ m c j i ts) ≡ count ts
+  count_pushed i none = refl
+  count_pushed i (more t ts) = ap suc (count_pushed (suc i) ts)
 
-  module _ (scopes : Scopes) (θ : Subst) (m : Matrix) (c j : ℕ) where
-    count_pushed : (i : ℕ) (ts : Refineds) → count (pushed scopes θ m c j i ts) ≡ count ts
-    count_pushed i none = refl
-    count_pushed i (more t ts) = ap suc (count_pushed (suc i) ts)
+  pushed_erased : (i : ℕ) (ts : Refineds) → all_erased ts ≡ all_erased (pushed scopes θ m c j i ts)
+  pushed_erased i none = refl
+  pushed_erased i (more t ts) =
+      ap₂ ml.more_types (sym (with_top-erased (top t ++ parts_by scopes θ (cell m c j i)) t)) (pushed_erased (suc i) ts)
 
-    pushed_nameless : (i : ℕ) (ts : Refineds) → AreNameless ts → AreNameless (pushed scopes θ m c j i ts)
-    pushed_nameless i none h = (tt, tt)
-    pushed_nameless i (more t ts) h =
-        let x = strengthened_nameless (parts_by scopes θ (cell m c j i)) t (h.0.0, h.1.0) in
-        let y = pushed_nameless (suc i) ts (h.0.1, h.1.1) in
-        ((x.0, y.0), (x.1, y.1))
+  pushed_nameless : (i : ℕ) (ts : Refineds) → AreNameless ts → AreNameless (pushed scopes θ m c j i ts)
+  pushed_nameless i none h = (tt, tt)
+  pushed_nameless i (more t ts) h =
+      let x = strengthened_nameless (parts_by scopes θ (cell m c j i)) t (h.0.0, h.1.0) in
+      let y = pushed_nameless (suc i) ts (h.0.1, h.1.1) in
+      ((x.0, y.0), (x.1, y.1))
 
-    -- one field, which may be the datatype again
-    pub field_nameless : (d n : ℕ) (ts : Refineds) → U d ≡ Some (count ts) → AreNameless ts → (f : MlType) → IsScalarField U n f → (b : Bool)
-        → IsNameless U (cond b (data_with d (pushed scopes θ m c j 0 ts) m []) (bare ts f))
-    field_nameless d n ts u a f h true =
-        let x = pushed_nameless 0 ts a in ((u ∙ ap Some (sym (count_pushed 0 ts)), x.0, x.1), x.1)
-    field_nameless d n ts u a f h false = bare_nameless ts a n f h
+  -- one field, which may be the datatype again
+  pub field_nameless : (d : ℕ) (ts : Refineds) → AreNameless ts → LackEntries m 0 (all_erased ts) → (f : MlType) → (b : Bool)
+      → IsNameless (cond b (data_with d (pushed scopes θ m c j 0 ts) m []) (bare ts f))
+  field_nameless d ts a l f true =
+      let x = pushed_nameless 0 ts a in ((x.0, x.1, subst (λ (us : MlTypes). LackEntries m 0 us) (pushed_erased 0 ts) l), x.1)
+  field_nameless d ts a l f false = bare_nameless ts a f
 
 -- ---- over names
 
@@ -223,3 +231,9 @@ module _ (g : Signature) (unknowns : ℕ → Unknown) (scopes : Scopes) (agree :
       → Over N (cond b t (bare ts f))
   field_over_by N ts h f true t w = w refl
   field_over_by N ts h f false t w = bare_over N ts h f
+
+  -- its top is over fewer names
+  pub field_top_by : (N : Names) (ts : Refineds) → TypesOver g unknowns N ts → (f : MlType) (b : Bool) (t : Refined) → TopOver unknowns N t
+      → TopOver unknowns N (cond b t (bare ts f))
+  field_top_by N ts h f true t w = w
+  field_top_by N ts h f false t w = (bare_over N ts h f).1

@@ -2,8 +2,10 @@
 mod Templates
 mod Reading
 mod Twins
+mod Uses
 mod Types
 mod NameKinds
+mod Instances
 mod Contexts
 mod Forms
 mod Standing
@@ -12,10 +14,14 @@ mod Datatypes
 mod Builds
 mod Arms
 mod Fine
+mod Outside
+mod Items
 mod Components
 mod Typings
 mod Patterns
 mod Plain
+mod Programs
 mod Normal
 mod Example
 mod ListExample
+mod GeneralExample

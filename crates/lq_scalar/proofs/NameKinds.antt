@@ -1,5 +1,5 @@
 -- The kinds of the names that a program binds.
-use Rattle.std.proofs.Common.{◌≡◌, ℕ, ◌==◌, false, cond, List, [], ◌∷◌, ◌++◌, refl, sym, ap, ap₂, subst, ◌∙◌}
+use Rattle.std.proofs.Common.{◌≡◌, ℕ, ◌==◌, Bool, true, false, cond, List, [], ◌∷◌, ◌++◌, refl, sym, ap, ap₂, subst, ◌∙◌}
 use Rattle.std.proofs.lemmas.Bool.{eqb-true, eq-eqb}
 use Rattle.lq_checks.specs.Basis.{Basis}
 use Rattle.lq_checks.specs.Binders.{AllDiffer, IsNotIn, arms_binders, operation_binders, block_binders, binders}
@@ -9,31 +9,86 @@ use Rattle.lq_checks.specs.Pure.{formula_of, type_of_use, variable_type}
 use Rattle.lq_checks.specs.Tree.{names_of, Use, Pattern, pattern_any, pattern_name, pattern_unit, pattern_tuple, pattern_build, Arms, no_arms, arm, Operation, pure, fun, if_else, match_on, call, tuple, build, make, fetch, store, divide, remainder, assert, assert_false, read, print, map_empty, map_add, map_find, Block, last, binding, recursive, Program, no_items, define, define_recursive, run_unit, run_any}
 use Rattle.lq_parts.specs.Part.{known}
 use Rattle.lq_pred.specs.Formula.{negation}
+use Rattle.lq_included.specs.Symbols.{Symbols}
 use Rattle.lq_refined.specs.Context.{Context, guard}
-use Rattle.lq_refined.specs.Refined.{Refined, Refineds, Kind, other, kind, argument_of, components_of, unit_type}
+use Rattle.lq_refined.specs.Operations.{symbol_of}
+use Rattle.lq_refined.specs.Refined.{Refined, Refineds, type_variable, Kind, other, kind, argument_of, components_of, unit_type}
 use Rattle.lq_subtype.specs.Splitting.{first_of, rest_of}
-use Rattle.lq_scalar.proofs.Twins.{clash, false_unless}
+use Rattle.lq_scalar.proofs.Twins.{AreSmall, clash, false_unless}
+
+-- the type is a variable
+abbrev pub is_variable : Refined → Bool
+is_variable (type_variable i) = true
+is_variable _ = false
+
+-- what is known of a name by its type: the type's kind, and whether it is a variable
+abbrev pub NameKind : Type 0
+NameKind = Kind × Bool
+
+abbrev pub name_kind : Refined → NameKind
+name_kind t = (kind t, is_variable t)
 
 -- names with their kinds
 abbrev pub Kinds : Type 0
-Kinds = List (ℕ × Kind)
+Kinds = List (ℕ × NameKind)
 
-abbrev names_of_kinds : Kinds → List ℕ
+abbrev pub names_of_kinds : Kinds → List ℕ
 names_of_kinds [] = []
 names_of_kinds (e ∷ es) = e.0 ∷ names_of_kinds es
 
 -- each of these names has its kind
-abbrev pub Agree : (ℕ → Kind) → Kinds → Type 0
-Agree m [] = Unit {0}
-Agree m (e ∷ es) = (m e.0 ≡ e.1) × Agree m es
+abbrev pub KindsAre : (ℕ → NameKind) → Kinds → Type 0
+KindsAre m [] = Unit {0}
+KindsAre m (e ∷ es) = (m e.0 ≡ e.1) × KindsAre m es
 
-pub agree_front : (m : ℕ → Kind) (es fs : Kinds) → Agree m (es ++ fs) → Agree m es
+pub kinds_front : (m : ℕ → NameKind) (es fs : Kinds) → KindsAre m (es ++ fs) → KindsAre m es
+kinds_front m [] fs h = tt
+kinds_front m (e ∷ es) fs h = (h.0, kinds_front m es fs h.1)
+
+pub kinds_back : (m : ℕ → NameKind) (es fs : Kinds) → KindsAre m (es ++ fs) → KindsAre m fs
+kinds_back m [] fs h = h
+kinds_back m (e ∷ es) fs h = kinds_back m es fs h.1
+
+-- What is known of names within one definition: their kinds, which there are in it and behind it, and which of them earlier definitions defined.
+pub record Naming : Type 0 where
+  pub kinds : ℕ → NameKind
+  pub all : Symbols
+  pub general : Symbols
+  pub small : AreSmall all
+
+-- a name that is bound: it has its kind, it is among all, and no earlier definition defined it
+abbrev pub IsBound : Naming → ℕ → NameKind → Type 0
+IsBound m x k = (m.kinds x ≡ k) × (m.all (symbol_of x) ≡ true) × (m.general (symbol_of x) ≡ false)
+
+abbrev pub Agree : Naming → Kinds → Type 0
+Agree m [] = Unit {0}
+Agree m (e ∷ es) = IsBound m e.0 e.1 × Agree m es
+
+pub agree_front : (m : Naming) (es fs : Kinds) → Agree m (es ++ fs) → Agree m es
 agree_front m [] fs h = tt
 agree_front m (e ∷ es) fs h = (h.0, agree_front m es fs h.1)
 
-pub agree_back : (m : ℕ → Kind) (es fs : Kinds) → Agree m (es ++ fs) → Agree m fs
+pub agree_back : (m : Naming) (es fs : Kinds) → Agree m (es ++ fs) → Agree m fs
 agree_back m [] fs h = h
 agree_back m (e ∷ es) fs h = agree_back m es fs h.1
+
+-- each name is of these, or none is
+abbrev pub AllIn : Symbols → List ℕ → Type 0
+AllIn N [] = Unit {0}
+AllIn N (x ∷ xs) = (N (symbol_of x) ≡ true) × AllIn N xs
+
+abbrev pub NoneIn : Symbols → List ℕ → Type 0
+NoneIn N [] = Unit {0}
+NoneIn N (x ∷ xs) = (N (symbol_of x) ≡ false) × NoneIn N xs
+
+bound_by : (m : Naming) (es : Kinds) → KindsAre m.kinds es → AllIn m.all (names_of_kinds es) → NoneIn m.general (names_of_kinds es) → Agree m es
+bound_by m [] k a g = tt
+bound_by m (e ∷ es) k a g = ((k.0, a.0, g.0), bound_by m es k.1 a.1 g.1)
+
+pub names_bound : (m : Naming) (es : Kinds) (xs : List ℕ) → names_of_kinds es ≡ xs → KindsAre m.kinds es → AllIn m.all xs → NoneIn m.general xs
+    → Agree m es
+names_bound m es xs e k a g =
+    bound_by m es k (subst (λ ys. AllIn m.all ys) (sym e) a) (subst (λ ys. NoneIn m.general ys) (sym e) g)
 
 names_joined : (es fs : Kinds) → names_of_kinds (es ++ fs) ≡ names_of_kinds es ++ names_of_kinds fs
 names_joined [] fs = refl
@@ -41,19 +96,20 @@ names_joined (e ∷ es) fs = ap (λ xs. e.0 ∷ xs) (names_joined es fs)
 
 -- ---- names that differ have kinds
 
-abbrev pub kind_in : Kinds → ℕ → Kind
-kind_in [] x = other
+abbrev pub kind_in : Kinds → ℕ → NameKind
+kind_in [] x = (other, false)
 kind_in (e ∷ es) x = cond (e.0 == x) e.1 (kind_in es x)
 
 -- the first one hides no other
-others_agree : (e : ℕ × Kind) (m : ℕ → Kind) (es : Kinds) → IsNotIn (names_of_kinds es) e.0 → Agree m es → Agree (λ x. cond (e.0 == x) e.1 (m x)) es
+others_agree : (e : ℕ × NameKind) (m : ℕ → NameKind) (es : Kinds) → IsNotIn (names_of_kinds es) e.0 → KindsAre m es
+    → KindsAre (λ x. cond (e.0 == x) e.1 (m x)) es
 others_agree e m [] n h = tt
 others_agree e m (f ∷ es) n h =
     let apart : (e.0 == f.0) ≡ false =
     false_unless (e.0 == f.0) (λ k. clash (f.0 == e.0) (eq-eqb f.0 e.0 (sym (eqb-true e.0 f.0 k))) n.0) in
     (ap (λ b. cond b e.1 (m f.0)) apart ∙ h.0, others_agree e m es n.1 h.1)
 
-differing_agree : (es : Kinds) → AllDiffer (names_of_kinds es) → Agree (kind_in es) es
+differing_agree : (es : Kinds) → AllDiffer (names_of_kinds es) → KindsAre (kind_in es) es
 differing_agree [] h = tt
 differing_agree (e ∷ es) h =
     (ap (λ b. cond b e.1 (kind_in es e.0)) (eq-eqb e.0 e.0 refl), others_agree e (kind_in es) es h.0 (differing_agree es h.1))
@@ -63,12 +119,12 @@ differing_agree (e ∷ es) h =
 -- of components
 abbrev pub component_kinds : List ℕ → Refineds → Kinds
 component_kinds [] ts = []
-component_kinds (x ∷ xs) ts = (x, kind (first_of ts)) ∷ component_kinds xs (rest_of ts)
+component_kinds (x ∷ xs) ts = (x, name_kind (first_of ts)) ∷ component_kinds xs (rest_of ts)
 
 module _ (P : Basis) where
   abbrev pub pattern_kinds : Context → Use → Pattern → Kinds
   pattern_kinds Γ u pattern_any = []
-  pattern_kinds Γ u (pattern_name x) = (x, kind (variable_type P.setting.scopes u.name (type_of_use P Γ u))) ∷ []
+  pattern_kinds Γ u (pattern_name x) = (x, name_kind (variable_type P.setting.scopes u.name (type_of_use P Γ u))) ∷ []
   pattern_kinds Γ u pattern_unit = []
   pattern_kinds Γ u (pattern_tuple xs) = component_kinds xs (components_of (type_of_use P Γ u))
   pattern_kinds Γ u (pattern_build c xs) =
@@ -77,7 +133,7 @@ module _ (P : Basis) where
 
   abbrev mutual
     pub operation_kinds : Context → Operation → Refined → Kinds
-    operation_kinds Γ (fun p y b) t = (y, kind (argument_of t)) ∷ block_kinds (body_context Γ y t) b (body_type P.setting.scopes y t)
+    operation_kinds Γ (fun p y b) t = (y, name_kind (argument_of t)) ∷ block_kinds (body_context Γ y t) b (body_type P.setting.scopes y t)
     operation_kinds Γ (if_else p c a b) t =
         block_kinds (guard (known (formula_of c)) ∷ Γ) a t ++ block_kinds (guard (known (negation (formula_of c))) ∷ Γ) b t
     operation_kinds Γ (match_on p u arms) t = arms_kinds Γ u arms t
@@ -86,9 +142,9 @@ module _ (P : Basis) where
     pub block_kinds : Context → Block → Refined → Kinds
     block_kinds Γ (last l o) t = operation_kinds Γ o t
     block_kinds Γ (binding x l o b) t =
-        operation_kinds Γ o (type_of P Γ o) ++ (x, kind (type_of P Γ o)) ∷ block_kinds (bind x (type_of P Γ o) Γ) b t
+        operation_kinds Γ o (type_of P Γ o) ++ (x, name_kind (type_of P Γ o)) ∷ block_kinds (bind x (type_of P Γ o) Γ) b t
     block_kinds Γ (recursive g p y b c) t =
-        (g, kind (P.template p)) ∷ (y, kind (argument_of (P.template p)))
+        (g, name_kind (P.template p)) ∷ (y, name_kind (argument_of (P.template p)))
         ∷ (block_kinds (recursive_context P Γ g p y) b (recursive_type P p y) ++ block_kinds (bind g (P.template p) Γ) c t)
 
     pub arms_kinds : Context → Use → Arms → Refined → Kinds
@@ -98,17 +154,17 @@ module _ (P : Basis) where
   abbrev pub given_kinds : Context → Block → Kinds
   given_kinds Γ (last l o) = operation_kinds Γ o (type_of P Γ o)
   given_kinds Γ (binding x l o b) =
-      operation_kinds Γ o (type_of P Γ o) ++ (x, kind (type_of P Γ o)) ∷ given_kinds (bind x (type_of P Γ o) Γ) b
+      operation_kinds Γ o (type_of P Γ o) ++ (x, name_kind (type_of P Γ o)) ∷ given_kinds (bind x (type_of P Γ o) Γ) b
   given_kinds Γ (recursive g p y b c) =
-      (g, kind (P.template p)) ∷ (y, kind (argument_of (P.template p)))
+      (g, name_kind (P.template p)) ∷ (y, name_kind (argument_of (P.template p)))
       ∷ (block_kinds (recursive_context P Γ g p y) b (recursive_type P p y) ++ given_kinds (bind g (P.template p) Γ) c)
 
   abbrev pub program_kinds : Context → Program → Kinds
   program_kinds Γ no_items = []
   program_kinds Γ (define x l k b rest) =
-      given_kinds Γ b ++ (x, kind (last_type P Γ b)) ∷ program_kinds (bind x (last_type P Γ b) (last_context P Γ b)) rest
+      given_kinds Γ b ++ (x, name_kind (last_type P Γ b)) ∷ program_kinds (bind x (last_type P Γ b) (last_context P Γ b)) rest
   program_kinds Γ (define_recursive g p y b rest) =
-      (g, kind (P.template p)) ∷ (y, kind (argument_of (P.template p)))
+      (g, name_kind (P.template p)) ∷ (y, name_kind (argument_of (P.template p)))
       ∷ (block_kinds (recursive_context P Γ g p y) b (recursive_type P p y) ++ program_kinds (bind g (P.template p) Γ) rest)
   program_kinds Γ (run_unit b rest) = block_kinds Γ b unit_type ++ program_kinds Γ rest
   program_kinds Γ (run_any b rest) = given_kinds Γ b ++ program_kinds Γ rest
@@ -156,10 +212,11 @@ module _ (P : Basis) where
     operation_names Γ (map_add p k e m) t = refl
     operation_names Γ (map_find k m) t = refl
 
-    block_names : (Γ : Context) (b : Block) (t : Refined) → names_of_kinds (block_kinds Γ b t) ≡ block_binders b
+    pub block_names : (Γ : Context) (b : Block) (t : Refined) → names_of_kinds (block_kinds Γ b t) ≡ block_binders b
     block_names Γ (last l o) t = operation_names Γ o t
     block_names Γ (binding x l o b) t =
-        joined (operation_kinds Γ o (type_of P Γ o)) ((x, kind (type_of P Γ o)) ∷ block_kinds (bind x (type_of P Γ o) Γ) b t) (operation_binders o)
+        joined (operation_kinds Γ o (type_of P Γ o)) ((x, name_kind (type_of P Γ o)) ∷ block_kinds (bind x (type_of P Γ o) Γ) b t)
+        (operation_binders o)
         (x ∷ block_binders b) (operation_names Γ o (type_of P Γ o))
         (ap (λ xs. x ∷ xs) (block_names (bind x (type_of P Γ o) Γ) b t))
     block_names Γ (recursive f p y b c) t =
@@ -176,10 +233,10 @@ module _ (P : Basis) where
         (block_names (in_arm P Γ u q) b t))
         (arms_names Γ u arms t)
 
-  given_names : (Γ : Context) (b : Block) → names_of_kinds (given_kinds Γ b) ≡ block_binders b
+  pub given_names : (Γ : Context) (b : Block) → names_of_kinds (given_kinds Γ b) ≡ block_binders b
   given_names Γ (last l o) = operation_names Γ o (type_of P Γ o)
   given_names Γ (binding x l o b) =
-      joined (operation_kinds Γ o (type_of P Γ o)) ((x, kind (type_of P Γ o)) ∷ given_kinds (bind x (type_of P Γ o) Γ) b) (operation_binders o)
+      joined (operation_kinds Γ o (type_of P Γ o)) ((x, name_kind (type_of P Γ o)) ∷ given_kinds (bind x (type_of P Γ o) Γ) b) (operation_binders o)
       (x ∷ block_binders b) (operation_names Γ o (type_of P Γ o))
       (ap (λ xs. x ∷ xs) (given_names (bind x (type_of P Γ o) Γ) b))
   given_names Γ (recursive f p y b c) =
@@ -191,7 +248,8 @@ module _ (P : Basis) where
   program_names : (Γ : Context) (p : Program) → names_of_kinds (program_kinds Γ p) ≡ binders p
   program_names Γ no_items = refl
   program_names Γ (define x l k b rest) =
-      joined (given_kinds Γ b) ((x, kind (last_type P Γ b)) ∷ program_kinds (bind x (last_type P Γ b) (last_context P Γ b)) rest) (block_binders b)
+      joined (given_kinds Γ b) ((x, name_kind (last_type P Γ b)) ∷ program_kinds (bind x (last_type P Γ b) (last_context P Γ b)) rest)
+      (block_binders b)
       (x ∷ binders rest) (given_names Γ b)
       (ap (λ xs. x ∷ xs) (program_names (bind x (last_type P Γ b) (last_context P Γ b)) rest))
   program_names Γ (define_recursive g p y b rest) =
@@ -205,5 +263,5 @@ module _ (P : Basis) where
       joined (given_kinds Γ b) (program_kinds Γ rest) (block_binders b) (binders rest) (given_names Γ b) (program_names Γ rest)
 
   -- so where they differ there are kinds for them
-  pub binders_agree : (p : Program) → AllDiffer (binders p) → Agree (kind_in (program_kinds [] p)) (program_kinds [] p)
+  pub binders_agree : (p : Program) → AllDiffer (binders p) → KindsAre (kind_in (program_kinds [] p)) (program_kinds [] p)
   binders_agree p d = differing_agree (program_kinds [] p) (subst AllDiffer (sym (program_names [] p)) d)

@@ -14,11 +14,11 @@ use Rattle.lq_scalar.specs.Laws.{ScalarNormalFormsArePlain, ScalarProgramsArePla
 
 pub normal_plain : TemplatesAreInScope → ScopesAreOfUnknowns → TemplatesAreOfPoints → ReadIsTyped → TemplatesAreWritten → ScalarProgramsArePlain
     → ScalarNormalFormsArePlain
-normal_plain scope scopes templates typed written plain D used n by is A O same normal obeys uses scalar datatypes sorted ready differ twins =
+normal_plain scope scopes templates typed written plain D n by is A O same normal obeys uses scalar datatypes sorted ready differ twins before =
     let p : Read Program = program_of n is in
-    plain (basis_of D p.points) (unknown_in (unknowns_of D p.points)) A O used sorted (scopes D p.points) datatypes (points_of p.points)
+    plain (basis_of D p.points) (unknown_in (unknowns_of D p.points)) A O sorted (scopes D p.points) datatypes (points_of p.points)
     (templates D p.points) p.read
     (subst (λ (q : Read Program). HasProgram (basis_of D q.points) (points_of q.points) [] q.read) same (typed D by is normal obeys uses)) ready
     (subst (λ (q : Read Program). InScope (basis_of D q.points) (unknown_in (unknowns_of D q.points)) no_names q.read) same
     (scope D by is normal obeys uses))
-    differ twins (written D used n is normal scalar)
+    differ twins (written D n is normal scalar) before

@@ -1,13 +1,13 @@
 -- Programs whose forms are scalar, and whose templates are written so, are plain.
-use Rattle.std.proofs.Common.{◌≡◌, inr, ℕ, true, false, List, [], ◌∷◌, ◌++◌, Option, Some, None, refl, sym, ap, subst, ◌∙◌}
+use Rattle.std.proofs.Common.{◌≡◌, ◌⊎◌, inl, inr, ℕ, true, false, List, [], ◌∷◌, ◌++◌, Option, Some, None, sym, ap, subst, ◌∙◌}
 use Rattle.lq_checks.specs.Basis.{Basis}
-use Rattle.lq_checks.specs.Binders.{AreNewNames, IsNewName, arms_binders, operation_binders, block_binders, binders}
-use Rattle.lq_checks.specs.Fitting.{Fits, fits_none, fits_bind, fits_guard, GiveSimpleTypes, SimpleTypesAreGiven}
+use Rattle.lq_checks.specs.Binders.{AreNewNames, IsNewName, arms_binders, operation_binders, block_binders}
+use Rattle.lq_checks.specs.Fitting.{Fits, fits_bind, fits_guard, GiveSimpleTypes, SimpleTypesAreGiven}
 use Rattle.lq_checks.specs.Match.{in_arm, is_data_match}
 use Rattle.lq_checks.specs.Operation.{body_context, body_type, built_type, field_types, recursive_context, recursive_type, type_of, bind, last_context, last_type}
 use Rattle.lq_checks.specs.Pure.{formula_of, pure_type, type_of_use}
-use Rattle.lq_checks.specs.Ready.{IsReadyBlock, IsReadyCase, IsReadyDefault, IsReadyFirst, IsReadyGiven, IsReadyOperation, IsReady, SameType, SameTypes}
-use Rattle.lq_checks.specs.Tree.{names_of, is_arm_of, passes_on, takes_all, Use, Pattern, Arms, no_arms, arm, Pure, Operation, pure, fun, if_else, match_on, call, tuple, build, make, fetch, store, divide, remainder, assert, assert_false, read, print, map_empty, map_add, map_find, Block, last, binding, recursive, Program, no_items, define, define_recursive, run_unit, run_any}
+use Rattle.lq_checks.specs.Ready.{IsReadyBlock, IsReadyCase, IsReadyDefault, IsReadyFirst, IsReadyGiven, IsReadyOperation, SameType, SameTypes}
+use Rattle.lq_checks.specs.Tree.{names_of, is_arm_of, last_operation, passes_on, takes_all, Use, Pattern, Arms, no_arms, arm, Pure, Operation, pure, fun, if_else, match_on, call, tuple, build, make, fetch, store, divide, remainder, assert, assert_false, read, print, map_empty, map_add, map_find, Block, last, binding, recursive}
 use Rattle.lq_checks.specs.Typing as typing
 use Rattle.lq_checks.specs.Typing.{Points, AreTemplates, Types, HasPattern, HasOperation, HaveArms, HasBlock, HasEnd, HasProgram}
 use Rattle.lq_included.specs.Symbols.{Symbols, with_symbol, TypeOn}
@@ -17,19 +17,20 @@ use Rattle.lq_in_scope.specs.Laws.{TypesAreOver}
 use Rattle.lq_in_scope.specs.Over.{AreSorted, IsWithin, TypeOver, of_any_sort, with_argument}
 use Rattle.lq_inhabits.specs.Truth.{Objects, Scene}
 use Rattle.lq_names_kept.specs.Laws.{KeepNames, NamesAreKept}
+use Rattle.lq_instanced.specs.Instances.{HasNoVariables, NamesOutside}
 use Rattle.lq_parts.specs.Assignment.{Assignment}
+use Rattle.lq_quiet.specs.Quiet.{IsValueBlock}
 use Rattle.lq_parts.specs.Part.{known}
-use Rattle.lq_plain.specs.Plain.{ArePlainArguments, IsArmClosed, IsFlow, IsGivenOver, IsPlain, IsPlainBlock, IsPlainCase, IsPlainDefault, IsPlainFirst, IsPlainGiven, IsPlainProgram, IsRecursionOver}
+use Rattle.lq_plain.specs.Plain.{ArePlainArguments, IsArmClosed, IsFlow, IsGivenOver, IsPlain, IsPlainBlock, IsPlainCase, IsPlainDefault, IsPlainFirst, IsPlainGiven, IsRecursionOver}
 use Rattle.lq_plain.proofs.Datatypes.{within_arm}
 use Rattle.lq_plain_scope.specs.Laws.{RecursionsAreOver}
 use Rattle.lq_pred.specs.Formula.{negation}
-use Rattle.lq_pures.specs.Pures.{PureOver, UseOver, scene_of}
-use Rattle.lq_refined.specs.Context.{Context, guard, type_in}
+use Rattle.lq_pures.specs.Pures.{EachUse, PureOver, scene_of}
+use Rattle.lq_refined.specs.Context.{Context, guard}
 use Rattle.lq_refined.specs.Operations.{symbol_of}
 use Rattle.lq_refined.specs.Refined.{Refined, Refineds, none, more, int_with, bool_with, unit_type, function, tuple_of, array_with, data_with, map_with, type_variable, Kind, kind, argument_of, element_of, erased}
 use Rattle.lq_runs.specs.Closed.{names_in, IsTypeOver}
 use Rattle.lq_runs.proofs.Closing.{within_with, with_within}
-use Rattle.lq_safe.specs.Programs.{PuresOver}
 use Rattle.lq_safe.specs.Scoped.{AreDatatypesFor, IsOperand, NamesArgument}
 use Rattle.lq_sorted_matrices.specs.Laws.{ArgumentsLackFields, MatricesAreSorted}
 use Rattle.lq_subtype.specs.Splitting.{first_of, rest_of}
@@ -38,26 +39,29 @@ use Rattle.lq_tuples.specs.Tuples.{AreUsable, HasComponentsOver}
 use Rattle.lq_tree.specs.MlType as ml
 use Rattle.lq_tree.specs.MlType.{MlType}
 use Rattle.lq_scalar.specs.Data.{HasDatatypes}
-use Rattle.lq_scalar.specs.Laws.{ScalarProgramsArePlain}
-use Rattle.lq_scalar.specs.Scalar.{Arities, HaveTwins}
-use Rattle.lq_scalar.specs.Written.{AreArmsWritten, HasArm, HasPlainUses, IsBlockFor, IsBlockWritten, IsFunctionFor, IsNameless, IsNamedBy, IsOperationWritten, IsWritten}
+use Rattle.lq_scalar.specs.Scalar.{HasNoTypeVariables, HaveTwins}
+use Rattle.lq_scalar.specs.Written.{end_point, AreArmsWritten, HasArm, IsBlockFor, IsBlockWritten, IsFunctionFor, IsNameless, IsNamedBy, IsOperationWritten}
 use Rattle.lq_scalar.proofs.Contexts as contexts
 use Rattle.lq_scalar.proofs.Builds.{AreFields, built_fine}
-use Rattle.lq_scalar.proofs.Contexts.{IsKnown, fine_known, function_far, good_bind, good_guard, known_usable, near_bind, own_body, own_near, pure_fine, pure_usable, small_bind, small_names, use_known, wide}
+use Rattle.lq_scalar.proofs.Contexts.{IsKnown, fine_known, function_far, good_bind, good_guard, known_usable, near_bind, own_body, own_near, pure_fine, pure_over, pure_usable, small_bind, small_names, use_known, use_over, wide}
 use Rattle.lq_scalar.proofs.Fine.{IsBuiltFine, argument_fine, element_fine, flow, nameless_fine, operation_fine, sort_within, typed}
-use Rattle.lq_scalar.proofs.Forms.{arms_covered, arms_forms, block_uses, function_scalar, nameless_block, pure_more, pure_uses, pures_more, pures_uses, twins_back, twins_front}
-use Rattle.lq_scalar.proofs.NameKinds.{Agree, agree_back, agree_front, arms_kinds, binders_agree, block_kinds, pattern_kinds, given_kinds, kind_in, operation_kinds, program_kinds}
+use Rattle.lq_scalar.proofs.Forms.{function_scalar, nameless_block, twins_back, twins_front}
+use Rattle.lq_scalar.proofs.NameKinds.{Agree, agree_back, agree_front, arms_kinds, block_kinds, given_kinds, name_kind, Naming, NoneIn, operation_kinds, pattern_kinds}
+use Rattle.lq_scalar.proofs.Outside.{operation_outside}
 use Rattle.lq_scalar.proofs.Patterns.{arm_names, arm_opened, components_over, matched_data, template_data}
-use Rattle.lq_scalar.proofs.Typings.{IsBuilt, IsSuited, RecursiveTyping, any_typing, argument_in, arm_typing, binding_typing, built_typing, define_recursive_typing, define_typing, end_binding_typing, end_last_fits, end_last_typing, end_recursive_typing, last_typing, others, recursive_typing, result_in, suited_given, suited_last, unit_typing, where_either, where_or}
+use Rattle.lq_scalar.proofs.Twins.{AreSmall}
+use Rattle.lq_scalar.proofs.Types.{none_variable}
+use Rattle.lq_scalar.proofs.Uses.{IsKnownUse, PureOf, PuresOf, UseOf, pure_more, pure_uses, pures_more, pures_uses, use_erased, use_more}
+use Rattle.lq_scalar.proofs.Typings.{IsBuilt, IsSuited, RecursiveTyping, argument_in, arm_typing, binding_typing, built_typing, end_binding_typing, end_last_fits, end_last_typing, end_recursive_typing, fetch_typing, last_typing, others, recursive_typing, result_in, suited_given, suited_last, where_either, where_or}
 
 module _ (over : TypesAreOver) (kept : NamesAreKept) (recursions : RecursionsAreOver) (given : SimpleTypesAreGiven) (matrices : MatricesAreSorted)
-    (lack : ArgumentsLackFields) (P : Basis) (unknowns : ℕ → Unknown) (A : Assignment) (O : Objects) (U : Arities) (sorted : AreSorted unknowns A)
-    (agree : (u : ℕ) → P.setting.scopes u ≡ symbols_in (unknowns u).0) (datatypes : HasDatatypes U P O) (Q : Points) (templates : AreTemplates P Q)
-    (m : ℕ → Kind) where
+    (lack : ArgumentsLackFields) (P : Basis) (unknowns : ℕ → Unknown) (A : Assignment) (O : Objects) (sorted : AreSorted unknowns A)
+    (agree : (u : ℕ) → P.setting.scopes u ≡ symbols_in (unknowns u).0) (datatypes : HasDatatypes P O) (Q : Points) (templates : AreTemplates P Q)
+    (m : Naming) where
   give : GiveSimpleTypes P Q
   give = given P Q templates
 
-  keep : KeepNames P.setting.constructors unknowns P.setting.scopes
+  abbrev pub keep : KeepNames P.setting.constructors unknowns P.setting.scopes
   keep = kept P.setting.constructors unknowns P.setting.scopes agree
 
   abbrev S : Scene
@@ -67,13 +71,16 @@ module _ (over : TypesAreOver) (kept : NamesAreKept) (recursions : RecursionsAre
   Over N t = TypeOver P.setting.constructors unknowns (of_any_sort N) t
 
   abbrev Fine : Symbols → Refined → Type 0
-  Fine = contexts.IsFine P unknowns keep m U
+  Fine = contexts.IsFine P unknowns keep m
+
+  abbrev Known : Use → Type 0
+  Known = IsKnownUse P unknowns keep m
 
   abbrev Good : Context → Type 0
-  Good = contexts.IsGood P unknowns keep m U
+  Good = contexts.IsGood P unknowns keep m
 
   told : (N : Symbols) (t : Refined) → Over N t → IsTypeOver S N t
-  told N t h = typed P unknowns keep m U over matrices A O sorted N t h
+  told N t h = typed P unknowns keep m over matrices A O sorted N t h
 
   given_over : (Γ : Context) (o : Operation) → IsTypeOver S (names_in Γ) (type_of P Γ o) → IsGivenOver P A O Γ o
   given_over Γ (pure e) h = inr h
@@ -101,7 +108,7 @@ module _ (over : TypesAreOver) (kept : NamesAreKept) (recursions : RecursionsAre
   -- a result over a function's names is over the parameter
   result_over : (N : Symbols) (y : ℕ) (x : Option ℕ) → IsNamedBy y x → (k : Kind) (r : Refined)
       → TypeOver P.setting.constructors unknowns (with_argument (of_any_sort N) x k) r → Over (with_symbol N (symbol_of y)) r
-  result_over N y None e k r h = wide P unknowns keep m U N (with_symbol N (symbol_of y)) (within_with N (symbol_of y)) r h
+  result_over N y None e k r h = wide P unknowns keep m N (with_symbol N (symbol_of y)) (within_with N (symbol_of y)) r h
   result_over N y (Some x) e k r h =
       subst (λ z. Over (with_symbol N (symbol_of z)) r) e
       (keep.widening (with_argument (of_any_sort N) (Some x) k) (of_any_sort (with_symbol N (symbol_of x))) (sort_within N k (symbol_of x)) r h)
@@ -111,12 +118,12 @@ module _ (over : TypesAreOver) (kept : NamesAreKept) (recursions : RecursionsAre
       NamesArgument A (names_in Γ) y t × IsTypeOver S (names_in Γ) (argument_of t)
       × TypeOn A (body_type P.setting.scopes y t) (names_in (body_context Γ y t))
 
-  function_over : (Γ : Context) (y : ℕ) (b : Block) (t : Refined) → IsFunctionFor U y b t → Over (names_in Γ) t → (u v : MlType)
+  function_over : (Γ : Context) (y : ℕ) (b : Block) (t : Refined) → IsFunctionFor y b t → Over (names_in Γ) t → (u v : MlType)
       → erased t ≡ ml.arrow u v → FunctionOver Γ y t
   function_over Γ y b (function x a r) w h u v e = (
     names x w.0 (h.0.2, h.0.3),
     told (names_in Γ) a (h.0.0, h.0.1),
-    subst (λ s. TypeOn A s (names_in (bind y a Γ))) (sym (own_body P m U y x w.0 (kind a) r))
+    subst (λ s. TypeOn A s (names_in (bind y a Γ))) (sym (own_body P m y x w.0 (kind a) r))
         (told (with_symbol (names_in Γ) (symbol_of y)) r (result_over (names_in Γ) y x w.0 (kind a) r (h.0.2, h.0.3))).0,
   )
     where
@@ -133,23 +140,23 @@ module _ (over : TypesAreOver) (kept : NamesAreKept) (recursions : RecursionsAre
   function_over Γ y b (map_with i p) w h u v e = cc
   function_over Γ y b (type_variable i) w h u v e = cc
 
-  abbrev BlockPlain : Block → Type 0
+  abbrev pub BlockPlain : Block → Type 0
   BlockPlain b =
-      (N : Symbols) (Γ : Context) → IsWithin N (names_in Γ) → Good Γ → (t : Refined) → BlockInScope P unknowns N b → IsBlockWritten U P true b
-      → IsReadyBlock P Γ b t → HaveTwins (block_binders b) → Agree m (block_kinds P Γ b t) → IsBlockFor U b t → Over (names_in Γ) t → (Δ : Types)
+      (N : Symbols) (Γ : Context) → IsWithin N (names_in Γ) → Good Γ → (t : Refined) → BlockInScope P unknowns N b → IsBlockWritten P Known true b
+      → IsReadyBlock P Γ b t → HaveTwins (block_binders b) → Agree m (block_kinds P Γ b t) → IsBlockFor b t → Over (names_in Γ) t → (Δ : Types)
       → Fits Δ Γ → HasBlock P Q Δ b (erased t) → IsPlainBlock P A O Γ b t
 
   -- the body of a function, against its type
   body_plain : (y : ℕ) (b : Block) → BlockPlain b → (N : Symbols) (Γ : Context) → IsWithin N (names_in Γ) → Good Γ → (t : Refined)
-      → BlockInScope P unknowns (with_symbol N (symbol_of y)) b → IsBlockWritten U P true b
+      → BlockInScope P unknowns (with_symbol N (symbol_of y)) b → IsBlockWritten P Known true b
       → IsReadyBlock P (body_context Γ y t) b (body_type P.setting.scopes y t) → HaveTwins (y ∷ block_binders b)
-      → Agree m ((y, kind (argument_of t)) ∷ block_kinds P (body_context Γ y t) b (body_type P.setting.scopes y t)) → IsFunctionFor U y b t
+      → Agree m ((y, name_kind (argument_of t)) ∷ block_kinds P (body_context Γ y t) b (body_type P.setting.scopes y t)) → IsFunctionFor y b t
       → Over (names_in Γ) t → (Δ : Types) (u v : MlType) → Fits Δ Γ → HasBlock P Q ((y, u) ∷ Δ) b v → erased t ≡ ml.arrow u v
       → IsPlainBlock P A O (body_context Γ y t) b (body_type P.setting.scopes y t)
   body_plain y b plain N Γ w good (function x a r) scoped written ready twins kinds is h Δ u v fits typing e =
-      let own = own_body P m U y x is.0 (kind a) r in
-      let fine = nameless_fine P unknowns keep m U (names_in Γ) a is.1 (h.0.0, h.0.1) in
-      let inner = good_bind P unknowns keep m U Γ good y a twins.0 kinds.0 (fine_known P unknowns keep m U (names_in Γ) a fine) in
+      let own = own_body P m y x is.0 (kind a) r in
+      let fine = nameless_fine P unknowns keep m (names_in Γ) a is.1 (h.0.0, h.0.1) in
+      let inner = good_bind P unknowns keep m Γ good y a twins.0 kinds.0 (fine_known P unknowns keep m (names_in Γ) a fine) in
       let f : v ≡ erased r = sym (ap result_in e) in
       subst (λ s. IsPlainBlock P A O (bind y a Γ) b s) (sym own)
       (plain (with_symbol N (symbol_of y)) (bind y a Γ) (with_within N (names_in Γ) (symbol_of y) w) inner r scoped written
@@ -167,38 +174,45 @@ module _ (over : TypesAreOver) (kept : NamesAreKept) (recursions : RecursionsAre
 
   -- ---- operands
 
-  operand_over : (N : Symbols) (Γ : Context) → IsWithin N (names_in Γ) → (e : Pure) → PureInScope P unknowns N e → HasPlainUses e → PureOver (names_in Γ) e
-  operand_over N Γ w e scoped written = pure_more N (names_in Γ) w e (pure_uses P unknowns N e scoped written)
+  operand_of : (N : Symbols) (Γ : Context) → IsWithin N (names_in Γ) → (e : Pure) → PureInScope P unknowns N e → EachUse Known e
+      → PureOf P unknowns keep m (names_in Γ) e
+  operand_of N Γ w e scoped written = pure_more P unknowns keep m N (names_in Γ) w e (pure_uses P unknowns keep m N e scoped written)
 
-  operand : (Γ : Context) → Good Γ → (e : Pure) → PureOver (names_in Γ) e → IsOperand P A O Γ e
-  operand Γ good e o = (o, pure_usable P unknowns keep m U over A O sorted Γ good e o)
+  operand_over : (N : Symbols) (Γ : Context) → IsWithin N (names_in Γ) → Good Γ → (e : Pure) → PureInScope P unknowns N e → EachUse Known e
+      → PureOver P A Γ e
+  operand_over N Γ w good e scoped written = pure_over P unknowns keep m over A O sorted Γ good e (operand_of N Γ w e scoped written)
 
-  operands : (Γ : Context) → Good Γ → (es : List Pure) → PuresOver (names_in Γ) es → AreUsable S Γ es
+  operand : (Γ : Context) → Good Γ → (e : Pure) → PureOf P unknowns keep m (names_in Γ) e → IsOperand P A O Γ e
+  operand Γ good e o = (pure_over P unknowns keep m over A O sorted Γ good e o, pure_usable P unknowns keep m over A O sorted Γ good e o)
+
+  operands : (Γ : Context) → Good Γ → (es : List Pure) → PuresOf P unknowns keep m (names_in Γ) es → AreUsable P A O Γ es
   operands Γ good [] o = tt
-  operands Γ good (e ∷ es) o = (o.0, pure_usable P unknowns keep m U over A O sorted Γ good e o.0, operands Γ good es o.1)
+  operands Γ good (e ∷ es) o =
+      (pure_over P unknowns keep m over A O sorted Γ good e o.0, pure_usable P unknowns keep m over A O sorted Γ good e o.0, operands Γ good es o.1)
 
   -- ---- a recursive function's name in the environment
 
   recursive_good : (N : Symbols) (Γ : Context) → IsWithin N (names_in Γ) → Good Γ → (g p y : ℕ) (b : Block) → Over N (P.template p)
-      → IsFunctionFor U y b (P.template p) → IsNewName y (bind g (P.template p) Γ)
+      → IsFunctionFor y b (P.template p) → IsNewName y (bind g (P.template p) Γ)
       → IsReadyBlock P (recursive_context P Γ g p y) b (recursive_type P p y) → HaveTwins (g ∷ y ∷ block_binders b)
-      → Agree m ((g, kind (P.template p)) ∷ (y, kind (argument_of (P.template p))) ∷ block_kinds P (recursive_context P Γ g p y) b (recursive_type P p y))
+      → Agree m ((g, name_kind (P.template p)) ∷ (y, name_kind (argument_of (P.template p))) ∷ block_kinds P (recursive_context P Γ g p y) b (recursive_type P p y))
       → Good (bind g (P.template p) Γ)
   recursive_good N Γ w good g p y b h is new ready twins kinds =
       let t = P.template p in
-      let small = small_names P unknowns keep m U Γ good in
-      let far = function_far P m U y b (bind g t Γ) t (names_in Γ) (near_bind (names_in Γ) Γ g t (own_near Γ)) (small_bind Γ g t small twins.0) new ready twins.1 kinds.1 is in
+      let small = small_names P unknowns keep m Γ good in
+      let far = function_far P m y b (bind g t Γ) t (names_in Γ) (near_bind (names_in Γ) Γ g t (own_near Γ))
+      (small_bind Γ g t small twins.0) new ready twins.1 kinds.1 is in
       let fine : Fine (names_in Γ) t =
-      record { scalar = function_scalar U y p b t is; over = wide P unknowns keep m U N (names_in Γ) w t h; apart = far.0; named = far.1 } in
-      good_bind P unknowns keep m U Γ good g t twins.0 kinds.0 (fine_known P unknowns keep m U (names_in Γ) t fine)
+      record { scalar = function_scalar y p b t is; over = wide P unknowns keep m N (names_in Γ) w t h; apart = far.0; named = far.1 } in
+      good_bind P unknowns keep m Γ good g t twins.0 kinds.0 (fine_known P unknowns keep m (names_in Γ) t fine)
 
   -- a recursive function, by what is plain of its body
-  recursive_by : (b : Block) → BlockPlain b → (N : Symbols) (Γ : Context) → IsWithin N (names_in Γ) → Good Γ → (g p y : ℕ) → Over N (P.template p)
+  pub recursive_by : (b : Block) → BlockPlain b → (N : Symbols) (Γ : Context) → IsWithin N (names_in Γ) → Good Γ → (g p y : ℕ) → Over N (P.template p)
       → NamesParameter y (P.template p) → BlockInScope P unknowns (with_symbol (with_symbol N (symbol_of g)) (symbol_of y)) b
-      → IsFunctionFor U y b (P.template p) → IsBlockWritten U P true b → IsNewName y (bind g (P.template p) Γ)
+      → IsFunctionFor y b (P.template p) → IsBlockWritten P Known true b → IsNewName y (bind g (P.template p) Γ)
       → IsReadyBlock P (recursive_context P Γ g p y) b (recursive_type P p y) → HaveTwins (g ∷ y ∷ block_binders b)
-      → Agree m ((g, kind (P.template p)) ∷ (y, kind (argument_of (P.template p))) ∷ block_kinds P (recursive_context P Γ g p y) b (recursive_type P p y))
-      → (Δ : Types) → Fits Δ Γ → RecursiveTyping U P Q Δ g p y b
+      → Agree m ((g, name_kind (P.template p)) ∷ (y, name_kind (argument_of (P.template p))) ∷ block_kinds P (recursive_context P Γ g p y) b (recursive_type P p y))
+      → (Δ : Types) → Fits Δ Γ → RecursiveTyping P Q Δ g p y b
       → (IsRecursionOver P A O Γ g p y × IsPlainBlock P A O (recursive_context P Γ g p y) b (recursive_type P p y)) × Good (bind g (P.template p) Γ)
   recursive_by b plain N Γ w good g p y h named scoped is written new ready twins kinds Δ fits typing =
       let t = P.template p in
@@ -208,7 +222,8 @@ module _ (over : TypesAreOver) (kept : NamesAreKept) (recursions : RecursionsAre
         (
           recursions P unknowns A O sorted agree N Γ w g p y h named,
           body_plain y b plain M (bind g t Γ) v inner t scoped written ready twins.1 kinds.1 is
-              (wide P unknowns keep m U N (names_in (bind g t Γ)) (λ z k. within_with (names_in Γ) (symbol_of g) z (w z k)) t h) ((g, Q.point p) ∷ Δ) typing.0
+              (wide P unknowns keep m N (names_in (bind g t Γ)) (λ z k. within_with (names_in Γ) (symbol_of g) z (w z k)) t h)
+              ((g, Q.point p) ∷ Δ) typing.0
               typing.1.0 (fits_bind (templates.templates p) fits) typing.1.1.0 (templates.templates p ∙ typing.1.1.1),
         ),
         inner,
@@ -216,87 +231,93 @@ module _ (over : TypesAreOver) (kept : NamesAreKept) (recursions : RecursionsAre
 
   -- ---- arms
 
-  matched : (Γ : Context) → Good Γ → (u : Use) → UseOver (names_in Γ) u → is_data_match P Γ u ≡ true → AreDatatypesFor P A O Γ u
-  matched = matched_data over matrices lack P unknowns keep m U agree A O sorted datatypes
+  matched : (Γ : Context) → Good Γ → (u : Use) → UseOf P unknowns keep m (names_in Γ) u → is_data_match P Γ u ≡ true → AreDatatypesFor P A O Γ u
+  matched = matched_data over matrices lack P unknowns keep m agree A O sorted datatypes
 
-  over_components : (N : Symbols) (t : Refined) → IsKnown P unknowns keep m U N t → HasComponentsOver A N t
-  over_components = components_over over matrices lack P unknowns keep m U agree A O sorted datatypes
+  over_components : (N : Symbols) (t : Refined) → IsKnown P unknowns keep m N t → HasComponentsOver A N t
+  over_components = components_over over matrices lack P unknowns keep m agree A O sorted datatypes
 
   -- one arm, by what is plain of its block
-  arm_by : (q : Pattern) (b : Block) → BlockPlain b → (N : Symbols) (Γ : Context) → IsWithin N (names_in Γ) → Good Γ → (u : Use) → UseOver (names_in Γ) u
-      → (t : Refined) → BlockInScope P unknowns (scopes.with_names N (names_of q)) b → IsBlockWritten U P true b
+  arm_by : (q : Pattern) (b : Block) → BlockPlain b → (N : Symbols) (Γ : Context) → IsWithin N (names_in Γ) → Good Γ → (u : Use)
+      → UseOf P unknowns keep m (names_in Γ) u
+      → (t : Refined) → BlockInScope P unknowns (scopes.with_names N (names_of q)) b → IsBlockWritten P Known true b
       → AreNewNames (names_of q) Γ × IsReadyBlock P (in_arm P Γ u q) b t → HaveTwins (names_of q ++ block_binders b)
-      → Agree m (pattern_kinds P Γ u q ++ block_kinds P (in_arm P Γ u q) b t) → IsNameless U t → Over (names_in Γ) t → (Δ Θ : Types) → Fits Δ Γ
+      → Agree m (pattern_kinds P Γ u q ++ block_kinds P (in_arm P Γ u q) b t) → IsNameless t → Over (names_in Γ) t → (Δ Θ : Types) → Fits Δ Γ
       → HasPattern P Δ (typing.type_of_use Q Δ u) q Θ → HasBlock P Q Θ b (erased t)
       → IsArmClosed P A O Γ u q × IsPlainBlock P A O (in_arm P Γ u q) b t
   arm_by q b plain N Γ w good u used t scoped written ready twins kinds is h Δ Θ fits pattern typing =
       let Λ = in_arm P Γ u q in
-      let opened = arm_opened over matrices lack P unknowns keep m U agree A O sorted datatypes Q Γ good u used q Δ Θ fits pattern ready.0
+      let opened = arm_opened over matrices lack P unknowns keep m agree A O sorted datatypes Q templates Γ good u used q Δ Θ fits pattern ready.0
       (twins_front (names_of q) (block_binders b) twins) (agree_front m (pattern_kinds P Γ u q) (block_kinds P Λ b t) kinds) in (
         opened.1,
         plain (scopes.with_names N (names_of q)) Λ
-            (arm_names over matrices lack P unknowns keep m U agree A O sorted datatypes N Γ w u q) opened.0 t scoped written ready.1
-            (twins_back (names_of q) (block_binders b) twins) (agree_back m (pattern_kinds P Γ u q) (block_kinds P Λ b t) kinds) (nameless_block U b t is)
-            (wide P unknowns keep m U (names_in Γ) (names_in Λ) (within_arm P Γ u q) t h) Θ (give.arms Δ Θ Γ u q fits pattern) typing,
+            (arm_names over matrices lack P unknowns keep m agree A O sorted datatypes N Γ w u q) opened.0 t scoped written ready.1
+            (twins_back (names_of q) (block_binders b) twins) (agree_back m (pattern_kinds P Γ u q) (block_kinds P Λ b t) kinds)
+            (nameless_block b t is)
+            (wide P unknowns keep m (names_in Γ) (names_in Λ) (within_arm P Γ u q) t h) Θ (give.arms Δ Θ Γ u q fits pattern) typing,
       )
 
   -- of arms: from what is ready to what is plain
   abbrev ArmsPlain : Arms → (Context → Use → Refined → Type 0) → (Context → Use → Refined → Type 0) → Type 0
   ArmsPlain arms Ready Plain =
-      (N : Symbols) (Γ : Context) → IsWithin N (names_in Γ) → Good Γ → (u : Use) → UseOver (names_in Γ) u → (t : Refined) → ArmsInScope P unknowns N arms
-      → AreArmsWritten U P arms → Ready Γ u t → HaveTwins (arms_binders arms) → Agree m (arms_kinds P Γ u arms t) → IsNameless U t → Over (names_in Γ) t
+      (N : Symbols) (Γ : Context) → IsWithin N (names_in Γ) → Good Γ → (u : Use) → UseOf P unknowns keep m (names_in Γ) u →
+      (t : Refined) → ArmsInScope P unknowns N arms
+      → AreArmsWritten P Known arms → Ready Γ u t → HaveTwins (arms_binders arms) → Agree m (arms_kinds P Γ u arms t) → IsNameless t
+      → Over (names_in Γ) t
       → (Δ : Types) → Fits Δ Γ → HaveArms P Q Δ (typing.type_of_use Q Δ u) arms (erased t) → Plain Γ u t
 
   -- ---- constructors
 
-  built : (N : Symbols) (Γ : Context) → IsWithin N (names_in Γ) → (p c : ℕ) (es : List Pure) → IsBuilt U P Q p c es → Over N (P.template p)
-      → IsNameless U (P.template p) → PuresOver (names_in Γ) es → SameTypes P Γ es (field_types P Γ p c es)
-      → Fine (names_in Γ) (built_type P Γ p c es) × AreFields P unknowns keep m U agree (names_in Γ) (field_types P Γ p c es)
+  built : (N : Symbols) (Γ : Context) → IsWithin N (names_in Γ) → (p c : ℕ) (es : List Pure) → IsBuilt P Q p c es → Over N (P.template p)
+      → IsNameless (P.template p) → PuresOf P unknowns keep m (names_in Γ) es → SameTypes P Γ es (field_types P Γ p c es)
+      → Fine (names_in Γ) (built_type P Γ p c es) × AreFields P unknowns keep m agree (names_in Γ) (field_types P Γ p c es)
   built N Γ w p c es is h nameless o same =
       let t = P.template p in
-      built_fine P unknowns keep m U agree datatypes.scalar datatypes.equations Γ c es is.made is.arguments t is.there (templates.templates p ∙ is.point)
-      nameless (wide P unknowns keep m U N (names_in Γ) w t h) is.count o same
+      built_fine P unknowns keep m agree datatypes.equations Γ c es is.made is.arguments t is.there (templates.templates p ∙ is.point)
+      nameless (wide P unknowns keep m N (names_in Γ) w t h) is.count o same
 
   -- where the operation is a constructor, its value's type is fine
-  built_ok : (o : Operation) (N : Symbols) (Γ : Context) → IsWithin N (names_in Γ) → (t : Refined) (Δ : Types) {a : MlType} → HasOperation P Q Δ o a
-      → OperationInScope P unknowns N o → IsOperationWritten U P o → IsReadyOperation P Γ o t → IsBuiltFine P unknowns keep m U Γ o
-  built_ok (build p c es) N Γ w t Δ typing scoped written ready =
-      (built N Γ w p c es (built_typing U P Q typing) scoped.0 written.1 (pures_more N (names_in Γ) w es (pures_uses P unknowns N es scoped.1 written.0))
+  built_ok : (o : Operation) (N : Symbols) (Γ : Context) → IsWithin N (names_in Γ) → (t : Refined) (Δ : Types) → Fits Δ Γ → {a : MlType}
+      → HasOperation P Q Δ o a
+      → OperationInScope P unknowns N o → IsOperationWritten P Known o → IsReadyOperation P Γ o t → IsBuiltFine P unknowns keep m Γ o
+  built_ok (build p c es) N Γ w t Δ fits typing scoped written ready =
+      (built N Γ w p c es (built_typing P Q typing) scoped.0 written.1 (pures_more P unknowns keep m N (names_in Γ) w es (pures_uses P unknowns keep m N es scoped.1 written.0))
       ready).0
-  built_ok (pure e) N Γ w t Δ typing scoped written ready = tt
-  built_ok (fun p y b) N Γ w t Δ typing scoped written ready = tt
-  built_ok (if_else p c x z) N Γ w t Δ typing scoped written ready = tt
-  built_ok (match_on p u arms) N Γ w t Δ typing scoped written ready = tt
-  built_ok (call g e) N Γ w t Δ typing scoped written ready = tt
-  built_ok (tuple es) N Γ w t Δ typing scoped written ready = tt
-  built_ok (make p n e) N Γ w t Δ typing scoped written ready = tt
-  built_ok (fetch u i) N Γ w t Δ typing scoped written ready = tt
-  built_ok (store u i e) N Γ w t Δ typing scoped written ready = tt
-  built_ok (divide x y) N Γ w t Δ typing scoped written ready = tt
-  built_ok (remainder x y) N Γ w t Δ typing scoped written ready = tt
-  built_ok (assert e) N Γ w t Δ typing scoped written ready = tt
-  built_ok (assert_false p) N Γ w t Δ typing scoped written ready = tt
-  built_ok (read e) N Γ w t Δ typing scoped written ready = tt
-  built_ok (print e) N Γ w t Δ typing scoped written ready = tt
-  built_ok (map_empty p) N Γ w t Δ typing scoped written ready = tt
-  built_ok (map_add p k e n) N Γ w t Δ typing scoped written ready = tt
-  built_ok (map_find k n) N Γ w t Δ typing scoped written ready = tt
+  built_ok (pure e) N Γ w t Δ fits typing scoped written ready = tt
+  built_ok (fun p y b) N Γ w t Δ fits typing scoped written ready = tt
+  built_ok (if_else p c x z) N Γ w t Δ fits typing scoped written ready = tt
+  built_ok (match_on p u arms) N Γ w t Δ fits typing scoped written ready = tt
+  built_ok (call g e) N Γ w t Δ fits typing scoped written ready = tt
+  built_ok (tuple es) N Γ w t Δ fits typing scoped written ready = tt
+  built_ok (make p n e) N Γ w t Δ fits typing scoped written ready = tt
+  built_ok (fetch u i) N Γ w t Δ fits typing scoped written ready =
+      let f = fetch_typing P Q typing in (f.0, use_erased P Q templates Δ Γ fits u ∙ f.1)
+  built_ok (store u i e) N Γ w t Δ fits typing scoped written ready = tt
+  built_ok (divide x y) N Γ w t Δ fits typing scoped written ready = tt
+  built_ok (remainder x y) N Γ w t Δ fits typing scoped written ready = tt
+  built_ok (assert e) N Γ w t Δ fits typing scoped written ready = tt
+  built_ok (assert_false p) N Γ w t Δ fits typing scoped written ready = tt
+  built_ok (read e) N Γ w t Δ fits typing scoped written ready = tt
+  built_ok (print e) N Γ w t Δ fits typing scoped written ready = tt
+  built_ok (map_empty p) N Γ w t Δ fits typing scoped written ready = tt
+  built_ok (map_add p k e n) N Γ w t Δ fits typing scoped written ready = tt
+  built_ok (map_find k n) N Γ w t Δ fits typing scoped written ready = tt
 
-  first_field : (N : Symbols) (ts : Refineds) → AreFields P unknowns keep m U agree N ts → IsNameless U (first_of ts) × Over N (first_of ts)
+  first_field : (N : Symbols) (ts : Refineds) → AreFields P unknowns keep m agree N ts → IsNameless (first_of ts) × Over N (first_of ts)
   first_field N none h = ((tt, tt), (tt, tt))
   first_field N (more t ts) h = h.0
 
-  rest_fields : (N : Symbols) (ts : Refineds) → AreFields P unknowns keep m U agree N ts → AreFields P unknowns keep m U agree N (rest_of ts)
+  rest_fields : (N : Symbols) (ts : Refineds) → AreFields P unknowns keep m agree N ts → AreFields P unknowns keep m agree N (rest_of ts)
   rest_fields N none h = tt
   rest_fields N (more t ts) h = h.1
 
-  arguments_plain : (Γ : Context) → Good Γ → (es : List Pure) (ts : Refineds) → PuresOver (names_in Γ) es
-      → AreFields P unknowns keep m U agree (names_in Γ) ts → ArePlainArguments P A O Γ es ts
+  arguments_plain : (Γ : Context) → Good Γ → (es : List Pure) (ts : Refineds) → PuresOf P unknowns keep m (names_in Γ) es
+      → AreFields P unknowns keep m agree (names_in Γ) ts → ArePlainArguments P A O Γ es ts
   arguments_plain Γ good [] ts o h = tt
   arguments_plain Γ good (e ∷ es) ts o h =
       let to = first_field (names_in Γ) ts h in (
-        flow P unknowns keep m U over matrices A O sorted (names_in Γ) good.clean (pure_type P Γ e) (first_of ts)
-            (pure_fine P unknowns keep m U Γ good e o.0) to.0 to.1,
+        flow P unknowns keep m over matrices A O sorted (names_in Γ) good.clean (pure_type P Γ e) (first_of ts)
+            (pure_fine P unknowns keep m Γ good e o.0) to.0 to.1,
         arguments_plain Γ good es (rest_of ts) o.1 (rest_fields (names_in Γ) ts h),
       )
 
@@ -304,9 +325,9 @@ module _ (over : TypesAreOver) (kept : NamesAreKept) (recursions : RecursionsAre
 
   mutual
     operation_plain : (o : Operation) (N : Symbols) (Γ : Context) → IsWithin N (names_in Γ) → Good Γ → (t : Refined) → OperationInScope P unknowns N o
-        → IsOperationWritten U P o → IsReadyOperation P Γ o t → HaveTwins (operation_binders o) → Agree m (operation_kinds P Γ o t)
-        → Over (names_in Γ) t → (Δ : Types) → Fits Δ Γ → IsSuited U P Q Δ o t → IsPlain P A O Γ o t
-    operation_plain (pure e) N Γ w good t scoped written ready twins kinds h Δ fits suited = operand Γ good e (operand_over N Γ w e scoped written)
+        → IsOperationWritten P Known o → IsReadyOperation P Γ o t → HaveTwins (operation_binders o) → Agree m (operation_kinds P Γ o t)
+        → Over (names_in Γ) t → (Δ : Types) → Fits Δ Γ → IsSuited P Q Δ o t → IsPlain P A O Γ o t
+    operation_plain (pure e) N Γ w good t scoped written ready twins kinds h Δ fits suited = operand Γ good e (operand_of N Γ w e scoped written)
     operation_plain (fun p y b) N Γ w good t scoped written ready twins kinds h Δ fits suited =
         let is = suited.0 in
         let f = function_over Γ y b t is h suited.1.0 suited.1.1.0 suited.1.1.1.1 in (
@@ -319,21 +340,20 @@ module _ (over : TypesAreOver) (kept : NamesAreKept) (recursions : RecursionsAre
     operation_plain (if_else p c a b) N Γ w good t scoped written ready twins kinds h Δ fits suited =
         let x = guard (known (formula_of c)) ∷ Γ in
         let y = guard (known (negation (formula_of c))) ∷ Γ in (
-          operand_over N Γ w c scoped.1 written.0,
-          block_plain a N x (λ z k. w z k) (good_guard P unknowns keep m U Γ (known (formula_of c)) good) t scoped.2 written.1 ready.0
+          operand_over N Γ w good c scoped.1 written.0,
+          block_plain a N x (λ z k. w z k) (good_guard P unknowns keep m Γ (known (formula_of c)) good) t scoped.2 written.1 ready.0
               (twins_front (block_binders a) (block_binders b) twins) (agree_front m (block_kinds P x a t) (block_kinds P y b t) kinds)
-              (nameless_block U a t suited.0) h Δ (fits_guard fits) suited.1,
-          block_plain b N y (λ z k. w z k) (good_guard P unknowns keep m U Γ (known (negation (formula_of c))) good) t scoped.3 written.2 ready.1
+              (nameless_block a t suited.0) h Δ (fits_guard fits) suited.1,
+          block_plain b N y (λ z k. w z k) (good_guard P unknowns keep m Γ (known (negation (formula_of c))) good) t scoped.3 written.2 ready.1
               (twins_back (block_binders a) (block_binders b) twins) (agree_back m (block_kinds P x a t) (block_kinds P y b t) kinds)
-              (nameless_block U b t suited.0) h Δ (fits_guard fits) suited.2,
+              (nameless_block b t suited.0) h Δ (fits_guard fits) suited.2,
         )
     operation_plain (match_on p u arms) N Γ w good t scoped written ready twins kinds h Δ fits suited =
-        let used : UseOver (names_in Γ) u = (w (symbol_of u.name) scoped.1.0, written.0) in
-        let own = type_in Γ (symbol_of u.name) in
-        let known = good.types u.name used.0 in (
-          used,
-          inr (known_usable P unknowns keep m U over A O sorted Γ good own known),
-          arms_covered arms (arms_forms U P arms written.2),
+        let used : UseOf P unknowns keep m (names_in Γ) u = use_more P unknowns keep m N (names_in Γ) w u scoped.1 written.0 in
+        let own = type_of_use P Γ u in
+        let known = use_known P unknowns keep m Γ good u used in (
+          use_over P unknowns keep m over A O sorted Γ good u used,
+          inr (known_usable P unknowns keep m over A O sorted Γ good own known),
           where_either (is_data_match P Γ u) (((c : ℕ) → IsReadyCase P Γ u c t arms) × IsReadyDefault P Γ u arms t) (IsReadyFirst P Γ u arms t)
               (AreDatatypesFor P A O Γ u × ((c : ℕ) → IsPlainCase P A O Γ u c t arms) × IsPlainDefault P A O Γ u t arms)
               (HasComponentsOver A (names_in Γ) own × IsPlainFirst P A O Γ u t arms) ready
@@ -348,57 +368,60 @@ module _ (over : TypesAreOver) (kept : NamesAreKept) (recursions : RecursionsAre
               )),
         )
     operation_plain (call g a) N Γ w good t scoped written ready twins kinds h Δ fits suited =
-        let over_g = operand_over N Γ w g scoped.0 written.0 in
-        let over_a = operand_over N Γ w a scoped.1 written.1 in
-        let fine_g = pure_fine P unknowns keep m U Γ good g over_g in
-        let to = argument_fine P unknowns keep m U (names_in Γ) (pure_type P Γ g) fine_g.scalar fine_g.over in (
+        let over_g = operand_of N Γ w g scoped.0 written.0 in
+        let over_a = operand_of N Γ w a scoped.1 written.1 in
+        let fine_g = pure_fine P unknowns keep m Γ good g over_g in
+        let to = argument_fine P unknowns keep m (names_in Γ) (pure_type P Γ g) fine_g.scalar fine_g.over in (
           operand Γ good g over_g,
           operand Γ good a over_a,
-          flow P unknowns keep m U over matrices A O sorted (names_in Γ) good.clean (pure_type P Γ a) (argument_of (pure_type P Γ g))
-              (pure_fine P unknowns keep m U Γ good a over_a) to.0 to.1,
+          flow P unknowns keep m over matrices A O sorted (names_in Γ) good.clean (pure_type P Γ a) (argument_of (pure_type P Γ g))
+              (pure_fine P unknowns keep m Γ good a over_a) to.0 to.1,
         )
     operation_plain (tuple es) N Γ w good t scoped written ready twins kinds h Δ fits suited =
-        operands Γ good es (pures_more N (names_in Γ) w es (pures_uses P unknowns N es scoped written))
+        operands Γ good es (pures_more P unknowns keep m N (names_in Γ) w es (pures_uses P unknowns keep m N es scoped written))
     operation_plain (build p c es) N Γ w good t scoped written ready twins kinds h Δ fits suited =
-        let o = pures_more N (names_in Γ) w es (pures_uses P unknowns N es scoped.1 written.0) in
+        let o = pures_more P unknowns keep m N (names_in Γ) w es (pures_uses P unknowns keep m N es scoped.1 written.0) in
         let all = built N Γ w p c es suited scoped.0 written.1 o ready in (
           operands Γ good es o,
           arguments_plain Γ good es (field_types P Γ p c es) o all.1,
           datatypes.measures,
           (λ k e.
-              template_data over matrices lack P unknowns keep m U agree A O sorted datatypes (names_in Γ) good.clean (P.template p) written.1
-              (wide P unknowns keep m U N (names_in Γ) w (P.template p) scoped.0) c suited.made k suited.arguments
+              template_data over matrices lack P unknowns keep m agree A O sorted datatypes (names_in Γ) good.clean (P.template p) written.1
+              (wide P unknowns keep m N (names_in Γ) w (P.template p) scoped.0) c suited.made k suited.arguments
               (templates.templates p ∙ suited.point) suited.there e),
         )
     operation_plain (make p n e) N Γ w good t scoped written ready twins kinds h Δ fits suited =
-        let over_e = operand_over N Γ w e scoped.2 written.1 in
-        let o = wide P unknowns keep m U N (names_in Γ) w (P.template p) scoped.0 in (
-          operand_over N Γ w n scoped.1 written.0,
+        let over_e = operand_of N Γ w e scoped.2 written.1 in
+        let o = wide P unknowns keep m N (names_in Γ) w (P.template p) scoped.0 in (
+          operand_over N Γ w good n scoped.1 written.0,
           operand Γ good e over_e,
           told (names_in Γ) (P.template p) o,
-          flow P unknowns keep m U over matrices A O sorted (names_in Γ) good.clean (pure_type P Γ e) (P.template p) (pure_fine P unknowns keep m U Γ good e over_e) written.2 o,
+          flow P unknowns keep m over matrices A O sorted (names_in Γ) good.clean (pure_type P Γ e) (P.template p)
+              (pure_fine P unknowns keep m Γ good e over_e) written.2 o,
         )
     operation_plain (fetch u i) N Γ w good t scoped written ready twins kinds h Δ fits suited =
-        ((w (symbol_of u.name) scoped.0.0, written.0), operand_over N Γ w i scoped.1 written.1)
+        (use_over P unknowns keep m over A O sorted Γ good u (use_more P unknowns keep m N (names_in Γ) w u scoped.0 written.0), operand_over N Γ w good i scoped.1 written.1)
     operation_plain (store u i e) N Γ w good t scoped written ready twins kinds h Δ fits suited =
-        let used : UseOver (names_in Γ) u = (w (symbol_of u.name) scoped.0.0, written.0) in
-        let k = use_known P unknowns keep m U Γ good u used in
+        let used : UseOf P unknowns keep m (names_in Γ) u = use_more P unknowns keep m N (names_in Γ) w u scoped.0 written.0 in
+        let k = use_known P unknowns keep m Γ good u used in
         let T = type_of_use P Γ u in
-        let to = element_fine P unknowns keep m U (names_in Γ) T k.scalar (wide P unknowns keep m U k.own (names_in Γ) k.within T k.over) in
-        let over_e = operand_over N Γ w e scoped.2 written.2 in (
-          used,
-          operand_over N Γ w i scoped.1 written.1,
+        let to = element_fine P unknowns keep m (names_in Γ) T suited.0 (use_erased P Q templates Δ Γ fits u ∙ suited.1) k.scalar
+        (wide P unknowns keep m k.own (names_in Γ) k.within T k.over) in
+        let over_e = operand_of N Γ w e scoped.2 written.2 in (
+          use_over P unknowns keep m over A O sorted Γ good u used,
+          operand_over N Γ w good i scoped.1 written.1,
           operand Γ good e over_e,
-          flow P unknowns keep m U over matrices A O sorted (names_in Γ) good.clean (pure_type P Γ e) (element_of T) (pure_fine P unknowns keep m U Γ good e over_e) to.0 to.1,
+          flow P unknowns keep m over matrices A O sorted (names_in Γ) good.clean (pure_type P Γ e) (element_of T)
+              (pure_fine P unknowns keep m Γ good e over_e) to.0 to.1,
         )
     operation_plain (divide x y) N Γ w good t scoped written ready twins kinds h Δ fits suited =
-        (operand_over N Γ w x scoped.0 written.0, operand_over N Γ w y scoped.1 written.1)
+        (operand_over N Γ w good x scoped.0 written.0, operand_over N Γ w good y scoped.1 written.1)
     operation_plain (remainder x y) N Γ w good t scoped written ready twins kinds h Δ fits suited =
-        (operand_over N Γ w x scoped.0 written.0, operand_over N Γ w y scoped.1 written.1)
-    operation_plain (assert e) N Γ w good t scoped written ready twins kinds h Δ fits suited = operand_over N Γ w e scoped written
+        (operand_over N Γ w good x scoped.0 written.0, operand_over N Γ w good y scoped.1 written.1)
+    operation_plain (assert e) N Γ w good t scoped written ready twins kinds h Δ fits suited = operand_over N Γ w good e scoped written
     operation_plain (assert_false p) N Γ w good t scoped written ready twins kinds h Δ fits suited = tt
-    operation_plain (read e) N Γ w good t scoped written ready twins kinds h Δ fits suited = operand_over N Γ w e scoped written
-    operation_plain (print e) N Γ w good t scoped written ready twins kinds h Δ fits suited = operand_over N Γ w e scoped written
+    operation_plain (read e) N Γ w good t scoped written ready twins kinds h Δ fits suited = operand_over N Γ w good e scoped written
+    operation_plain (print e) N Γ w good t scoped written ready twins kinds h Δ fits suited = operand_over N Γ w good e scoped written
     operation_plain (map_empty p) N Γ w good t scoped written ready twins kinds h Δ fits suited = absurd written
     operation_plain (map_add p k e n) N Γ w good t scoped written ready twins kinds h Δ fits suited = absurd written
     operation_plain (map_find k n) N Γ w good t scoped written ready twins kinds h Δ fits suited = absurd written
@@ -407,13 +430,14 @@ module _ (over : TypesAreOver) (kept : NamesAreKept) (recursions : RecursionsAre
     case_plain no_arms c N Γ w good u used t scoped written ready twins kinds is h Δ fits typing = tt
     case_plain (arm q b arms) c N Γ w good u used t scoped written ready twins kinds is h Δ fits typing =
         let Λ = in_arm P Γ u q in
-        let d = arm_typing U P Q typing in
+        let d = arm_typing P Q typing in
         let own = pattern_kinds P Γ u q ++ block_kinds P Λ b t in
         where_either (is_arm_of c q) (AreNewNames (names_of q) Γ × IsReadyBlock P Λ b t) (IsReadyCase P Γ u c t arms)
         (IsArmClosed P A O Γ u q × IsPlainBlock P A O Λ b t) (IsPlainCase P A O Γ u c t arms) ready
         (λ e r.
         arm_by q b (λ M Θ i k s j z e v c a n Ψ l g. block_plain b M Θ i k s j z e v c a n Ψ l g) N Γ w good u used t scoped.0 written.0 r
-        (twins_front (names_of q ++ block_binders b) (arms_binders arms) twins) (agree_front m own (arms_kinds P Γ u arms t) kinds) is h Δ d.0 fits d.1.0
+        (twins_front (names_of q ++ block_binders b) (arms_binders arms) twins)
+        (agree_front m own (arms_kinds P Γ u arms t) kinds) is h Δ d.0 fits d.1.0
         d.1.1)
         (λ e r.
         case_plain arms c N Γ w good u used t scoped.1 written.1 r (twins_back (names_of q ++ block_binders b) (arms_binders arms) twins)
@@ -423,13 +447,14 @@ module _ (over : TypesAreOver) (kept : NamesAreKept) (recursions : RecursionsAre
     default_plain no_arms N Γ w good u used t scoped written ready twins kinds is h Δ fits typing = tt
     default_plain (arm q b arms) N Γ w good u used t scoped written ready twins kinds is h Δ fits typing =
         let Λ = in_arm P Γ u q in
-        let d = arm_typing U P Q typing in
+        let d = arm_typing P Q typing in
         let own = pattern_kinds P Γ u q ++ block_kinds P Λ b t in
         where_either (takes_all q) (AreNewNames (names_of q) Γ × IsReadyBlock P Λ b t) (IsReadyDefault P Γ u arms t)
         (IsArmClosed P A O Γ u q × IsPlainBlock P A O Λ b t) (IsPlainDefault P A O Γ u t arms) ready
         (λ e r.
         arm_by q b (λ M Θ i k s j z e v c a n Ψ l g. block_plain b M Θ i k s j z e v c a n Ψ l g) N Γ w good u used t scoped.0 written.0 r
-        (twins_front (names_of q ++ block_binders b) (arms_binders arms) twins) (agree_front m own (arms_kinds P Γ u arms t) kinds) is h Δ d.0 fits d.1.0
+        (twins_front (names_of q ++ block_binders b) (arms_binders arms) twins)
+        (agree_front m own (arms_kinds P Γ u arms t) kinds) is h Δ d.0 fits d.1.0
         d.1.1)
         (λ e r.
         default_plain arms N Γ w good u used t scoped.1 written.1 r (twins_back (names_of q ++ block_binders b) (arms_binders arms) twins)
@@ -438,96 +463,107 @@ module _ (over : TypesAreOver) (kept : NamesAreKept) (recursions : RecursionsAre
     first_plain : (arms : Arms) → HasArm arms → ArmsPlain arms (λ Γ u t. IsReadyFirst P Γ u arms t) (λ Γ u t. IsPlainFirst P A O Γ u t arms)
     first_plain no_arms e N Γ w good u used t scoped written ready twins kinds is h Δ fits typing = absurd e
     first_plain (arm q b arms) e N Γ w good u used t scoped written ready twins kinds is h Δ fits typing =
-        let d = arm_typing U P Q typing in
+        let d = arm_typing P Q typing in
         arm_by q b (λ M Θ i k s j z e v c a n Ψ l g. block_plain b M Θ i k s j z e v c a n Ψ l g) N Γ w good u used t scoped.0 written.0 ready
         (twins_front (names_of q ++ block_binders b) (arms_binders arms) twins)
         (agree_front m (pattern_kinds P Γ u q ++ block_kinds P (in_arm P Γ u q) b t) (arms_kinds P Γ u arms t) kinds) is h Δ d.0 fits d.1.0 d.1.1
 
-    block_plain : (b : Block) → BlockPlain b
+    pub block_plain : (b : Block) → BlockPlain b
     block_plain (last l o) N Γ w good t scoped written ready twins kinds is h Δ fits typing = (
-      operation_plain o N Γ w good t scoped written.0 ready.0 twins kinds h Δ fits (suited_last U P Q Δ o t (last_typing U P Q typing) is),
+      operation_plain o N Γ w good t scoped written.0 ready.0 twins kinds h Δ fits (suited_last P Q Δ o t (last_typing P Q typing) is),
       where_or (SameType (type_of P Γ o) t) (IsFlow S (names_in Γ) (type_of P Γ o) t) (passes_on o) ready.1
-          (λ e same. let other = others U P Q m Γ o t (type_of P Γ o) e is ready.0 in
-          flow P unknowns keep m U over matrices A O sorted (names_in Γ) good.clean (type_of P Γ o) t
-          (operation_fine P unknowns keep m U N Γ w good o
-          (built_ok o N Γ w t Δ (last_typing U P Q typing) scoped written.0 ready.0) scoped written.0 other.1 other.2 twins other.3) other.0 h),
+          (λ e same. let other = others P Q m Γ o t (type_of P Γ o) e is ready.0 in
+          flow P unknowns keep m over matrices A O sorted (names_in Γ) good.clean (type_of P Γ o) t
+          (operation_fine P unknowns keep m N Γ w good o
+          (built_ok o N Γ w t Δ fits (last_typing P Q typing) scoped written.0 ready.0) scoped written.0 other.1 other.2 twins other.3) other.0 h),
     )
     block_plain (binding x l o b) N Γ w good t scoped written ready twins kinds is h Δ fits typing =
         let T = type_of P Γ o in
         let tf = twins_front (operation_binders o) (x ∷ block_binders b) twins in
         let tb = twins_back (operation_binders o) (x ∷ block_binders b) twins in
-        let kf = agree_front m (operation_kinds P Γ o T) ((x, kind T) ∷ block_kinds P (bind x T Γ) b t) kinds in
-        let kb = agree_back m (operation_kinds P Γ o T) ((x, kind T) ∷ block_kinds P (bind x T Γ) b t) kinds in
-        let d = binding_typing U P Q typing in
-        let fine = operation_fine P unknowns keep m U N Γ w good o (built_ok o N Γ w T Δ d.1.0 scoped.0 written.0 ready.0) scoped.0 written.0 written.1 ready.0
+        let kf = agree_front m (operation_kinds P Γ o T) ((x, name_kind T) ∷ block_kinds P (bind x T Γ) b t) kinds in
+        let kb = agree_back m (operation_kinds P Γ o T) ((x, name_kind T) ∷ block_kinds P (bind x T Γ) b t) kinds in
+        let d = binding_typing P Q typing in
+        let fine = operation_fine P unknowns keep m N Γ w good o
+        (built_ok o N Γ w T Δ fits d.1.0 scoped.0 written.0 ready.0) scoped.0 written.0 written.1 ready.0
         tf kf in (
-          operation_plain o N Γ w good T scoped.0 written.0 ready.0 tf kf fine.over Δ fits (suited_given U P Q templates Δ Γ o d.0 d.1.0 d.1.1 written.1),
+          operation_plain o N Γ w good T scoped.0 written.0 ready.0 tf kf fine.over Δ fits
+              (suited_given P Q templates Δ Γ o d.0 d.1.0 d.1.1 written.1),
           given_over Γ o (told (names_in Γ) T fine.over),
           block_plain b (with_symbol N (symbol_of x)) (bind x T Γ) (with_within N (names_in Γ) (symbol_of x) w)
-              (good_bind P unknowns keep m U Γ good x T tb.0 kb.0 (fine_known P unknowns keep m U (names_in Γ) T fine)) t scoped.1 written.2 ready.2 tb.1 kb.1
-              (nameless_block U b t is)
-              (wide P unknowns keep m U (names_in Γ) (names_in (bind x T Γ)) (within_with (names_in Γ) (symbol_of x)) t h) ((x, d.0) ∷ Δ)
+              (good_bind P unknowns keep m Γ good x T tb.0 kb.0 (fine_known P unknowns keep m (names_in Γ) T fine)) t scoped.1 written.2 ready.2 tb.1 kb.1
+              (nameless_block b t is)
+              (wide P unknowns keep m (names_in Γ) (names_in (bind x T Γ)) (within_with (names_in Γ) (symbol_of x)) t h) ((x, d.0) ∷ Δ)
               (fits_bind (give.operations Δ Γ o d.0 fits d.1.0 d.1.1) fits) d.1.2,
         )
     block_plain (recursive g p y b c) N Γ w good t scoped written ready twins kinds is h Δ fits typing =
         let T = P.template p in
         let Kb = block_kinds P (recursive_context P Γ g p y) b (recursive_type P p y) in
         let Kc = block_kinds P (bind g T Γ) c t in
-        let d = recursive_typing U P Q typing in
+        let d = recursive_typing P Q typing in
         let r = recursive_by b (λ M Θ i k s j z q u a v n Ψ l f. block_plain b M Θ i k s j z q u a v n Ψ l f) N Γ w good g p y scoped.0 scoped.1 scoped.2 written.0
         written.1 ready.0.1 ready.0.2 (twins.0, (twins.1.0, twins_front (block_binders b) (block_binders c) twins.1.1))
         (kinds.0, (kinds.1.0, agree_front m Kb Kc kinds.1.1)) Δ fits d.0 in (
           r.0.0,
           r.0.1,
           block_plain c (with_symbol N (symbol_of g)) (bind g T Γ) (with_within N (names_in Γ) (symbol_of g) w) r.1 t scoped.3 written.2 ready.1
-              (twins_back (block_binders b) (block_binders c) twins.1.1) (agree_back m Kb Kc kinds.1.1) (nameless_block U c t is)
-              (wide P unknowns keep m U (names_in Γ) (names_in (bind g T Γ)) (within_with (names_in Γ) (symbol_of g)) t h) ((g, Q.point p) ∷ Δ)
+              (twins_back (block_binders b) (block_binders c) twins.1.1) (agree_back m Kb Kc kinds.1.1) (nameless_block c t is)
+              (wide P unknowns keep m (names_in Γ) (names_in (bind g T Γ)) (within_with (names_in Γ) (symbol_of g)) t h) ((g, Q.point p) ∷ Δ)
               (fits_bind (templates.templates p) fits) d.1,
         )
 
   -- ---- blocks of which no type is expected
 
-  record IsGivenPlain (Γ : Context) (b : Block) (Θ : Types) (a : MlType) : Type 0 where
-    plain : IsPlainGiven P A O Γ b
-    good : Good (last_context P Γ b)
-    within : IsWithin (names_in Γ) (names_in (last_context P Γ b))
-    fine : Fine (names_in (last_context P Γ b)) (last_type P Γ b)
-    fits : Fits Θ (last_context P Γ b)
-    typed : erased (last_type P Γ b) ≡ a
+  pub record IsGivenPlain (Γ : Context) (b : Block) (Θ : Types) (a : MlType) : Type 0 where
+    pub plain : IsPlainGiven P A O Γ b
+    pub good : Good (last_context P Γ b)
+    pub within : IsWithin (names_in Γ) (names_in (last_context P Γ b))
+    pub fine : Fine (names_in (last_context P Γ b)) (last_type P Γ b)
+    pub fits : Fits Θ (last_context P Γ b)
+    pub typed : erased (last_type P Γ b) ≡ a
+    -- its type names no argument by one of these names, where no parameter of its last operation is one
+    pub outside : (M : Symbols) → AreSmall M → NoneIn M (operation_binders (last_operation b)) → NamesOutside M (last_type P Γ b)
 
-  given_plain : (b : Block) (N : Symbols) (Γ : Context) → IsWithin N (names_in Γ) → Good Γ → BlockInScope P unknowns N b → IsBlockWritten U P false b
+  pub given_plain : (b : Block) (N : Symbols) (Γ : Context) → IsWithin N (names_in Γ) → Good Γ → BlockInScope P unknowns N b
+      → IsBlockWritten P Known false b
       → IsReadyGiven P Γ b → HaveTwins (block_binders b) → Agree m (given_kinds P Γ b) → (Δ Θ : Types) (a : MlType) → Fits Δ Γ
       → HasEnd P Q Δ b Θ a → IsGivenPlain Γ b Θ a
   given_plain (last l o) N Γ w good scoped written ready twins kinds Δ Θ a fits typing =
       let T = type_of P Γ o in
-      let d = end_last_typing U P Q typing in
-      let fine = operation_fine P unknowns keep m U N Γ w good o (built_ok o N Γ w T Δ d.0 scoped written.0 ready) scoped written.0 written.1 ready twins kinds in
+      let d = end_last_typing P Q typing in
+      let fine = operation_fine P unknowns keep m N Γ w good o
+      (built_ok o N Γ w T Δ fits d.0 scoped written.0 ready) scoped written.0 written.1 ready twins kinds in
       record {
         plain = (
-          operation_plain o N Γ w good T scoped written.0 ready twins kinds fine.over Δ fits (suited_given U P Q templates Δ Γ o a d.0 d.1 written.1),
+          operation_plain o N Γ w good T scoped written.0 ready twins kinds fine.over Δ fits (suited_given P Q templates Δ Γ o a d.0 d.1 written.1),
           given_over Γ o (told (names_in Γ) T fine.over),
         );
         good = good;
         within = λ y k. k;
         fine = fine;
-        fits = end_last_fits U P Q typing fits;
+        fits = end_last_fits P Q typing fits;
         typed = give.operations Δ Γ o a fits d.0 d.1;
+        outside = λ M small none.
+            operation_outside M small P unknowns keep m N Γ w good o (built_ok o N Γ w T Δ fits d.0 scoped written.0 ready) scoped written.0 written.1
+            fine.scalar none;
       }
   given_plain (binding x l o b) N Γ w good scoped written ready twins kinds Δ Θ a fits typing =
       let T = type_of P Γ o in
       let tf = twins_front (operation_binders o) (x ∷ block_binders b) twins in
       let tb = twins_back (operation_binders o) (x ∷ block_binders b) twins in
-      let kf = agree_front m (operation_kinds P Γ o T) ((x, kind T) ∷ given_kinds P (bind x T Γ) b) kinds in
-      let kb = agree_back m (operation_kinds P Γ o T) ((x, kind T) ∷ given_kinds P (bind x T Γ) b) kinds in
-      let d = end_binding_typing U P Q typing in
-      let fine = operation_fine P unknowns keep m U N Γ w good o (built_ok o N Γ w T Δ d.1.0 scoped.0 written.0 ready.0) scoped.0 written.0 written.1 ready.0
+      let kf = agree_front m (operation_kinds P Γ o T) ((x, name_kind T) ∷ given_kinds P (bind x T Γ) b) kinds in
+      let kb = agree_back m (operation_kinds P Γ o T) ((x, name_kind T) ∷ given_kinds P (bind x T Γ) b) kinds in
+      let d = end_binding_typing P Q typing in
+      let fine = operation_fine P unknowns keep m N Γ w good o
+      (built_ok o N Γ w T Δ fits d.1.0 scoped.0 written.0 ready.0) scoped.0 written.0 written.1 ready.0
       tf kf in
       let r = given_plain b (with_symbol N (symbol_of x)) (bind x T Γ) (with_within N (names_in Γ) (symbol_of x) w)
-      (good_bind P unknowns keep m U Γ good x T tb.0 kb.0 (fine_known P unknowns keep m U (names_in Γ) T fine)) scoped.1 written.2 ready.2 tb.1 kb.1
+      (good_bind P unknowns keep m Γ good x T tb.0 kb.0 (fine_known P unknowns keep m (names_in Γ) T fine)) scoped.1 written.2 ready.2 tb.1 kb.1
       ((x, d.0) ∷ Δ) Θ a (fits_bind (give.operations Δ Γ o d.0 fits d.1.0 d.1.1) fits) d.1.2 in
       record {
         plain = (
-          operation_plain o N Γ w good T scoped.0 written.0 ready.0 tf kf fine.over Δ fits (suited_given U P Q templates Δ Γ o d.0 d.1.0 d.1.1 written.1),
+          operation_plain o N Γ w good T scoped.0 written.0 ready.0 tf kf fine.over Δ fits
+              (suited_given P Q templates Δ Γ o d.0 d.1.0 d.1.1 written.1),
           given_over Γ o (told (names_in Γ) T fine.over),
           r.plain,
         );
@@ -536,14 +572,16 @@ module _ (over : TypesAreOver) (kept : NamesAreKept) (recursions : RecursionsAre
         fine = r.fine;
         fits = r.fits;
         typed = r.typed;
+        outside = λ M small none. r.outside M small none;
       }
   given_plain (recursive g p y b c) N Γ w good scoped written ready twins kinds Δ Θ a fits typing =
       let T = P.template p in
       let Kb = block_kinds P (recursive_context P Γ g p y) b (recursive_type P p y) in
       let Kc = given_kinds P (bind g T Γ) c in
-      let d = end_recursive_typing U P Q typing in
+      let d = end_recursive_typing P Q typing in
       let q = recursive_by b (block_plain b) N Γ w good g p y scoped.0 scoped.1 scoped.2 written.0 written.1 ready.0.1 ready.0.2
-      (twins.0, (twins.1.0, twins_front (block_binders b) (block_binders c) twins.1.1)) (kinds.0, (kinds.1.0, agree_front m Kb Kc kinds.1.1)) Δ fits d.0 in
+      (twins.0, (twins.1.0, twins_front (block_binders b) (block_binders c) twins.1.1))
+      (kinds.0, (kinds.1.0, agree_front m Kb Kc kinds.1.1)) Δ fits d.0 in
       let r = given_plain c (with_symbol N (symbol_of g)) (bind g T Γ) (with_within N (names_in Γ) (symbol_of g) w) q.1 scoped.3 written.2 ready.1
       (twins_back (block_binders b) (block_binders c) twins.1.1) (agree_back m Kb Kc kinds.1.1) ((g, Q.point p) ∷ Δ) Θ a
       (fits_bind (templates.templates p) fits) d.1 in
@@ -554,70 +592,13 @@ module _ (over : TypesAreOver) (kept : NamesAreKept) (recursions : RecursionsAre
         fine = r.fine;
         fits = r.fits;
         typed = r.typed;
+        outside = λ M small none. r.outside M small none;
       }
 
-  -- ---- programs
+  -- ---- definitions
 
-  program_plain : (p : Program) (N : Symbols) (Γ : Context) → IsWithin N (names_in Γ) → Good Γ → InScope P unknowns N p → IsWritten U P p → IsReady P Γ p
-      → HaveTwins (binders p) → Agree m (program_kinds P Γ p) → (Δ : Types) → Fits Δ Γ → HasProgram P Q Δ p → IsPlainProgram P A O N Γ p
-  program_plain no_items N Γ w good scoped written ready twins kinds Δ fits typing = tt
-  program_plain (define x l k b rest) N Γ w good scoped written ready twins kinds Δ fits typing =
-      let T = last_type P Γ b in
-      let Θ = last_context P Γ b in
-      let after = (x, kind T) ∷ program_kinds P (bind x T Θ) rest in
-      let tb = twins_back (block_binders b) (x ∷ binders rest) twins in
-      let kb = agree_back m (given_kinds P Γ b) after kinds in
-      let d = define_typing U P Q typing in
-      let r = given_plain b N Γ w good scoped.0 written.0 ready.0 (twins_front (block_binders b) (x ∷ binders rest) twins)
-      (agree_front m (given_kinds P Γ b) after kinds) Δ d.0 d.1.0 fits d.1.1.0 in (
-        block_uses U P unknowns false N b scoped.0 written.0,
-        r.plain,
-        program_plain rest (with_symbol N (symbol_of x)) (bind x T Θ) (with_within N (names_in Θ) (symbol_of x) (λ y h. r.within y (w y h)))
-            (good_bind P unknowns keep m U Θ r.good x T tb.0 kb.0 (fine_known P unknowns keep m U (names_in Θ) T r.fine)) scoped.2 written.1 ready.3 tb.1 kb.1
-            ((x, d.1.0) ∷ d.0) (fits_bind r.typed r.fits) d.1.1.1,
-      )
-  program_plain (define_recursive g p y b rest) N Γ w good scoped written ready twins kinds Δ fits typing =
-      let T = P.template p in
-      let Kb = block_kinds P (recursive_context P Γ g p y) b (recursive_type P p y) in
-      let Kc = program_kinds P (bind g T Γ) rest in
-      let d = define_recursive_typing U P Q typing in
-      let q = recursive_by b (block_plain b) N Γ w good g p y scoped.0 scoped.1 scoped.2 written.0 written.1 ready.0.1 ready.0.2
-      (twins.0, (twins.1.0, twins_front (block_binders b) (binders rest) twins.1.1)) (kinds.0, (kinds.1.0, agree_front m Kb Kc kinds.1.1)) Δ fits d.0 in (
-        block_uses U P unknowns true (with_symbol (with_symbol N (symbol_of g)) (symbol_of y)) b scoped.2 written.1,
-        q.0.0,
-        q.0.1,
-        program_plain rest (with_symbol N (symbol_of g)) (bind g T Γ) (with_within N (names_in Γ) (symbol_of g) w) q.1 scoped.3 written.2 ready.1
-            (twins_back (block_binders b) (binders rest) twins.1.1) (agree_back m Kb Kc kinds.1.1) ((g, Q.point p) ∷ Δ) (fits_bind (templates.templates p) fits)
-            d.1,
-      )
-  program_plain (run_unit b rest) N Γ w good scoped written ready twins kinds Δ fits typing =
-      let Kb = block_kinds P Γ b unit_type in
-      let d = unit_typing U P Q typing in (
-        block_uses U P unknowns true N b scoped.0 written.0,
-        block_plain b N Γ w good unit_type scoped.0 written.0 ready.0 (twins_front (block_binders b) (binders rest) twins)
-            (agree_front m Kb (program_kinds P Γ rest) kinds) (nameless_block U b unit_type (tt, tt)) (tt, tt) Δ fits d.0,
-        program_plain rest N Γ w good scoped.1 written.1 ready.1 (twins_back (block_binders b) (binders rest) twins)
-            (agree_back m Kb (program_kinds P Γ rest) kinds) Δ fits d.1,
-      )
-  program_plain (run_any b rest) N Γ w good scoped written ready twins kinds Δ fits typing =
-      let Kb = given_kinds P Γ b in
-      let d = any_typing U P Q typing in
-      let r = given_plain b N Γ w good scoped.0 written.0 ready.0 (twins_front (block_binders b) (binders rest) twins)
-      (agree_front m Kb (program_kinds P Γ rest) kinds) Δ d.0 d.1.0 fits d.1.1.0 in (
-        block_uses U P unknowns false N b scoped.0 written.0,
-        r.plain,
-        program_plain rest N Γ w good scoped.1 written.1 ready.1 (twins_back (block_binders b) (binders rest) twins)
-            (agree_back m Kb (program_kinds P Γ rest) kinds) Δ fits d.1.1.1,
-      )
-
-not_true : false ≡ true → ⊥
-not_true h = cc
-
-pub scalar_plain : TypesAreOver → NamesAreKept → RecursionsAreOver → SimpleTypesAreGiven → MatricesAreSorted → ArgumentsLackFields
-    → ScalarProgramsArePlain
-scalar_plain over kept recursions given matrices lack P unknowns A O U sorted agree datatypes Q templates p typing ready scoped differ twins written =
-    let m = kind_in (program_kinds P [] p) in
-    program_plain over kept recursions given matrices lack P unknowns A O U sorted agree datatypes Q templates m p no_names []
-    (λ y h. absurd (not_true h))
-    (record { kinds = λ z h. absurd (not_true h); clean = λ k. refl; types = λ z h. absurd (not_true h) }) scoped written ready twins
-    (binders_agree P p differ) [] fits_none typing
+  -- a definition that is no value has a type without variables
+  pub settled : (b : Block) (k : ℕ) (T : Refined) (a : MlType) → Q.point (end_point b k) ≡ a → erased T ≡ a
+      → IsValueBlock b ⊎ HasNoTypeVariables (erased (P.template (end_point b k))) → IsValueBlock b ⊎ HasNoVariables T
+  settled b k T a e f (inl v) = inl v
+  settled b k T a e f (inr h) = inr (none_variable T (subst HasNoTypeVariables (templates.templates (end_point b k) ∙ e ∙ sym f) h))

@@ -38,7 +38,7 @@ symbol_first N (of_sum t) θ int x o k = subst (λ b. SumOn N.terms (cond b t (s
 symbol_first N (of_sum t) θ bool x o k = absurd k
 symbol_first N (of_sum t) θ array x o k = subst (λ b. SumOn N.terms (cond b t (sum_at θ x))) (sym (same_refl x)) o
 symbol_first N (of_sum t) θ (data_of d) x o k = subst (λ b. SumOn N.terms (cond b t (sum_at θ x))) (sym (same_refl x)) o
-symbol_first N (of_sum t) θ shape.other x o k = subst (λ b. SumOn N.terms (cond b t (sum_at θ x))) (sym (same_refl x)) o
+symbol_first N (of_sum t) θ shape.other x o k = tt
 symbol_first N (of_formula p) θ int x o k = absurd k
 symbol_first N (of_formula p) θ bool x o k = subst (λ b. SortedOn N.terms N.flags (cond b p (flag_at θ x))) (sym (same_refl x)) o
 symbol_first N (of_formula p) θ array x o k = absurd k
@@ -60,7 +60,7 @@ symbol_later N a θ int y x e h = sum_later N.terms a θ y x e h
 symbol_later N a θ bool y x e h = flag_later N.terms N.flags a θ y x e h
 symbol_later N a θ array y x e h = sum_later N.terms a θ y x e h
 symbol_later N a θ (data_of d) y x e h = sum_later N.terms a θ y x e h
-symbol_later N a θ shape.other y x e h = sum_later N.terms a θ y x e h
+symbol_later N a θ shape.other y x e h = tt
 
 -- v is left, or becomes something of these names
 abbrev pub ValueOver : Names → Subst → Type 0
@@ -116,12 +116,11 @@ pub fields_scope : (N : Names) (d : ℕ) (us : MlTypes) (θ : Subst) (j : ℕ) (
 fields_scope N d us θ j no_types Γ h w = w
 fields_scope N d us θ j (more_types f fs) Γ h w =
     fields_scope N d us θ (suc j) fs (cond (is_again d (count_types us) f) Γ (scopes_of.with_position j (shape_of (put (types.type_at us) f)) Γ)) h.1
-    (by (is_again d (count_types us) f) h.0)
-  where
-    by : (b : Bool) → Where b (Unit {0}) (SymbolOver N θ (shape_of (put (types.type_at us) f)) (Position (suc j)))
-        → ScopeOver N θ (cond b Γ (scopes_of.with_position j (shape_of (put (types.type_at us) f)) Γ))
-    by true k = w
-    by false k = scope_more N θ (Position (suc j)) (shape_of (put (types.type_at us) f)) Γ w k
+    (by (is_again d (count_types us) f) h.0) where
+      by : (b : Bool) → Where b (Unit {0}) (SymbolOver N θ (shape_of (put (types.type_at us) f)) (Position (suc j)))
+          → ScopeOver N θ (cond b Γ (scopes_of.with_position j (shape_of (put (types.type_at us) f)) Γ))
+      by true k = w
+      by false k = scope_more N θ (Position (suc j)) (shape_of (put (types.type_at us) f)) Γ w k
 
 -- ---- parts
 
@@ -147,7 +146,7 @@ module _ (N : Names) (θ : Subst) where
   stands_more M bool x h w = record { terms = h.terms; flags = flag_more M.flags x h.flags w }
   stands_more M array x h w = record { terms = term_more M.terms x h.terms w; flags = h.flags }
   stands_more M (data_of d) x h w = record { terms = term_more M.terms x h.terms w; flags = h.flags }
-  stands_more M shape.other x h w = record { terms = term_more M.terms x h.terms w; flags = h.flags }
+  stands_more M shape.other x h w = h
 
   pub stands_scope : (Γ : Scope) → ScopeOver N θ Γ → Stands N θ (scope_names Γ)
   stands_scope [] h = record { terms = λ x e. absurd (no e); flags = λ x e. absurd (no e) }
@@ -184,7 +183,7 @@ module _ (N M : Names) (θ : Subst) (p : Stands N θ M) (v : ValueOver N θ) whe
   stands_value number = value_term
   stands_value truth_value = value_flag
   stands_value object = value_term
-  stands_value other = value_term
+  stands_value other = p
 
 -- what stands for a symbol of a scope, where one substitution is behind another
 abbrev left_of : Formula → Sum
@@ -208,7 +207,7 @@ module _ (N M : Names) (θ : Subst) (p : Stands N θ M) (xs : List Symbol) (σ :
       subst (λ (q : Formula). SortedOn N.terms N.flags q) (sym (flag_there xs θ σ x h)) (formula_put M N θ p.terms p.flags (flag_at σ x) w)
   symbol_put array x h w = term_put x h w
   symbol_put (data_of d) x h w = term_put x h w
-  symbol_put shape.other x h w = term_put x h w
+  symbol_put shape.other x h w = tt
 
   scope_put : (Γ : Scope) → ((x : Symbol) → is_in (map (λ e. e.0) Γ) x ≡ true → is_in xs x ≡ true) → ScopeOver M σ Γ
       → ScopeOver N (restricted xs (after θ σ)) Γ

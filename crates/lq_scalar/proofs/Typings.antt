@@ -1,20 +1,19 @@
 -- What simple typing says of the parts of a program, and what is suited to a type.
-use Rattle.std.proofs.Common.{◌≡◌, ◌∙◌, ℕ, suc, Bool, true, false, List, ◌∷◌, length, Some, refl, sym, ap, subst}
+use Rattle.std.proofs.Common.{◌≡◌, ◌∙◌, ℕ, suc, Bool, true, false, not, cond, List, ◌∷◌, length, Some, refl, sym, ap, subst}
 use Rattle.lq_name.specs.declared.place.Place.{Place}
 use Rattle.lq_checks.specs.Basis.{Basis}
 use Rattle.lq_checks.specs.Fitting.{Fits}
 use Rattle.lq_checks.specs.Operation.{type_of}
 use Rattle.lq_checks.specs.Ready.{IsReadyOperation, Where}
-use Rattle.lq_checks.specs.Tree.{passes_on, Use, Pattern, Arms, arm, Pure, Operation, pure, fun, if_else, match_on, call, tuple, build, make, fetch, store, divide, remainder, assert, assert_false, read, print, map_empty, map_add, map_find, Block, last, binding, recursive, Program, define, define_recursive, run_unit, run_any}
-use Rattle.lq_checks.specs.Typing.{Points, AreTemplates, IsPointed, Types, type_of_use, HavePures, have_none, have_more, HasPattern, HasOperation, has_fun, has_if, has_match, has_build, HaveArms, have_arm, HasBlock, has_last, has_binding, has_recursive, HasRecursive, has_body, HasEnd, end_last, end_binding, end_recursive, HasProgram, has_define, has_define_recursive, has_run_unit, has_run_any}
+use Rattle.lq_checks.specs.Tree.{has_template, is_fun, last_operation, passes_on, Use, Pattern, Arms, arm, Pure, Operation, pure, fun, if_else, match_on, call, tuple, build, make, fetch, store, divide, remainder, assert, assert_false, read, print, map_empty, map_add, map_find, Block, last, binding, recursive, Program, define, define_recursive, run_unit, run_any}
+use Rattle.lq_checks.specs.Typing.{Points, AreTemplates, IsPointed, Types, type_of_use, HavePures, have_none, have_more, HasPattern, HasOperation, has_fun, has_if, has_match, has_build, has_fetch, has_store, HaveArms, have_arm, HasBlock, has_last, has_binding, has_recursive, HasRecursive, has_body, HasEnd, end_last, end_binding, end_recursive, HasProgram, has_define, has_define_recursive, has_run_unit, has_run_any}
 use Rattle.lq_refined.specs.Context.{Context}
-use Rattle.lq_refined.specs.Refined.{Refined, Kind, erased}
+use Rattle.lq_refined.specs.Refined.{Refined, erased}
 use Rattle.lq_tree.specs.MlType as ml
 use Rattle.lq_tree.specs.MlType.{MlType, MlTypes}
 use Rattle.lq_tree.specs.Types.{Constructor, count_types, put_all, type_at}
-use Rattle.lq_scalar.specs.Scalar.{Arities}
-use Rattle.lq_scalar.specs.Written.{IsFunctionFor, IsGivenWritten, IsNameless, IsOperationFor}
-use Rattle.lq_scalar.proofs.NameKinds.{Agree, operation_kinds}
+use Rattle.lq_scalar.specs.Written.{end_point, function_point, IsFunctionFor, IsGivenWritten, IsNameless, IsOperationFor}
+use Rattle.lq_scalar.proofs.NameKinds.{Agree, Naming, operation_kinds}
 
 -- ---- types
 
@@ -45,7 +44,7 @@ pures_count : {Q : Points} {Δ : Types} {es : List Pure} {us : MlTypes} → Have
 pures_count have_none = refl
 pures_count (have_more h hs) = ap suc (pures_count hs)
 
-module _ (U : Arities) (P : Basis) (Q : Points) where
+module _ (P : Basis) (Q : Points) where
   -- a constructor with its datatype's arguments and as many operands as fields
   pub record IsBuilt (p c : ℕ) (es : List Pure) : Type 0 where
     pub made : Constructor
@@ -58,13 +57,14 @@ module _ (U : Arities) (P : Basis) (Q : Points) where
   built_typing (has_build {k = k} {us = us} e n q h) =
       record { made = k; arguments = us; there = e; point = q; count = pures_count h ∙ put_count (type_at us) k.fields }
 
-  -- what typing says of a function, a conditional, a match and a constructor, against a type
+  -- what typing says of a function, a conditional, a match, a constructor and what is written into an array, against a type
   abbrev pub IsSuited : Types → Operation → Refined → Type 0
   IsSuited Δ (fun p y b) t =
-      IsFunctionFor U y b t × ((u : MlType) × ((v : MlType) × (HasBlock P Q ((y, u) ∷ Δ) b v × (erased t ≡ ml.arrow u v))))
-  IsSuited Δ (if_else p c a b) t = IsNameless U t × HasBlock P Q Δ a (erased t) × HasBlock P Q Δ b (erased t)
-  IsSuited Δ (match_on p u arms) t = IsNameless U t × HaveArms P Q Δ (type_of_use Q Δ u) arms (erased t)
+      IsFunctionFor y b t × ((u : MlType) × ((v : MlType) × (HasBlock P Q ((y, u) ∷ Δ) b v × (erased t ≡ ml.arrow u v))))
+  IsSuited Δ (if_else p c a b) t = IsNameless t × HasBlock P Q Δ a (erased t) × HasBlock P Q Δ b (erased t)
+  IsSuited Δ (match_on p u arms) t = IsNameless t × HaveArms P Q Δ (type_of_use Q Δ u) arms (erased t)
   IsSuited Δ (build p c es) t = IsBuilt p c es
+  IsSuited Δ (store u i e) t = (a : MlType) × (type_of_use Q Δ u ≡ ml.array a)
   IsSuited Δ _ t = Unit {0}
 
   pub fun_typing : {Δ : Types} {p y : ℕ} {b : Block} {a : MlType} → HasOperation P Q Δ (fun p y b) a
@@ -78,6 +78,13 @@ module _ (U : Arities) (P : Basis) (Q : Points) where
   pub match_typing : {Δ : Types} {p : ℕ} {u : Use} {arms : Arms} {t : MlType} → HasOperation P Q Δ (match_on p u arms) t
       → HaveArms P Q Δ (type_of_use Q Δ u) arms t
   match_typing (has_match h) = h
+
+  pub fetch_typing : {Δ : Types} {u : Use} {i : Pure} {t : MlType} → HasOperation P Q Δ (fetch u i) t → (a : MlType) × (type_of_use Q Δ u ≡ ml.array a)
+  fetch_typing (has_fetch {a = a} e h) = (a, e)
+
+  pub store_typing : {Δ : Types} {u : Use} {i e : Pure} {t : MlType} → HasOperation P Q Δ (store u i e) t
+      → (a : MlType) × (type_of_use Q Δ u ≡ ml.array a)
+  store_typing (has_store {a = a} e h k) = (a, e)
 
   pub arm_typing : {Δ : Types} {a c : MlType} {q : Pattern} {b : Block} {arms : Arms} → HaveArms P Q Δ a (arm q b arms) c
       → (Θ : Types) × (HasPattern P Δ a q Θ × HasBlock P Q Θ b c × HaveArms P Q Δ a arms c)
@@ -117,9 +124,46 @@ module _ (U : Arities) (P : Basis) (Q : Points) where
       → RecursiveTyping Δ g p y b × HasEnd P Q ((g, Q.point p) ∷ Δ) c Θ a
   end_recursive_typing (end_recursive h k) = (body_typing h, k)
 
+  -- where the block ends in a function, the function's point has its type
+  end_function : {Δ Θ : Types} {b : Block} {a : MlType} → HasEnd P Q Δ b Θ a → has_template b ≡ false → Q.point (function_point (last_operation b)) ≡ a
+  end_function (end_last {o = o} {a = a} h q) e = by o q e
+    where
+      by : (o : Operation) → IsPointed Q o a → not (is_fun o) ≡ false → Q.point (function_point o) ≡ a
+      by (fun p y b) q e = q
+      by (pure z) q e = cc
+      by (if_else p c x y) q e = cc
+      by (match_on p u arms) q e = cc
+      by (call f z) q e = cc
+      by (tuple es) q e = cc
+      by (build p c es) q e = cc
+      by (make p n z) q e = cc
+      by (fetch u i) q e = cc
+      by (store u i z) q e = cc
+      by (divide x y) q e = cc
+      by (remainder x y) q e = cc
+      by (assert z) q e = cc
+      by (assert_false p) q e = cc
+      by (read z) q e = cc
+      by (print z) q e = cc
+      by (map_empty p) q e = cc
+      by (map_add p z w n) q e = cc
+      by (map_find z n) q e = cc
+  end_function (end_binding h q k) e = end_function k e
+  end_function (end_recursive h k) e = end_function k e
+
+  -- the point of a definition has its type
+  end_pointed : (b : Block) (k : ℕ) (a : MlType) → (has_template b ≡ true → Q.point k ≡ a)
+      → (has_template b ≡ false → Q.point (function_point (last_operation b)) ≡ a) → Q.point (end_point b k) ≡ a
+  end_pointed b k a f g = by (has_template b) f g
+    where
+      by : (c : Bool) → (c ≡ true → Q.point k ≡ a) → (c ≡ false → Q.point (function_point (last_operation b)) ≡ a)
+          → Q.point (cond c k (function_point (last_operation b))) ≡ a
+      by true f g = f refl
+      by false f g = g refl
+
   pub define_typing : {Δ : Types} {x k : ℕ} {l : Place} {b : Block} {rest : Program} → HasProgram P Q Δ (define x l k b rest)
-      → (Θ : Types) × ((a : MlType) × (HasEnd P Q Δ b Θ a × HasProgram P Q ((x, a) ∷ Θ) rest))
-  define_typing (has_define {Θ = Θ} {a = a} e h k) = (Θ, (a, (h, k)))
+      → (Θ : Types) × ((a : MlType) × (HasEnd P Q Δ b Θ a × HasProgram P Q ((x, a) ∷ Θ) rest × (Q.point (end_point b k) ≡ a)))
+  define_typing (has_define {Θ = Θ} {k = k} {b = b} {a = a} e h r) = (Θ, (a, (h, r, end_pointed b k a e (end_function h))))
 
   pub define_recursive_typing : {Δ : Types} {g p y : ℕ} {b : Block} {rest : Program} → HasProgram P Q Δ (define_recursive g p y b rest)
       → RecursiveTyping Δ g p y b × HasProgram P Q ((g, Q.point p) ∷ Δ) rest
@@ -132,7 +176,7 @@ module _ (U : Arities) (P : Basis) (Q : Points) where
       → (Θ : Types) × ((a : MlType) × (HasEnd P Q Δ b Θ a × HasProgram P Q Δ rest))
   any_typing (has_run_any {Θ = Θ} {a = a} h k) = (Θ, (a, (h, k)))
 
-  pub suited_last : (Δ : Types) (o : Operation) (t : Refined) → HasOperation P Q Δ o (erased t) → IsOperationFor U o t → IsSuited Δ o t
+  pub suited_last : (Δ : Types) (o : Operation) (t : Refined) → HasOperation P Q Δ o (erased t) → IsOperationFor o t → IsSuited Δ o t
   suited_last Δ (fun p y b) t h w = (w, fun_typing h)
   suited_last Δ (if_else p c a b) t h w = (w, (if_typing h).0, (if_typing h).1)
   suited_last Δ (pure e) t h w = tt
@@ -142,7 +186,7 @@ module _ (U : Arities) (P : Basis) (Q : Points) where
   suited_last Δ (build p c es) t h w = built_typing h
   suited_last Δ (make p n e) t h w = tt
   suited_last Δ (fetch u i) t h w = tt
-  suited_last Δ (store u i e) t h w = tt
+  suited_last Δ (store u i e) t h w = store_typing h
   suited_last Δ (divide x y) t h w = tt
   suited_last Δ (remainder x y) t h w = tt
   suited_last Δ (assert e) t h w = tt
@@ -154,7 +198,7 @@ module _ (U : Arities) (P : Basis) (Q : Points) where
   suited_last Δ (map_find k m) t h w = tt
 
   pub suited_given : AreTemplates P Q → (Δ : Types) (Γ : Context) (o : Operation) (a : MlType) → HasOperation P Q Δ o a → IsPointed Q o a
-      → IsGivenWritten U P o → IsSuited Δ o (type_of P Γ o)
+      → IsGivenWritten P o → IsSuited Δ o (type_of P Γ o)
   suited_given T Δ Γ (fun p y b) a h q w =
       let e : erased (P.template p) ≡ a = T.templates p ∙ q in
       let f = fun_typing h in (w, (f.0, (f.1.0, (f.1.1.0, e ∙ f.1.1.1))))
@@ -170,7 +214,7 @@ module _ (U : Arities) (P : Basis) (Q : Points) where
   suited_given T Δ Γ (build p c es) a h q w = built_typing h
   suited_given T Δ Γ (make p n e) a h q w = tt
   suited_given T Δ Γ (fetch u i) a h q w = tt
-  suited_given T Δ Γ (store u i e) a h q w = tt
+  suited_given T Δ Γ (store u i e) a h q w = store_typing h
   suited_given T Δ Γ (divide x y) a h q w = tt
   suited_given T Δ Γ (remainder x y) a h q w = tt
   suited_given T Δ Γ (assert e) a h q w = tt
@@ -182,8 +226,8 @@ module _ (U : Arities) (P : Basis) (Q : Points) where
   suited_given T Δ Γ (map_find k m) a h q w = tt
 
   -- Where no branch or body is checked against the type of a block, this has no names, no template is taken, and nothing else depends on it.
-  pub others : (m : ℕ → Kind) (Γ : Context) (o : Operation) (t s : Refined) → passes_on o ≡ false → IsOperationFor U o t → IsReadyOperation P Γ o t
-      → IsNameless U t × IsGivenWritten U P o × IsReadyOperation P Γ o s × Agree m (operation_kinds P Γ o s)
+  pub others : (m : Naming) (Γ : Context) (o : Operation) (t s : Refined) → passes_on o ≡ false → IsOperationFor o t → IsReadyOperation P Γ o t
+      → IsNameless t × IsGivenWritten P o × IsReadyOperation P Γ o s × Agree m (operation_kinds P Γ o s)
   others m Γ (fun p y b) t s f w r = cc
   others m Γ (if_else p c a b) t s f w r = cc
   others m Γ (match_on p u arms) t s f w r = cc

@@ -1,5 +1,5 @@
--- What is asked of a program's datatypes: that the fields of those that are used are scalar, that all constructors are listed, and that measures
--- are known, by equations of v and of fields at their sorts.
+-- What is asked of a program's datatypes: that all constructors are listed, and that measures are known, by equations of v and of fields at
+-- their sorts.
 use Rattle.std.specs.Prelude.{◌≡◌, ℕ, suc, false, Some}
 use Rattle.lq_checks.specs.Basis.{Basis}
 use Rattle.lq_fields.specs.Fields.{KnowsMeasures}
@@ -12,7 +12,6 @@ use Rattle.lq_safe.specs.Scoped.{ListsConstructors}
 use Rattle.lq_sorts.specs.Shapes.{Shape, int, bool, array, data_of, other, shape_of}
 use Rattle.lq_tree.specs.MlType.{MlTypes, no_types, more_types}
 use Rattle.lq_tree.specs.Types.{Constructor}
-use Rattle.lq_scalar.specs.Scalar.{Arities, AreScalarDatatypes}
 
 -- these and one more, where a value of the shape is a number or an object
 abbrev pub with_measured : Shape → Symbols → Symbol → Symbols
@@ -33,8 +32,7 @@ AreEquationsSorted P =
     (c : ℕ) (k : Constructor) → P.setting.constructors c ≡ Some k
     → EachSorted (with_value (measured_from 0 k.fields)) (λ y. false) (P.equations c)
 
-pub record HasDatatypes (used : Arities) (P : Basis) (O : Objects) : Type 0 where
-  pub scalar : AreScalarDatatypes used P.setting.constructors
+pub record HasDatatypes (P : Basis) (O : Objects) : Type 0 where
   pub listed : ListsConstructors P
   pub equations : AreEquationsSorted P
   pub measures : KnowsMeasures P O

@@ -18,7 +18,7 @@ use Rattle.lq_tree.specs.MlType.{MlType}
 use Rattle.lq_tree.specs.Pattern.{pattern, nothing, tuple_of, no_patterns, more_patterns}
 use Rattle.lq_tree.specs.Tree as form
 use Rattle.lq_tree.specs.Tree.{no_cases, more_cases}
-use Rattle.lq_scalar.specs.Scalar.{HaveTwins, IsScalarProgram, no_datatypes}
+use Rattle.lq_scalar.specs.Scalar.{HaveTwins, IsScalarProgram}
 
 abbrev pub counting : MlType
 counting = ml.arrow ml.int ml.int
@@ -61,4 +61,4 @@ example_program =
 -- it is scalar, and its binders have twins
 abbrev pub ExampleIsScalar : Type 0
 ExampleIsScalar =
-    IsScalarProgram no_datatypes example_annotation example_program × HaveTwins (binders (program_of example_annotation example_program).read)
+    IsScalarProgram example_annotation example_program × HaveTwins (binders (program_of example_annotation example_program).read)

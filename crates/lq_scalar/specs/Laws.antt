@@ -21,30 +21,33 @@ use Rattle.lq_templates.specs.Scopes.{Unknown, symbols_in}
 use Rattle.lq_safe.specs.Programs.{no_symbols}
 use Rattle.lq_plain.specs.Plain.{IsPlainProgram}
 use Rattle.lq_scalar.specs.Data.{HasDatatypes}
-use Rattle.lq_scalar.specs.Scalar.{Arities, HaveTwins, IsScalarProgram}
+use Rattle.lq_scalar.specs.Scalar.{HaveTwins, IsScalarProgram}
+use Rattle.lq_scalar.specs.Uses.{ProgramUsesBefore}
 use Rattle.lq_scalar.specs.Written.{IsWritten}
 
 -- The templates of a scalar program's points name arguments of functions that are written there alone, and its forms are scalar as they are read.
 abbrev pub TemplatesAreWritten : Type 0
 TemplatesAreWritten =
-    (D : Datatypes) (used : Arities) (n : Annotation) (is : List ItemTree) → AreNormal is → IsScalarProgram used n is
-    → let p = program_of n is in IsWritten used (basis_of D p.points) p.read
+    (D : Datatypes) (n : Annotation) (is : List ItemTree) → AreNormal is → IsScalarProgram n is
+    → let p = program_of n is in IsWritten (basis_of D p.points) p.read
 
 -- Where its forms are scalar and its templates written so, a simply typed program that is ready and in scope, with binders that differ and have
--- twins, is plain, under instances that speak of what their unknowns may speak of, at its sorts, and over objects that know its measures.
+-- twins, is plain, under instances that speak of what their unknowns may speak of, at its sorts, and over objects that know its measures, where only
+-- names that earlier items defined are used at types for their types' variables.
 abbrev pub ScalarProgramsArePlain : Type 0
 ScalarProgramsArePlain =
-    (P : Basis) (unknowns : ℕ → Unknown) (A : Assignment) (O : Objects) (used : Arities) → AreSorted unknowns A
-    → ((u : ℕ) → P.setting.scopes u ≡ symbols_in (unknowns u).0) → HasDatatypes used P O → (Q : Points) → AreTemplates P Q → (p : Program)
-    → HasProgram P Q [] p → IsReady P [] p → InScope P unknowns no_names p → AllDiffer (binders p) → HaveTwins (binders p) → IsWritten used P p
-    → IsPlainProgram P A O no_symbols [] p
+    (P : Basis) (unknowns : ℕ → Unknown) (A : Assignment) (O : Objects) → AreSorted unknowns A
+    → ((u : ℕ) → P.setting.scopes u ≡ symbols_in (unknowns u).0) → HasDatatypes P O → (Q : Points) → AreTemplates P Q → (p : Program)
+    → HasProgram P Q [] p → IsReady P [] p → InScope P unknowns no_names p → AllDiffer (binders p) → HaveTwins (binders p) → IsWritten P p
+    → ProgramUsesBefore no_symbols p → IsPlainProgram P A O no_symbols [] p
 
 -- So is what is read of a scalar program in normal form, over its points, where it obeys the rules of types for normal trees and its uses fit by
--- an annotation by which the same is read, where it is ready, and its binders differ and have twins.
+-- an annotation by which the same is read, where it is ready, its binders differ and have twins, and only names that earlier items defined are used
+-- at types for variables.
 abbrev pub ScalarNormalFormsArePlain : Type 0
 ScalarNormalFormsArePlain =
-    (D : Datatypes) (used : Arities) (n by : Annotation) (is : List ItemTree) (A : Assignment) (O : Objects)
+    (D : Datatypes) (n by : Annotation) (is : List ItemTree) (A : Assignment) (O : Objects)
     → let p = program_of n is in program_of by is ≡ p → AreNormal is → NormalItemsAre D.constructors (types_of by) [] is → ItemsUsesFit by [] is
-    → IsScalarProgram used n is → HasDatatypes used (basis_of D p.points) O → AreSorted (unknown_in (unknowns_of D p.points)) A
+    → IsScalarProgram n is → HasDatatypes (basis_of D p.points) O → AreSorted (unknown_in (unknowns_of D p.points)) A
     → IsReady (basis_of D p.points) [] p.read → AllDiffer (binders p.read) → HaveTwins (binders p.read)
-    → IsPlainProgram (basis_of D p.points) A O no_symbols [] p.read
+    → ProgramUsesBefore no_symbols p.read → IsPlainProgram (basis_of D p.points) A O no_symbols [] p.read

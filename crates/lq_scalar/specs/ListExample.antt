@@ -4,7 +4,7 @@
 -- In normal form, with 0 to 3 for sum, l, h and t, and 4 to 7 for made names:
 --     let rec sum = fun l -> match l with [] -> 0 | h :: t -> let r = sum t in h + r
 --     let () = let e = [] in let s = 1 :: e in let n = sum s in print_int n
-use Rattle.std.specs.Prelude.{◌==◌, List, [], ◌∷◌, Some, None, if◌then◌else◌}
+use Rattle.std.specs.Prelude.{List, [], ◌∷◌, Some, None}
 use Rattle.lq_checks.specs.Binders.{binders}
 use Rattle.lq_checks.specs.Sample.{at}
 use Rattle.lq_name.specs.declared.operation.ArithOp.TheVariants.{Add}
@@ -15,16 +15,11 @@ use Rattle.lq_tree.specs.Items.{ItemTree, let_of, let_rec_of}
 use Rattle.lq_tree.specs.MlType as ml
 use Rattle.lq_tree.specs.MlType.{MlType}
 use Rattle.lq_tree.specs.Pattern.{pattern, nothing, build_of, no_patterns, more_patterns}
-use Rattle.lq_tree.specs.Signatures.{constructor_in, predeclared}
 use Rattle.lq_tree.specs.Tree as form
 use Rattle.lq_tree.specs.Tree.{no_trees, no_cases, more_cases}
 use Rattle.lq_tree.specs.Types.{list_type}
 use Rattle.lq_tree.specs.declared.expr.Arguments.TheVariants.{Apart}
-use Rattle.lq_scalar.specs.Scalar.{Arities, AreScalarDatatypes, HaveTwins, IsScalarProgram}
-
--- lists alone, which have one parameter
-abbrev pub lists : Arities
-lists d = if d == 4 then Some 1 else None
+use Rattle.lq_scalar.specs.Scalar.{HaveTwins, IsScalarProgram}
 
 abbrev pub numbers : MlType
 numbers = list_type ml.int
@@ -53,8 +48,7 @@ list_program =
     record { place = at 40; form = let_rec_of 0 record { id = 0; place = at 0; parameter = binder 1; body = body } }
     ∷ record { place = at 41; form = let_of (pattern (at 41) nothing) made } ∷ []
 
--- lists have scalar fields, the program is scalar over them, and its binders have twins
+-- the program is scalar, and its binders have twins
 abbrev pub ListExampleIsScalar : Type 0
 ListExampleIsScalar =
-    AreScalarDatatypes lists (constructor_in predeclared) × IsScalarProgram lists list_annotation list_program
-    × HaveTwins (binders (program_of list_annotation list_program).read)
+    IsScalarProgram list_annotation list_program × HaveTwins (binders (program_of list_annotation list_program).read)

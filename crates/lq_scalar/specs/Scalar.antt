@@ -1,100 +1,96 @@
--- Scalar programs: over numbers, truth values, unit, and arrays, tuples, functions and datatypes of these, however nested.
-use Rattle.std.specs.Prelude.{◌≡◌, ℕ, zero, suc, ◌<◌, ◌^◌, true, Option, Some, None, List, [], ◌∷◌}
-use Rattle.lq_checks.specs.Ready.{Where}
-use Rattle.lq_points.specs.Annotation.{Annotation, arguments_at, type_of_form}
-use Rattle.lq_refined.specs.Unfolding.{is_again}
+-- Scalar programs: each match has an arm, and each definition is a value or has a type without variables.
+use Rattle.std.specs.Prelude.{◌⊎◌, ℕ, ◌<◌, ◌^◌, List, [], ◌∷◌}
+use Rattle.lq_name.specs.declared.operation.ArithOp.{ArithOp}
+use Rattle.lq_name.specs.declared.operation.ArithOp.TheVariants as op
+use Rattle.lq_points.specs.Annotation.{Annotation}
 use Rattle.lq_tree.specs.Items.{ItemTree, ItemForm, type_of, let_of, let_rec_of}
 use Rattle.lq_tree.specs.MlType as ml
 use Rattle.lq_tree.specs.MlType.{MlType, MlTypes}
+use Rattle.lq_tree.specs.Pattern as patterns
+use Rattle.lq_tree.specs.Pattern.{Pattern, pattern}
 use Rattle.lq_tree.specs.Tree as form
 use Rattle.lq_tree.specs.Tree.{Tree, tree, Form, Trees, no_trees, more_trees, Cases, no_cases, more_cases}
-use Rattle.lq_tree.specs.Types.{Constructor, Signature, count_types}
 
--- ---- types
+-- ---- types without variables, and values
 
--- the datatypes that may be used, each with the number of its parameters
-abbrev pub Arities : Type 0
-Arities = ℕ → Option ℕ
+abbrev mutual
+  pub HasNoTypeVariables : MlType → Type 0
+  HasNoTypeVariables ml.int = Unit {0}
+  HasNoTypeVariables ml.bool = Unit {0}
+  HasNoTypeVariables ml.unit = Unit {0}
+  HasNoTypeVariables (ml.var i) = ⊥
+  HasNoTypeVariables (ml.arrow a b) = HasNoTypeVariables a × HasNoTypeVariables b
+  HasNoTypeVariables (ml.tuple ts) = HaveNoTypeVariables ts
+  HasNoTypeVariables (ml.array a) = HasNoTypeVariables a
+  HasNoTypeVariables (ml.named d ts) = HaveNoTypeVariables ts
+  HasNoTypeVariables (ml.map_of a) = HasNoTypeVariables a
 
-abbrev pub no_datatypes : Arities
-no_datatypes d = None
+  pub HaveNoTypeVariables : MlTypes → Type 0
+  HaveNoTypeVariables ml.no_types = Unit {0}
+  HaveNoTypeVariables (ml.more_types t ts) = HasNoTypeVariables t × HaveNoTypeVariables ts
 
-module _ (used : Arities) where
-  abbrev mutual
-    pub IsScalarType : MlType → Type 0
-    IsScalarType ml.int = Unit {0}
-    IsScalarType ml.bool = Unit {0}
-    IsScalarType ml.unit = Unit {0}
-    IsScalarType (ml.var i) = ⊥
-    IsScalarType (ml.arrow a b) = IsScalarType a × IsScalarType b
-    IsScalarType (ml.tuple ts) = AreScalarTypes ts
-    IsScalarType (ml.array a) = IsScalarType a
-    IsScalarType (ml.named d ts) = (used d ≡ Some (count_types ts)) × AreScalarTypes ts
-    IsScalarType (ml.map_of a) = ⊥
+-- not `/` nor `mod`
+abbrev pub IsTotal : ArithOp → Type 0
+IsTotal op.Add = Unit {0}
+IsTotal op.Sub = Unit {0}
+IsTotal op.Mul = Unit {0}
+IsTotal op.Div = ⊥
+IsTotal op.Mod = ⊥
 
-    pub AreScalarTypes : MlTypes → Type 0
-    AreScalarTypes ml.no_types = Unit {0}
-    AreScalarTypes (ml.more_types t ts) = IsScalarType t × AreScalarTypes ts
+-- In normal form: bindings of pure expressions, functions, tuples and constructors, and a last one.
+abbrev mutual
+  pub IsValueTree : Tree → Type 0
+  IsValueTree (tree i l f) = IsValueForm f
 
-  -- A field of a datatype with so many parameters: the same over these parameters, none of which stands left of an arrow or under `array`.
-  abbrev mutual
-    pub IsScalarField : ℕ → MlType → Type 0
-    IsScalarField n ml.int = Unit {0}
-    IsScalarField n ml.bool = Unit {0}
-    IsScalarField n ml.unit = Unit {0}
-    IsScalarField n (ml.var i) = i < n
-    IsScalarField n (ml.arrow a b) = IsScalarField 0 a × IsScalarField n b
-    IsScalarField n (ml.tuple ts) = AreScalarFields n ts
-    IsScalarField n (ml.array a) = IsScalarField 0 a
-    IsScalarField n (ml.named d ts) = (used d ≡ Some (count_types ts)) × AreScalarFields n ts
-    IsScalarField n (ml.map_of a) = ⊥
+  pub IsValueForm : Form → Type 0
+  IsValueForm (form.whole z) = Unit {0}
+  IsValueForm (form.flag b) = Unit {0}
+  IsValueForm form.unit = Unit {0}
+  IsValueForm (form.use_of x) = Unit {0}
+  IsValueForm (form.fun q b) = Unit {0}
+  IsValueForm (form.tuple es) = Unit {0}
+  IsValueForm (form.build c w es) = Unit {0}
+  IsValueForm (form.let_in q e b) = IsValueTree e × IsValueTree b
+  IsValueForm (form.arithmetic o a b) = IsTotal o
+  IsValueForm (form.negated a) = Unit {0}
+  IsValueForm (form.compare o a b) = Unit {0}
+  IsValueForm (form.not_of a) = Unit {0}
+  IsValueForm (form.and_of a b) = Unit {0}
+  IsValueForm (form.or_of a b) = Unit {0}
+  IsValueForm (form.length_of a) = Unit {0}
+  IsValueForm _ = ⊥
 
-    pub AreScalarFields : ℕ → MlTypes → Type 0
-    AreScalarFields n ml.no_types = Unit {0}
-    AreScalarFields n (ml.more_types t ts) = IsScalarField n t × AreScalarFields n ts
+-- what a definition of x gives: where it ends in a function, the type of that node
+abbrev mutual
+  pub end_type : Annotation → ℕ → Tree → MlType
+  end_type n x (tree i l f) = end_form n x i f
 
--- each field is the datatype again, with its own parameters in their order
-abbrev pub AreAgain : ℕ → ℕ → MlTypes → Type 0
-AreAgain d n ml.no_types = Unit {0}
-AreAgain d n (ml.more_types f fs) = (is_again d n f ≡ true) × AreAgain d n fs
-
--- behind a field that is the datatype again stand only such fields
-abbrev pub AgainStandLast : ℕ → ℕ → MlTypes → Type 0
-AgainStandLast d n ml.no_types = Unit {0}
-AgainStandLast d n (ml.more_types f fs) = Where (is_again d n f) (AreAgain d n fs) (AgainStandLast d n fs)
-
--- so it is where the datatype has parameters
-abbrev pub AreOrdered : ℕ → ℕ → MlTypes → Type 0
-AreOrdered d zero fs = Unit {0}
-AreOrdered d (suc n) fs = AgainStandLast d (suc n) fs
-
--- The constructors of the datatypes have such fields.
-abbrev pub AreScalarDatatypes : Arities → Signature → Type 0
-AreScalarDatatypes used g =
-    (c : ℕ) (k : Constructor) (n : ℕ) → g c ≡ Some k → used k.datatype ≡ Some n
-    → AreScalarFields used n k.fields × AreOrdered k.datatype n k.fields
+  pub end_form : Annotation → ℕ → ℕ → Form → MlType
+  end_form n x i (form.fun q b) = n.types i
+  end_form n x i (form.let_in q e b) = end_type n x b
+  end_form n x i (form.let_rec f j m q b e) = end_type n x e
+  end_form n x i _ = n.names x
 
 -- ---- expressions, definitions and programs
 
-module _ (used : Arities) (n : Annotation) where
-  -- Each node has a scalar type, and no name is used at an instance of a generalised type. Forms are all but maps, and but lists and sequences,
-  -- of which there are none in a normal form; a match has an arm.
+module _ (n : Annotation) where
+  -- Forms are all but maps, and but lists and sequences, of which there are none in a normal form; a match has an arm.
   abbrev mutual
     pub IsScalarTree : Tree → Type 0
-    IsScalarTree (tree i l f) = IsScalarType used (n.types i) × IsScalarForm i f
+    IsScalarTree (tree i l f) = IsScalarForm i f
 
     pub IsScalarForm : ℕ → Form → Type 0
     IsScalarForm i (form.whole z) = Unit {0}
     IsScalarForm i (form.flag b) = Unit {0}
     IsScalarForm i form.unit = Unit {0}
-    IsScalarForm i (form.use_of x) = arguments_at n i x ≡ None
+    IsScalarForm i (form.use_of x) = Unit {0}
     IsScalarForm i (form.qualified m x) = ⊥
     IsScalarForm i (form.fun q b) = IsScalarTree b
     IsScalarForm i (form.tuple es) = AreScalarTrees es
     IsScalarForm i (form.build c w es) = AreScalarTrees es
     IsScalarForm i (form.list_of es) = ⊥
     IsScalarForm i (form.let_in q e b) = IsScalarTree e × IsScalarTree b
-    IsScalarForm i (form.let_rec f j m q b e) = IsScalarType used (n.names f) × IsScalarTree b × IsScalarTree e
+    IsScalarForm i (form.let_rec f j m q b e) = IsScalarTree b × IsScalarTree e
     IsScalarForm i (form.call f a) = IsScalarTree f × IsScalarTree a
     IsScalarForm i (form.arithmetic o a b) = IsScalarTree a × IsScalarTree b
     IsScalarForm i (form.negated a) = IsScalarTree a
@@ -104,8 +100,7 @@ module _ (used : Arities) (n : Annotation) where
     IsScalarForm i (form.or_of a b) = IsScalarTree a × IsScalarTree b
     IsScalarForm i (form.if_else c a b) = IsScalarTree c × IsScalarTree a × IsScalarTree b
     IsScalarForm i (form.match_on e no_cases) = ⊥
-    IsScalarForm i (form.match_on e (more_cases q b cs)) =
-        IsScalarTree e × IsScalarType used (type_of_form n i (form.match_on e (more_cases q b cs))) × AreScalarCases (more_cases q b cs)
+    IsScalarForm i (form.match_on e (more_cases q b cs)) = IsScalarTree e × AreScalarCases (more_cases q b cs)
     IsScalarForm i (form.chain es) = ⊥
     IsScalarForm i (form.assert e) = IsScalarTree e
     IsScalarForm i form.assert_false = Unit {0}
@@ -127,10 +122,15 @@ module _ (used : Arities) (n : Annotation) where
     AreScalarCases no_cases = Unit {0}
     AreScalarCases (more_cases q b cs) = IsScalarTree b × AreScalarCases cs
 
+  -- where a definition of a name is no value, its type has no variables
+  abbrev pub IsSettled : Pattern → Tree → Type 0
+  IsSettled (pattern l (patterns.bind x)) e = IsValueTree e ⊎ HasNoTypeVariables (end_type n x e)
+  IsSettled _ e = Unit {0}
+
   abbrev pub IsScalarItem : ItemForm → Type 0
   IsScalarItem (type_of d) = Unit {0}
-  IsScalarItem (let_of q e) = IsScalarTree e
-  IsScalarItem (let_rec_of f r) = IsScalarType used (n.names f) × IsScalarTree r.body
+  IsScalarItem (let_of q e) = IsScalarTree e × IsSettled q e
+  IsScalarItem (let_rec_of f r) = IsScalarTree r.body
 
   -- definitions in normal form
   abbrev pub IsScalarProgram : List ItemTree → Type 0

@@ -1,5 +1,6 @@
 // Laws of the definitions. Nothing is run.
 ghost use Rattle.lq_scalar.specs.Example.{ExampleIsScalar};
+ghost use Rattle.lq_scalar.specs.GeneralExample.{GeneralExampleIsScalar};
 ghost use Rattle.lq_scalar.specs.ListExample.{ListExampleIsScalar};
 ghost use Rattle.lq_scalar.specs.Laws.{ScalarNormalFormsArePlain, ScalarProgramsArePlain, TemplatesAreWritten};
 
@@ -10,14 +11,17 @@ use lq_plain_scope::recursions_are_over_environments;
 use lq_points::templates_are_of_points;
 use lq_read::what_is_read_is_typed;
 use lq_sorted_matrices::{arguments_lack_fields, matrices_are_sorted};
+use lq_templates::templates_are_of_their_types;
 
 /// What is read of a scalar program has scalar forms, and templates that name arguments of functions that are written there alone.
 pub fn templates_are_written()
     ensures { TemplatesAreWritten }
-{}
+{
+    templates_are_of_their_types();
+}
 
-/// A simply typed program with scalar forms and templates that are written so is plain, where it is ready and in scope, its binders differ, and
-/// its datatypes are scalar, with measures that are known.
+/// A simply typed program with scalar forms and templates that are written so is plain, where it is ready and in scope, its binders differ,
+/// only names that earlier items defined are used at types for variables, and measures are known.
 pub fn scalar_programs_are_plain()
     ensures { ScalarProgramsArePlain }
 {
@@ -29,7 +33,8 @@ pub fn scalar_programs_are_plain()
     arguments_lack_fields();
 }
 
-/// So is what is read of a scalar program in normal form that obeys the rules of types, is ready, and whose binders differ.
+/// So is what is read of a scalar program in normal form that obeys the rules of types, is ready, whose binders differ, and in which only
+/// names that earlier items defined are used at types for variables.
 pub fn scalar_normal_forms_are_plain()
     ensures { ScalarNormalFormsArePlain }
 {
@@ -46,7 +51,12 @@ pub fn an_example_is_scalar()
     ensures { ExampleIsScalar }
 {}
 
-/// A recursive function that takes a list apart, with a use of it on `1 :: []`, is a scalar program over lists.
+/// A recursive function that takes a list apart, with a use of it on `1 :: []`, is a scalar program.
 pub fn an_example_with_lists_is_scalar()
     ensures { ListExampleIsScalar }
+{}
+
+/// A definition of any type, used at numbers and at truth values, is a scalar program, and the name so used is of an earlier item.
+pub fn an_example_with_a_general_name_is_scalar()
+    ensures { GeneralExampleIsScalar }
 {}

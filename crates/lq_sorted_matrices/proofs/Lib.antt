@@ -1,3 +1,3 @@
 -- Lemmas.
 mod Matrices
-mod Variables
+pub mod Variables

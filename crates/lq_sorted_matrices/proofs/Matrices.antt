@@ -40,7 +40,7 @@ one_within N M w int x h = record { terms = added N.terms M.terms x w.terms h; f
 one_within N M w bool x h = record { terms = w.terms; flags = added N.flags M.flags x w.flags h }
 one_within N M w array x h = record { terms = added N.terms M.terms x w.terms h; flags = w.flags }
 one_within N M w (data_of d) x h = record { terms = added N.terms M.terms x w.terms h; flags = w.flags }
-one_within N M w shape.other x h = record { terms = added N.terms M.terms x w.terms h; flags = w.flags }
+one_within N M w shape.other x h = w
 
 scope_within : (M : Names) (Γ : Scope) → ScopeIn M Γ → AreWithin (scope_names Γ) M
 scope_within M [] h = record { terms = λ x e. absurd (no e); flags = λ x e. absurd (no e) }
@@ -78,14 +78,14 @@ more_within : (k : Kind) (N : Names) (x : Symbol) → AreWithin N (one_more k N 
 more_within number N x = within_sort N number x
 more_within truth_value N x = within_sort N truth_value x
 more_within object N x = within_sort N object x
-more_within other N x = within_sort N other x
+more_within other N x = record { terms = within_one N.terms x; flags = λ y e. e }
 
 more_in : (s : Shape) (N : Names) (x : Symbol) → IsIn (one_more (kind_of s) N x) s x
 more_in int N x = in_sort N int x
 more_in bool N x = in_sort N bool x
 more_in array N x = in_sort N array x
 more_in (data_of d) N x = in_sort N (data_of d) x
-more_in shape.other N x = in_sort N shape.other x
+more_in shape.other N x = tt
 
 first_in : (j : ℕ) (t : Refined) (ts : Refineds) (s : Shape) → kind t ≡ kind_of s → IsIn (names_from j (more t ts)) s (Position (suc j))
 first_in j t ts s e = subst (λ (k : Kind). IsIn (one_more k (names_from (suc j) ts) (Position (suc j))) s (Position (suc j))) (sym e) (more_in s (names_from (suc j) ts) (Position (suc j)))
@@ -125,7 +125,7 @@ value_within : (N M : Names) → AreWithin N M → (k : Kind) → AreWithin (wit
 value_within N M w number = record { terms = wider N.terms M.terms Value w.terms; flags = λ y e. within_one M.flags Value y (w.flags y e) }
 value_within N M w truth_value = record { terms = λ y e. within_one M.terms Value y (w.terms y e); flags = wider N.flags M.flags Value w.flags }
 value_within N M w object = record { terms = wider N.terms M.terms Value w.terms; flags = λ y e. within_one M.flags Value y (w.flags y e) }
-value_within N M w other = record { terms = wider N.terms M.terms Value w.terms; flags = λ y e. within_one M.flags Value y (w.flags y e) }
+value_within N M w other = record { terms = λ y e. within_one M.terms Value y (w.terms y e); flags = λ y e. within_one M.flags Value y (w.flags y e) }
 
 and_first : (a b : Bool) → (a && b) ≡ true → a ≡ true
 and_first true b h = refl
@@ -183,7 +183,7 @@ sort_apart : (N : Symbols) (j : ℕ) → N (Position (suc j)) ≡ false → (k :
 sort_apart N j h number = (with_value_apart N j h, apart_from N (Position (suc j)) h)
 sort_apart N j h truth_value = (apart_from N (Position (suc j)) h, with_value_apart N j h)
 sort_apart N j h object = (with_value_apart N j h, apart_from N (Position (suc j)) h)
-sort_apart N j h other = (with_value_apart N j h, apart_from N (Position (suc j)) h)
+sort_apart N j h other = (apart_from N (Position (suc j)) h, apart_from N (Position (suc j)) h)
 
 pub arguments_lack : ArgumentsLackFields
 arguments_lack g unknowns S sorted N apart none h i j = tt

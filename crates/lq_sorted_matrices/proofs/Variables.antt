@@ -24,7 +24,7 @@ use Rattle.lq_in_scope.proofs.Points.{all_emptied_erased}
 use Rattle.lq_sorted_matrices.specs.Laws.{HasNoVariableEntries, VariablesHaveNoEntries}
 
 -- predicates speak of the shape
-abbrev is_spoken : Shape → Bool
+abbrev pub is_spoken : Shape → Bool
 is_spoken int = true
 is_spoken bool = true
 is_spoken array = true
@@ -44,11 +44,11 @@ and_second false b h = absurd (no h)
 
 -- of the parameters from the i-th on, whether predicates speak of each
 module _ (V : ℕ → Bool) where
-  abbrev AreSpoken : ℕ → MlTypes → Type 0
+  abbrev pub AreSpoken : ℕ → MlTypes → Type 0
   AreSpoken i ml.no_types = Unit {0}
   AreSpoken i (ml.more_types u us) = (V i ≡ is_spoken (shape_of u)) × AreSpoken (suc i) us
 
-  abbrev Spoken : Matrix → Type 0
+  abbrev pub Spoken : Matrix → Type 0
   Spoken [] = Unit {0}
   Spoken (e ∷ m) = (V e.parameter ≡ true) × Spoken m
 
@@ -81,7 +81,7 @@ module _ (V : ℕ → Bool) where
       by true = parameters_spoken n Γ c j 0 us h
       by false = tt
 
-  constructors_spoken : (g : Signature) (n d : ℕ) (us : MlTypes) (cs : List ℕ) → AreSpoken 0 us → Spoken (constructor_cells g n d us cs).matrix
+  pub constructors_spoken : (g : Signature) (n d : ℕ) (us : MlTypes) (cs : List ℕ) → AreSpoken 0 us → Spoken (constructor_cells g n d us cs).matrix
   constructors_spoken g n d us [] h = tt
   constructors_spoken g n d us (c ∷ cs) h =
       let fs : MlTypes = fields_of (g c) in
@@ -89,7 +89,7 @@ module _ (V : ℕ → Bool) where
       joined a.matrix (constructor_cells g (n + length a.unknowns) d us cs).matrix (fields_spoken n (field_scope d us 0 fs []) d c us 0 fs h)
       (constructors_spoken g (n + length a.unknowns) d us cs h)
 
-  no_entry : (m : Matrix) (c j i : ℕ) → Spoken m → V i ≡ false → cell m c j i ≡ []
+  pub no_entry : (m : Matrix) (c j i : ℕ) → Spoken m → V i ≡ false → cell m c j i ≡ []
   no_entry [] c j i h w = refl
   no_entry (e ∷ m) c j i h w = by (e.constructor == c && (e.field == j && e.parameter == i)) refl (no_entry m c j i h.1 w)
     where
@@ -106,7 +106,7 @@ spoken_later : (V : ℕ → Bool) (i : ℕ) (us : MlTypes) → AreSpoken (λ k. 
 spoken_later V i ml.no_types h = tt
 spoken_later V i (ml.more_types u us) h = (h.0, spoken_later V (suc i) us h.1)
 
-own_spoken : (us : MlTypes) → AreSpoken (λ i. is_spoken (shape_of (types.type_at us i))) 0 us
+pub own_spoken : (us : MlTypes) → AreSpoken (λ i. is_spoken (shape_of (types.type_at us i))) 0 us
 own_spoken ml.no_types = tt
 own_spoken (ml.more_types u us) = (refl, spoken_later (λ i. is_spoken (shape_of (types.type_at (ml.more_types u us) i))) 0 us (own_spoken us))
 

@@ -1,4 +1,4 @@
-use Rattle.lq_scalar.proofs.Plain.{scalar_plain}
+use Rattle.lq_scalar.proofs.Programs.{scalar_plain}
 use Rattle.lq_scalar.proofs.laws.scalar_programs_are_plain.Goals as goal
 
 pub returns : goal.returns
