@@ -1,0 +1,9 @@
+-- Lemmas.
+mod Weights
+mod Nexts
+mod Costs
+mod Resolving
+mod Paying
+mod Few
+mod Below
+mod Texts

@@ -1,0 +1,7 @@
+-- Lemmas.
+mod Quiet
+mod Visits
+mod Source
+mod Keeping
+mod Reading
+mod Composing
