@@ -1,6 +1,7 @@
 -- What is answered, by what is judged of what was posed.
-use Rattle.std.proofs.Common.{inl, inr, ℕ, Ok}
+use Rattle.std.proofs.Common.{inl, inr, ℕ, ◌≤◌, Ok, length}
 use Rattle.lq_bound_texts.specs.Stages.{Bytes}
+use Rattle.lq_lex.specs.declared.limits.TheConstants.{TEXT_LIMIT}
 use Rattle.lq_posed_texts.specs.Stages.{PosesTo, Typed}
 use Rattle.lq_posed_texts.specs.Views.{IsPosedView}
 use Rattle.lq_posed_texts.specs.declared.posing.PosedTexts.{PosedTexts}
@@ -11,13 +12,12 @@ use Rattle.lq_judge.specs.Safety.{AcceptedAreSafe, SmallAreDecided}
 use Rattle.lq_verdict.specs.declared.judgement.Judgement.{Judgement}
 use Rattle.lq_verdict.specs.declared.judgement.Judgement.TheVariants.{Accepted, Rejected, Undecided}
 
-pub safe_of : AcceptedAreSafe → (m : PosedTexts) (limit : ℕ) (b : Bytes) (t : Typed) (j : Judgement) → PosesTo b (Ok t) → IsPosedView m t
-    → IsVerdictOn limit t j → IsSafe b j
-safe_of law m limit b t (Accepted types) poses view is =
-    let all = law m.texts.noted b t types (record { program = view.program; annotation = view.annotation }) poses is in
-    (t, poses, (is, all.0, all.1, all.2))
-safe_of law m limit b t (Rejected failure explained) poses view is = tt
-safe_of law m limit b t (Undecided cause) poses view is = tt
+pub safe_of : AcceptedAreSafe → (m : PosedTexts) (limit : ℕ) (b : Bytes) → length b.program ≤ TEXT_LIMIT → (t : Typed) (j : Judgement) → PosesTo b (Ok t)
+    → IsPosedView m t → IsVerdictOn limit t j → IsSafe b j
+safe_of law m limit b short t (Accepted types) poses view is =
+    (t, poses, (is, law m.texts.noted b t types short (record { program = view.program; annotation = view.annotation }) poses is))
+safe_of law m limit b short t (Rejected failure explained) poses view is = tt
+safe_of law m limit b short t (Undecided cause) poses view is = tt
 
 pub decided_of : SmallAreDecided → (limit : ℕ) (b : Bytes) (j : Judgement) → IsJudgement limit b (Ok j) → IsDecided limit b j
 decided_of law limit b (Accepted types) is = tt

@@ -1,52 +1,44 @@
 -- What is accepted is safe, and what is small is decided.
-use Rattle.std.proofs.Common.{ℕ, List, [], Ok, map, sym, subst}
+use Rattle.std.proofs.Common.{ℕ, ◌≤◌, List, Ok, length, map, sym, subst}
 use Rattle.lq_annotated.specs.Whole as annotated
 use Rattle.lq_bound_texts.specs.Stages.{Bytes}
 use Rattle.lq_covariant.specs.Covariant.{NamedProgramsAreCovariant}
+use Rattle.lq_few_names.specs.Short.{IsOfShortText}
 use Rattle.lq_inhabits.specs.Datatypes.{AreCovariant}
-use Rattle.lq_inhabits.specs.Truth.{Objects}
+use Rattle.lq_lex.specs.declared.limits.TheConstants.{TEXT_LIMIT}
 use Rattle.lq_notes.specs.Noted.{annotation_of, NotedAreKnown}
 use Rattle.lq_notes.specs.declared.noted.Noted.{Noted}
 use Rattle.lq_parts.specs.Assignment.{Assignment}
 use Rattle.lq_parts.specs.Flowing.{assigned}
-use Rattle.lq_plain.specs.Plain.{IsPlainProgram}
 use Rattle.lq_points.specs.Annotation.{Annotation}
 use Rattle.lq_points.specs.Reading.{program_of}
 use Rattle.lq_posed_texts.specs.Stages.{PosesTo, Typed, constraints_in, normal_in, program_in, unknowns_in}
 use Rattle.lq_pred.specs.declared.pred.Stop.{Stop}
 use Rattle.lq_pred.specs.declared.pred.Stop.TheVariants.{Number, Gather, Pivots, Memory as MemoryStop}
 use Rattle.lq_problem.specs.Posed.{datatypes_of}
-use Rattle.lq_safe.specs.Programs.{no_symbols}
 use Rattle.lq_scoped.specs.Scoping.{Scoping}
 use Rattle.lq_scoped.specs.Signature.{signature_in}
-use Rattle.lq_scalar_texts.specs.Laws.{IsSortedIn, ScalarTextsAreSafe}
-use Rattle.lq_scalar_texts.specs.Scalar.{IsScalarText}
+use Rattle.lq_plain_texts.specs.Laws.{IsSortedIn, TextsAreSafe}
 use Rattle.lq_sorted_instances.specs.Laws.{InstancesAreSorted, QualifiersAreSorted}
-use Rattle.lq_straight_texts.specs.Laws.{StraightTextsAreSafe}
-use Rattle.lq_straight_texts.specs.Straight.{AreStraight}
 use Rattle.lq_text_measures.specs.Laws.{AreMeasuresOf}
-use Rattle.lq_text_ready.specs.Laws.{IsOfText}
 use Rattle.lq_text_safe.specs.Instances.{InstancesAreScoped}
-use Rattle.lq_text_safe.specs.Safety as texts
-use Rattle.lq_text_safe.specs.Safety.{CheckedTextsAreSafe, IsSafe, IsSolvedBy}
+use Rattle.lq_text_safe.specs.Safety.{IsSafe, IsSolvedBy}
 use Rattle.lq_weaken.specs.Stops.{StopsSolving, StopsUnder}
 use Rattle.lq_weakening.specs.declared.error.SolveError.TheVariants.{At}
 use Rattle.lq_judge.specs.Agreeing.{IsOfProver}
 use Rattle.lq_verdict.specs.Judgement.{IsAccepted, instances_of}
-use Rattle.lq_judge.specs.Safety.{IsNotedOf, IsSafeIfPlain, IsSafeIfScalar, IsSafeIfStraight, SmallAreDecided}
-use Rattle.lq_judge.proofs.Texts.{measures_text, named_text, of_text, sorted_qualifiers}
+use Rattle.lq_judge.specs.Safety.{IsNotedOf, SmallAreDecided}
+use Rattle.lq_judge.proofs.Texts.{measures_text, named_text, of_short_text, sorted_qualifiers}
 
 pub record Laws : Type 1 where
   pub known : NotedAreKnown
   pub scoped : InstancesAreScoped
-  pub checked : CheckedTextsAreSafe
-  pub straight : StraightTextsAreSafe
-  pub scalar : ScalarTextsAreSafe
+  pub safe : TextsAreSafe
   pub qualifiers : QualifiersAreSorted
   pub instances : InstancesAreSorted
   pub covariant : NamedProgramsAreCovariant
 
-module _ (laws : Laws) (m : Noted) (b : Bytes) (t : Typed) (types : List ℕ) (noted : IsNotedOf m t) (posed : PosesTo b (Ok t)) (is : IsAccepted t types) where
+module _ (laws : Laws) (m : Noted) (b : Bytes) (t : Typed) (types : List ℕ) (short : length b.program ≤ TEXT_LIMIT) (noted : IsNotedOf m t) (posed : PosesTo b (Ok t)) (is : IsAccepted t types) where
   abbrev assignment : Assignment
   assignment = assigned (instances_of t) is.solution
 
@@ -68,8 +60,8 @@ module _ (laws : Laws) (m : Noted) (b : Bytes) (t : Typed) (types : List ℕ) (n
       subst (λ (s : Scoping). IsSolvedBy s t.bound.texts.measures (annotation_of m) assignment) (sym noted.program)
       (subst (λ (n : Annotation). IsSolvedBy (program_in t) t.bound.texts.measures n assignment) (sym noted.annotation) solved)
 
-  text_there : IsOfText there
-  text_there = subst IsOfText (sym noted.program) (of_text b t posed)
+  text_there : IsOfShortText there
+  text_there = subst IsOfShortText (sym noted.program) (of_short_text b t posed short)
 
   covariant_there : AreCovariant (signature_in there.datatypes)
   covariant_there =
@@ -81,41 +73,21 @@ module _ (laws : Laws) (m : Noted) (b : Bytes) (t : Typed) (types : List ℕ) (n
   measures_there : AreMeasuresOf there.datatypes t.bound.texts.measures
   measures_there = subst (λ (s : Scoping). AreMeasuresOf s.datatypes t.bound.texts.measures) (sym noted.program) (measures_text b t posed)
 
-  safe_straight : IsSafeIfStraight t
-  safe_straight straight =
-      subst (λ (s : Scoping). IsSafe s.items) noted.program
-      (laws.straight m.program (annotation_of m) t.bound.texts.measures assignment text_there (laws.known m)
-      (subst (λ (s : Scoping). AreStraight s.items) (sym noted.program) straight) covariant_there solved_there)
-
-  abbrev PlainBy : Objects → Scoping → Annotation → Type 0
-  PlainBy O s n = IsPlainProgram (texts.basis_in s t.bound.texts.measures n) assignment O no_symbols [] (program_of n (texts.normal_in s)).read
-
-  safe_plain : IsSafeIfPlain t is.solution
-  safe_plain O lengths plain =
-      let plain_there = subst (λ (s : Scoping). PlainBy O s (annotation_of m)) (sym noted.program)
-      (subst (λ (n : Annotation). PlainBy O (program_in t) n) (sym noted.annotation) plain) in
-      subst (λ (s : Scoping). IsSafe s.items) noted.program
-      (laws.checked m.program (annotation_of m) t.bound.texts.measures assignment O text_there (laws.known m) covariant_there solved_there lengths plain_there)
-
   sorted : IsSortedIn (program_in t) t.bound.texts.measures t.annotation assignment
   sorted =
       laws.instances (unknowns_in t) (map (λ x. x.name) t.bound.texts.measures) t.bound.texts.qualifiers is.solution
       (sorted_qualifiers laws.qualifiers b t posed)
 
-  -- scalar with instances at their sorts
-  abbrev ScalarBy : Scoping → Annotation → Type 0
-  ScalarBy s n = IsScalarText s n × IsSortedIn s t.bound.texts.measures n assignment
+  sorted_there : IsSortedIn there t.bound.texts.measures (annotation_of m) assignment
+  sorted_there =
+      subst (λ (s : Scoping). IsSortedIn s t.bound.texts.measures (annotation_of m) assignment) (sym noted.program)
+      (subst (λ (n : Annotation). IsSortedIn (program_in t) t.bound.texts.measures n assignment) (sym noted.annotation) sorted)
 
-  safe_scalar : IsSafeIfScalar t
-  safe_scalar scalar =
-      let scalar_there : ScalarBy there (annotation_of m) = subst (λ (s : Scoping). ScalarBy s (annotation_of m)) (sym noted.program)
-      (subst (λ (n : Annotation). ScalarBy (program_in t) n) (sym noted.annotation) (scalar, sorted)) in
+  pub safe : IsSafe (program_in t).items
+  safe =
       subst (λ (s : Scoping). IsSafe s.items) noted.program
-      (laws.scalar m.program (annotation_of m) t.bound.texts.measures assignment text_there (laws.known m) scalar_there.0 scalar_there.1 measures_there
-      covariant_there solved_there)
-
-  pub safe : IsSafeIfStraight t × IsSafeIfPlain t is.solution × IsSafeIfScalar t
-  safe = (safe_straight, safe_plain, safe_scalar)
+      (laws.safe m.program (annotation_of m) t.bound.texts.measures assignment text_there (laws.known m) sorted_there measures_there covariant_there
+      solved_there)
 
 pub decided : SmallAreDecided
 decided limit t cause is small prover = by_stop is.stop is.stops prover

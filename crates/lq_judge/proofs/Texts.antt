@@ -1,7 +1,9 @@
 -- What is to be solved is of a text, with whose names nothing is wrong, and with sorted qualifiers.
-use Rattle.std.proofs.Common.{◌≡◌, ℕ, List, [], Ok, ap, sym, subst, ◌∙◌}
+use Rattle.std.proofs.Common.{◌≡◌, ◌≤◌, ℕ, List, [], Ok, length, ap, sym, subst, ◌∙◌}
 use Rattle.lq_bound_texts.specs.Stages.{BindsTo, Bound, Bytes}
 use Rattle.lq_datatypes.specs.Datatypes.{datatypes_in}
+use Rattle.lq_few_names.specs.Short.{IsOfShortText}
+use Rattle.lq_lex.specs.declared.limits.TheConstants.{TEXT_LIMIT}
 use Rattle.lq_posed_texts.specs.Stages.{PosesTo, Typed, program_in}
 use Rattle.lq_resolved.specs.Resolution.{scoping_of}
 use Rattle.lq_scope.specs.Uses.{of_program}
@@ -11,32 +13,35 @@ use Rattle.lq_sorted_instances.specs.Sorts.{AreSortedQualifiers}
 use Rattle.lq_sorted.specs.Making.{measures_made}
 use Rattle.lq_sorts.specs.Equations.{of_measures}
 use Rattle.lq_text_measures.specs.Laws.{AreMeasuresOf}
-use Rattle.lq_text_ready.specs.Laws.{IsOfText}
 use Rattle.lq_tree.specs.Items.{ItemTree}
 
-bound_text : (bytes : Bytes) (b : Bound) → BindsTo bytes (Ok b) → IsOfText b.texts.program
-bound_text bytes b is =
+bound_text : (bytes : Bytes) (b : Bound) → BindsTo bytes (Ok b) → length bytes.program ≤ TEXT_LIMIT → IsOfShortText b.texts.program
+bound_text bytes b is short =
     let read = is.1 in
     let two = read.1 in
     let program = two.1 in
     let items = ap (λ s. s.items) is.2.0 ∙ ap (λ x. x.0.tree) read.2.0 ∙ ap (λ x. x.tree) two.2.0 in
     record {
-      text = bytes.program;
-      names = two.0.names;
-      tokens = program.0;
-      trees = two.0.tree;
-      read = program.2.1;
-      known = b.read.names;
-      bound = ap (λ x. x.program) is.2.1.3 ∙ ap (scoping_of b.read.names) items;
+      of_text = record {
+        text = bytes.program;
+        names = two.0.names;
+        tokens = program.0;
+        trees = two.0.tree;
+        read = program.2.1;
+        known = b.read.names;
+        bound = ap (λ x. x.program) is.2.1.3 ∙ ap (scoping_of b.read.names) items;
+      };
+      lexed = program.1;
+      short = short;
     }
 
-pub of_text : (bytes : Bytes) (t : Typed) → PosesTo bytes (Ok t) → IsOfText (program_in t)
-of_text bytes t posed =
+pub of_short_text : (bytes : Bytes) (t : Typed) → PosesTo bytes (Ok t) → length bytes.program ≤ TEXT_LIMIT → IsOfShortText (program_in t)
+of_short_text bytes t posed short =
     let typed = posed.1 in
     let same : t ≡ posed.0 = posed.2.0 in
     let bound : posed.0.bound ≡ typed.0 = typed.2.0 in
-    let there = bound_text bytes typed.0 typed.1 in
-    subst (λ (b : Bound). IsOfText b.texts.program) (sym bound ∙ sym (ap (λ x. x.bound) same)) there
+    let there = bound_text bytes typed.0 typed.1 short in
+    subst (λ (b : Bound). IsOfShortText b.texts.program) (sym bound ∙ sym (ap (λ x. x.bound) same)) there
 
 -- the datatypes are those of items of which nothing is complained
 pub record IsNamed (s : Scoping) : Type 0 where

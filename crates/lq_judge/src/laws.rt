@@ -6,11 +6,10 @@ use lq_covariant::named_programs_are_covariant;
 use lq_failure::failures_differ_in_values;
 use lq_literals::sources_have_the_literals;
 use lq_notes::noted_are_known;
+use lq_plain_texts::texts_are_safe;
 use lq_posed_texts::one_posing;
-use lq_scalar_texts::scalar_texts_are_safe;
 use lq_sorted_instances::{instances_are_sorted, qualifiers_are_sorted};
-use lq_straight_texts::straight_texts_are_safe;
-use lq_text_safe::{checked_texts_are_safe, instances_are_scoped};
+use lq_text_safe::instances_are_scoped;
 use lq_weaken::some_instances_gather;
 
 /// Two judgements on three texts that are due agree, but for the values in the lines on a point, unless the prover stopped for one of them.
@@ -23,15 +22,13 @@ pub fn one_judgement()
     failures_differ_in_values();
 }
 
-/// What is accepted is safe by the meaning of the language, where it is straight-line or scalar, or plain as soundness asks for it.
+/// What is accepted is safe by the meaning of the language: on every input no number of steps meets a fault or gets stuck.
 pub fn accepted_are_safe()
     ensures { AcceptedAreSafe }
 {
     noted_are_known();
     instances_are_scoped();
-    checked_texts_are_safe();
-    straight_texts_are_safe();
-    scalar_texts_are_safe();
+    texts_are_safe();
     qualifiers_are_sorted();
     instances_are_sorted();
     named_programs_are_covariant();

@@ -7,9 +7,7 @@ returns c =
     record {
       known = c.noted_are_known.ensures;
       scoped = c.instances_are_scoped.ensures;
-      checked = c.checked_texts_are_safe.ensures;
-      straight = c.straight_texts_are_safe.ensures;
-      scalar = c.scalar_texts_are_safe.ensures;
+      safe = c.texts_are_safe.ensures;
       qualifiers = c.qualifiers_are_sorted.ensures;
       instances = c.instances_are_sorted.ensures;
       covariant = c.named_programs_are_covariant.ensures;

@@ -1,2 +1,3 @@
 -- Lemmas.
+mod Formed
 mod Texts

@@ -1,6 +1,7 @@
--- A scalar text is plain, and safe where its implications are valid.
+-- What is read of a typed text is plain, and the text is safe where its implications are valid.
 use Rattle.std.specs.Prelude.{List, []}
 use Rattle.lq_annotated.specs.Whole.{program_of}
+use Rattle.lq_few_names.specs.Short.{IsOfShortText}
 use Rattle.lq_fields.specs.Fields.{KnowsMeasures}
 use Rattle.lq_inhabits.specs.Datatypes.{AreCovariant}
 use Rattle.lq_inhabits.specs.Truth.{Objects}
@@ -16,24 +17,21 @@ use Rattle.lq_scoped.specs.Scoping.{Scoping}
 use Rattle.lq_scoped.specs.Signature.{signature_in}
 use Rattle.lq_sorted.specs.Sorted.{Measure}
 use Rattle.lq_text_measures.specs.Laws.{AreMeasuresOf}
-use Rattle.lq_text_ready.specs.Laws.{IsOfText}
 use Rattle.lq_text_safe.specs.Safety.{basis_in, normal_in, IsSafe, IsSolvedBy}
-use Rattle.lq_scalar_texts.specs.Scalar.{IsScalarText}
 
 -- the assignment's instances speak of what the program's unknowns may speak of, at its sorts
 abbrev pub IsSortedIn : Scoping → List Measure → Annotation → Assignment → Type 0
 IsSortedIn s ms n A = AreSorted (unknown_in (unknowns_for s.datatypes ms n (normal_in s))) A
 
--- What is read of a typed scalar program of a text is merely plain, under such an assignment, with the measures of a text of which nothing is
--- complained, and over objects that know them.
-abbrev pub ScalarTextsArePlain : Type 0
-ScalarTextsArePlain = (i : Instantiated) (n : Annotation) (ms : List Measure) (A : Assignment) (O : Objects) → let s = program_of i.annotated in IsOfText s
-    → Knows i n → IsScalarText s n → IsSortedIn s ms n A → AreMeasuresOf s.datatypes ms → KnowsMeasures (basis_in s ms n) O
+-- What is read of a typed program of a text of at most `TEXT_LIMIT` bytes is merely plain, under such an assignment, with the measures of a text
+-- of which nothing is complained, and over objects that know them.
+abbrev pub TextsArePlain : Type 0
+TextsArePlain = (i : Instantiated) (n : Annotation) (ms : List Measure) (A : Assignment) (O : Objects) → let s = program_of i.annotated in IsOfShortText s
+    → Knows i n → IsSortedIn s ms n A → AreMeasuresOf s.datatypes ms → KnowsMeasures (basis_in s ms n) O
     → ∥ IsPlainProgram (basis_in s ms n) A O no_symbols [] (read_of n (normal_in s)) ∥₁
 
 -- It is safe where the assignment makes all its implications valid, and in its type definitions no parameter stands left of an arrow or under
 -- `array`.
-abbrev pub ScalarTextsAreSafe : Type 0
-ScalarTextsAreSafe = (i : Instantiated) (n : Annotation) (ms : List Measure) (A : Assignment) → let s = program_of i.annotated in IsOfText s → Knows i n
-    → IsScalarText s n → IsSortedIn s ms n A → AreMeasuresOf s.datatypes ms → AreCovariant (signature_in s.datatypes) → IsSolvedBy s ms n A
-    → IsSafe s.items
+abbrev pub TextsAreSafe : Type 0
+TextsAreSafe = (i : Instantiated) (n : Annotation) (ms : List Measure) (A : Assignment) → let s = program_of i.annotated in IsOfShortText s → Knows i n
+    → IsSortedIn s ms n A → AreMeasuresOf s.datatypes ms → AreCovariant (signature_in s.datatypes) → IsSolvedBy s ms n A → IsSafe s.items

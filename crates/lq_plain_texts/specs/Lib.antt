@@ -1,0 +1,2 @@
+-- That typed texts are plain and safe: laws.
+pub mod Laws

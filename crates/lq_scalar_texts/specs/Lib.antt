@@ -1,3 +1,0 @@
--- Scalar texts: definitions and laws.
-pub mod Scalar
-pub mod Laws

@@ -1,5 +1,0 @@
--- Lemmas.
-mod Normal
-mod Plain
-mod Uses
-mod Texts

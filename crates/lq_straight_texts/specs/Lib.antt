@@ -1,3 +1,0 @@
--- Straight-line texts: definitions and laws.
-pub mod Straight
-pub mod Laws
