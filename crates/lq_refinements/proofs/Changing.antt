@@ -8,7 +8,7 @@ use Rattle.lq_refined.specs.Operations.{type_by, twin, instantiated}
 use Rattle.lq_refined.specs.Refined.{Matrix, Refined, int_with, bool_with, unit_type, function, tuple_of, array_with, data_with, map_with, type_variable, Refineds, more, kind, strengthened, type_at, with_top}
 use Rattle.lq_substitution.specs.Views.{subst_view}
 use Rattle.lq_refinements.specs.declared.changes.Change.{Change}
-use Rattle.lq_refinements.specs.declared.changes.Change.TheVariants.{Put, Twin, Instantiated}
+use Rattle.lq_refinements.specs.declared.changes.Change.TheVariants.{Put, Twin, Twinned, Instantiated}
 use Rattle.lq_refinements.specs.Changes.{changed, all_changed, parts_changed, change_rows, variable_of, number_in, replaced}
 use Rattle.lq_refinements.specs.declared.forms.Form.{Form}
 use Rattle.lq_refinements.specs.declared.forms.Form.TheVariants as form
@@ -118,6 +118,7 @@ module _ (scopes : Scopes) (all : List Refined) where
   pub replaced-some : (c : Change) (t : Refined) (r : ℕ) → replaced c t ≡ Some r → changed scopes all c t ≡ at all r
   replaced-some (Put θ) t r h = cc
   replaced-some Twin t r h = cc
+  replaced-some (Twinned θ) t r h = cc
   replaced-some (Instantiated by) t r h = chosen (variable_of t) refl h
     where
       chosen : (v : Option ℕ) → variable_of t ≡ v → number_in by.items v ≡ Some r → instantiated (each all by.items) t ≡ at all r
@@ -127,45 +128,54 @@ module _ (scopes : Scopes) (all : List Refined) where
   pub changed-int : (c : Change) (p : Parts) → int_with (parts_changed scopes c p) ≡ changed scopes all c (int_with p)
   changed-int (Put θ) p = refl
   changed-int Twin p = refl
+  changed-int (Twinned θ) p = refl
   changed-int (Instantiated by) p = refl
 
   pub changed-bool : (c : Change) (p : Parts) → bool_with (parts_changed scopes c p) ≡ changed scopes all c (bool_with p)
   changed-bool (Put θ) p = refl
   changed-bool Twin p = refl
+  changed-bool (Twinned θ) p = refl
   changed-bool (Instantiated by) p = refl
 
   pub changed-unit : (c : Change) → unit_type ≡ changed scopes all c unit_type
   changed-unit (Put θ) = refl
   changed-unit Twin = refl
+  changed-unit (Twinned θ) = refl
   changed-unit (Instantiated by) = refl
 
   pub changed-array : (c : Change) (e : Refined) (p : Parts) → array_with (changed scopes all c e) (parts_changed scopes c p) ≡ changed scopes all c (array_with e p)
   changed-array (Put θ) e p = refl
   changed-array Twin e p = refl
+  changed-array (Twinned θ) e p = refl
   changed-array (Instantiated by) e p = refl
 
   pub changed-map : (c : Change) (e : Refined) (p : Parts) → map_with (changed scopes all c e) (parts_changed scopes c p) ≡ changed scopes all c (map_with e p)
   changed-map (Put θ) e p = refl
   changed-map Twin e p = refl
+  changed-map (Twinned θ) e p = refl
   changed-map (Instantiated by) e p = refl
 
   all_changed-row : (c : Change) (ts : List Refined) → all_changed scopes all c (row_of ts) ≡ row_of (map (changed scopes all c) ts)
   all_changed-row (Put θ) [] = refl
   all_changed-row Twin [] = refl
+  all_changed-row (Twinned θ) [] = refl
   all_changed-row (Instantiated by) [] = refl
   all_changed-row (Put θ) (t ∷ ts) = ap (more (type_by scopes (subst_view θ) t)) (all_changed-row (Put θ) ts)
   all_changed-row Twin (t ∷ ts) = ap (more (twin scopes t)) (all_changed-row Twin ts)
+  all_changed-row (Twinned θ) (t ∷ ts) = ap (more (type_by scopes (subst_view θ) (twin scopes t))) (all_changed-row (Twinned θ) ts)
   all_changed-row (Instantiated by) (t ∷ ts) = ap (more (instantiated (each all by.items) t)) (all_changed-row (Instantiated by) ts)
 
   changed-tuple : (c : Change) (ts : Refineds) → tuple_of (all_changed scopes all c ts) ≡ changed scopes all c (tuple_of ts)
   changed-tuple (Put θ) ts = refl
   changed-tuple Twin ts = refl
+  changed-tuple (Twinned θ) ts = refl
   changed-tuple (Instantiated by) ts = refl
 
   changed-data : (c : Change) (d : ℕ) (ts : Refineds) (m : Matrix) (p : Parts)
       → data_with d (all_changed scopes all c ts) m (parts_changed scopes c p) ≡ changed scopes all c (data_with d ts m p)
   changed-data (Put θ) d ts m p = refl
   changed-data Twin d ts m p = refl
+  changed-data (Twinned θ) d ts m p = refl
   changed-data (Instantiated by) d ts m p = refl
 
   -- rows of types, each changed
@@ -248,6 +258,10 @@ replaced-earlier Twin t r n e h = absurd (none e)
   where
     none : None ≡ Some r → ⊥
     none k = cc
+replaced-earlier (Twinned θ) t r n e h = absurd (none e)
+  where
+    none : None ≡ Some r → ⊥
+    none k = cc
 replaced-earlier (Instantiated by) t r n e h = chosen (variable_of t) e
   where
     chosen : (v : Option ℕ) → number_in by.items v ≡ Some r → r < n
@@ -272,4 +286,5 @@ variable-form all bll (form.Variable i) p q = refl
 pub replaced-form : (c : Change) (all bll : List Refined) (f : Form) (p q : Parts) → replaced c (form_type all f p) ≡ replaced c (form_type bll f q)
 replaced-form (Put θ) all bll f p q = refl
 replaced-form Twin all bll f p q = refl
+replaced-form (Twinned θ) all bll f p q = refl
 replaced-form (Instantiated by) all bll f p q = ap (number_in by.items) (variable-form all bll f p q)

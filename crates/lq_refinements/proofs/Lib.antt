@@ -1,3 +1,4 @@
 pub mod Entries
 pub mod Changing
 pub mod Fields
+pub mod Twins

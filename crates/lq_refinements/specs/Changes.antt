@@ -5,28 +5,32 @@ use Rattle.lq_refined.specs.Operations.{type_by, types_by, twin, twins, instanti
 use Rattle.lq_refined.specs.Refined.{Refined, int_with, bool_with, unit_type, function, tuple_of, array_with, data_with, map_with, type_variable, Refineds}
 use Rattle.lq_substitution.specs.Views.{subst_view}
 use Rattle.lq_refinements.specs.declared.changes.Change.{Change}
-use Rattle.lq_refinements.specs.declared.changes.Change.TheVariants.{Put, Twin, Instantiated}
+use Rattle.lq_refinements.specs.declared.changes.Change.TheVariants.{Put, Twin, Twinned, Instantiated}
 use Rattle.lq_refinements.specs.Forms.{each}
 
 abbrev pub changed : Scopes → List Refined → Change → Refined → Refined
 changed scopes all (Put θ) t = type_by scopes (subst_view θ) t
 changed scopes all Twin t = twin scopes t
+changed scopes all (Twinned θ) t = type_by scopes (subst_view θ) (twin scopes t)
 changed scopes all (Instantiated by) t = instantiated (each all by.items) t
 
 abbrev pub all_changed : Scopes → List Refined → Change → Refineds → Refineds
 all_changed scopes all (Put θ) ts = types_by scopes (subst_view θ) ts
 all_changed scopes all Twin ts = twins scopes ts
+all_changed scopes all (Twinned θ) ts = types_by scopes (subst_view θ) (twins scopes ts)
 all_changed scopes all (Instantiated by) ts = all_instantiated (each all by.items) ts
 
 -- to the parts at the top
 abbrev pub parts_changed : Scopes → Change → Parts → Parts
 parts_changed scopes (Put θ) p = parts_by scopes (subst_view θ) p
 parts_changed scopes Twin p = p
+parts_changed scopes (Twinned θ) p = parts_by scopes (subst_view θ) p
 parts_changed scopes (Instantiated by) p = p
 
 abbrev pub change_rows : Change → List ℕ
 change_rows (Put θ) = []
 change_rows Twin = []
+change_rows (Twinned θ) = []
 change_rows (Instantiated by) = by.items
 
 -- the variable that a type is
@@ -49,4 +53,5 @@ number_in by (Some i) = slice_get by i
 abbrev pub replaced : Change → Refined → Option ℕ
 replaced (Put θ) t = None
 replaced Twin t = None
+replaced (Twinned θ) t = None
 replaced (Instantiated by) t = number_in by.items (variable_of t)

@@ -1,19 +1,20 @@
 // What is done to a type, done at its top and left to be done inside.
-ghost use Rattle.std.specs.Prelude.{◌≡◌, ◌<◌, [], List, All, None, IfOk, map, slice_get};
+ghost use Rattle.std.specs.Prelude.{◌≡◌, ◌<◌, [], List, All, None, IfNone, IfOk, IfSome, map, slice_get};
 ghost use Rattle.lq_parts.specs.Part.{Scopes as ScopeLists, Parts as PartList};
-ghost use Rattle.lq_refined.specs.Operations.{applied, atom_of, renamed, twin, twin_binder, twin_of};
+ghost use Rattle.lq_refined.specs.Operations.{applied, atom_of, renamed, twin, twin_binder, twin_of, type_by};
 ghost use Rattle.lq_refined.specs.Refined.{Refined, function, kind, type_variable};
 ghost use Rattle.lq_refinements.specs.Changes.{changed, change_rows, parts_changed, replaced, variable_of};
+ghost use Rattle.lq_refinements.specs.declared.changes.Change.TheVariants.{Twinned};
 ghost use Rattle.lq_refinements.specs.Forms.{binder_view, form_rows, form_type, kind_view};
 ghost use Rattle.lq_refinements.specs.Whole.{count_of, refined_at, types_of, Grows, IsNode};
-ghost use Rattle.lq_substitution.specs.Views.{atom_view, scopes_view};
+ghost use Rattle.lq_substitution.specs.Views.{atom_view, scopes_view, subst_view};
 
 use crate::changes::Change;
 use crate::forms::{Form, Kind};
 use crate::table::{RefinedTypes, Row};
 use lq_name::Binder;
 use lq_pred::{Pred, Symbol, Term};
-use lq_substitution::{Atom, Scopes, Subst};
+use lq_substitution::{Atom, Scopes, Subst, after};
 use std::alloc::{AllocError, Global};
 use std::rc::Rc;
 
@@ -26,7 +27,7 @@ impl RefinedTypes {
         match self.row(at) {
             Row::Node(node) => node.form.variable(),
             Row::Delayed(change, inner) => match change.as_ref() {
-                Change::Put(_) | Change::Twin => self.variable(*inner),
+                Change::Put(_) | Change::Twin | Change::Twinned(_) => self.variable(*inner),
                 Change::Instantiated(types) => match self.variable(*inner) {
                     Some(variable) => match number_at(types, variable) {
                         Some(chosen) => self.variable(chosen),
@@ -46,7 +47,7 @@ impl RefinedTypes {
         match self.row(at) {
             Row::Node(node) => node.form.kind(),
             Row::Delayed(change, inner) => match change.as_ref() {
-                Change::Put(_) | Change::Twin => self.kind(*inner),
+                Change::Put(_) | Change::Twin | Change::Twinned(_) => self.kind(*inner),
                 Change::Instantiated(types) => match self.variable(*inner) {
                     Some(variable) => match number_at(types, variable) {
                         Some(chosen) => self.kind(chosen),
@@ -64,7 +65,7 @@ impl RefinedTypes {
         ensures { (scopes : ScopeLists) → result ≡ replaced change.now (refined_at scopes self.now at) }
     {
         match change {
-            Change::Put(_) | Change::Twin => None,
+            Change::Put(_) | Change::Twin | Change::Twinned(_) => None,
             Change::Instantiated(types) => {
                 let variable = self.variable(at)?;
                 number_at(types, variable)
@@ -189,6 +190,57 @@ impl RefinedTypes {
         Ok(Form::Function(other, argument, result))
     }
 
+    // A function's result, whose argument is of this kind and is named by the twin, and then something is put for names; the change is both.
+    fn twinned_result(
+        &mut self,
+        alloc: Global,
+        change: &Rc<Change>,
+        by: &Subst,
+        x: Option<Binder>,
+        kind: Kind,
+        at: usize,
+    ) -> Result<usize, AllocError>
+        requires there { at < count_of self.old }
+        requires change { change.now.value ≡ Twinned by.now }
+        ensures refined { IfOk result (λ n. (scopes : ScopeLists) → refined_at scopes self.new n ≡ type_by scopes (subst_view by.now)
+            (renamed scopes (binder_view x) (twin_binder (binder_view x)) (kind_view kind) (twin scopes (refined_at scopes self.old at)))) }
+        ensures there { IfOk result (λ n. n < count_of self.new) }
+        ensures grows { Grows self.old self.new }
+    {
+        match renaming(alloc, x, twin_binder(x), kind)? {
+            Some(first) => {
+                let both = after(alloc, by, &first)?;
+                self.delay(Change::Twinned(both), at)
+            }
+            None => self.share(change, at),
+        }
+    }
+
+    // A function that names its argument by the twin, and then something is put for names; the change is both.
+    fn twinned_function(
+        &mut self,
+        alloc: Global,
+        change: &Rc<Change>,
+        by: &Subst,
+        x: Option<Binder>,
+        a: usize,
+        b: usize,
+    ) -> Result<Form, AllocError>
+        requires a { a < count_of self.old }
+        requires b { b < count_of self.old }
+        requires change { change.now.value ≡ Twinned by.now }
+        ensures refined { IfOk result (λ form. (scopes : ScopeLists) (p : PartList)
+            → form_type (types_of scopes self.new) form p ≡ type_by scopes (subst_view by.now)
+            (twin scopes (function (binder_view x) (refined_at scopes self.old a) (refined_at scopes self.old b)))) }
+        ensures there { IfOk result (λ form. All (λ p. p < count_of self.new) (form_rows form)) }
+        ensures grows { Grows self.old self.new }
+    {
+        let kind = self.kind(a);
+        let argument = self.share(change, a)?;
+        let result = self.twinned_result(alloc, change, by, x, kind, b)?;
+        Ok(Form::Function(twin_binder(x), argument, result))
+    }
+
     // A form with it done to the types inside, so that its type has it done to it.
     fn changed_form(
         &mut self,
@@ -211,6 +263,7 @@ impl RefinedTypes {
             Form::Unit => Ok(Form::Unit),
             Form::Function(x, a, b) => match change.as_ref() {
                 Change::Twin => self.twin_function(alloc, x, a, b),
+                Change::Twinned(by) => self.twinned_function(alloc, change, by, x, a, b),
                 Change::Put(_) | Change::Instantiated(_) => {
                     let (a, b) = self.changed_pair(change, a, b)?;
                     Ok(Form::Function(x, a, b))
@@ -311,6 +364,30 @@ fn twin_binder(x: Option<Binder>) -> Option<Binder>
     }
 }
 
+// What is put for a name of an argument of this kind where another name takes its place; None where it stays.
+fn renaming(
+    alloc: Global,
+    old: Option<Binder>,
+    new: Option<Binder>,
+    kind: Kind,
+) -> Result<Option<Subst>, AllocError>
+    ensures none { IfOk result (λ found. IfNone found ((scopes : ScopeLists) (t : Refined)
+        → renamed scopes (binder_view old) (binder_view new) (kind_view kind) t ≡ t)) }
+    ensures some { IfOk result (λ found. IfSome found (λ by. (scopes : ScopeLists) (t : Refined)
+        → renamed scopes (binder_view old) (binder_view new) (kind_view kind) t ≡ type_by scopes (subst_view by) t)) }
+{
+    match (old, new) {
+        (Some(x), Some(z)) => {
+            if x.0 == z.0 {
+                return Ok(None);
+            }
+            let by = Subst::single(alloc, Symbol::Bound(x), atom_of(kind, Symbol::Bound(z)))?;
+            Ok(Some(by))
+        }
+        _ => Ok(None),
+    }
+}
+
 // A variable for which no type is put.
 fn changed_variable(change: &Change, variable: u64) -> Form
     requires { replaced change.now (type_variable variable) ≡ None }
@@ -319,7 +396,7 @@ fn changed_variable(change: &Change, variable: u64) -> Form
     ensures rows { form_rows result ≡ [] }
 {
     match change {
-        Change::Put(_) | Change::Twin => Form::Variable(variable),
+        Change::Put(_) | Change::Twin | Change::Twinned(_) => Form::Variable(variable),
         Change::Instantiated(_) => Form::Unit,
     }
 }

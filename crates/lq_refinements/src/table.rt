@@ -89,7 +89,8 @@ impl RefinedTypes {
         self.share(&shared, at)
     }
 
-    // The same of something that is done to several types.
+    // The same of something that is done to several types. What was left to be done to a type before is put together with it where the two
+    // are one change, so that a type which is changed again and again stands as one change of one type.
     pub(crate) fn share(&mut self, change: &Rc<Change>, at: usize) -> Result<usize, AllocError>
         requires there { at < count_of self.old }
         requires types { All (λ p. p < count_of self.old) (change_rows change.now.value) }
@@ -98,6 +99,15 @@ impl RefinedTypes {
         ensures there { IfOk result (λ n. n < count_of self.new) }
         ensures grows { Grows self.old self.new }
     {
+        if let Some(delay) = self.delayed(at)? {
+            if change.adds_nothing(delay.change.as_ref()) {
+                return Ok(at);
+            }
+            if let Some(both) = change.behind(*self.rows.allocator(), delay.change.as_ref())? {
+                let both = Rc::new(*self.rows.allocator(), both)?;
+                return self.add(Row::Delayed(both, delay.at));
+            }
+        }
         let change = change.clone()?;
         self.add(Row::Delayed(change, at))
     }

@@ -1,5 +1,3 @@
-use Rattle.std.proofs.Common.{◌≡◌, ap, ◌∙◌}
-use Rattle.std.proofs.lemmas.List.{length-take}
 use Rattle.lq_refinements.proofs.Entries.{earlier-take, extends-take}
 use Rattle.lq_refinements.proofs.table.RefinedTypes.truncate.Goals as goal
 
