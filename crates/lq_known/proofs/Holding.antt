@@ -1,6 +1,6 @@
 -- Facts that hold, more facts behind them, and facts that clash.
 use Rattle.std.proofs.Common.{◌≡◌, ◌∙◌, ◌≤◌, ℕ, zero, suc, arith, length, length-append, take, List, [], ◌∷◌, ◌++◌, Option, Some, slice_get, IsTrue, refl, sym, ap, subst, append_assoc}
-use Rattle.std.proofs.lemmas.List.{append-nil}
+use Rattle.std.proofs.lemmas.List.{append-nil, take-append-le, take-take}
 use Rattle.lq_combine.specs.Met.{AllHold, EachAgree, FactHolds, MeetsPath}
 use Rattle.lq_combine.specs.Path.{Fact, Path}
 use Rattle.lq_combine.specs.Proves.{Clashes, Numbering, Proves, by_clash}
@@ -11,6 +11,8 @@ use Rattle.lq_pred.specs.RowMeaning.{AgreesOn}
 use Rattle.lq_pred.specs.Sum.{Sum}
 use Rattle.lq_pred.specs.Table.{Extends, all_differ}
 use Rattle.lq_known.specs.Facts.{Grows}
+use Rattle.lq_known.specs.Known.{Keeps}
+use Rattle.lq_known.specs.declared.known.Known.{Known}
 
 pub hold_more : (v : Valuation) (p : Point) (old new : List Fact) (f : Fact) → new ≡ old ++ f ∷ [] → AllHold v p old → FactHolds v p f → AllHold v p new
 hold_more v p old new f e h k = subst (AllHold v p) (sym e) (along old h)
@@ -59,3 +61,26 @@ grows_take a b n g e = ap (λ m. take m b) e ∙ ap (take (length a)) g.is ∙ f
     front : (xs ys : List Fact) → take (length xs) (xs ++ ys) ≡ xs
     front [] ys = refl
     front (x ∷ xs) ys = ap (λ l. x ∷ l) (front xs ys)
+
+-- ---- the first ones of facts
+
+pub first_more : (v : Valuation) (p : Point) (old new : List Fact) (n : ℕ) → Grows old new → n ≤ length old → AllHold v p (take n old) → AllHold v p (take n new)
+first_more v p old new n g w h = subst (AllHold v p) (sym (ap (take n) g.is ∙ take-append-le n old g.more w)) h
+
+pub first_same : (v : Valuation) (p : Point) (old new : List Fact) (n : ℕ) → new ≡ old → AllHold v p (take n old) → AllHold v p (take n new)
+first_same v p old new n e h = subst (λ l. AllHold v p (take n l)) (sym e) h
+
+pub first_fewer : (v : Valuation) (p : Point) (old new : List Fact) (n m : ℕ) → new ≡ take m old → n ≤ m → AllHold v p (take n old) → AllHold v p (take n new)
+first_fewer v p old new n m e w h = subst (AllHold v p) (sym (ap (take n) e ∙ take-take n m old w)) h
+
+pub count_same : (old new : List Fact) → new ≡ old → length old ≤ length new
+count_same old new e = let f = ap length e in omega (arith, f)
+
+pub keeps_self : (k : Known) → Keeps k k
+keeps_self k = record { count = omega arith; first = λ n p w h. h }
+
+pub keeps_then : (a b c : Known) → Keeps a b → Keeps b c → Keeps a c
+keeps_then a b c g h = record {
+  count = let m = g.count in let n = h.count in omega (arith, m, n);
+  first = λ n p w k. h.first n p (let m = g.count in omega (arith, w, m)) (g.first n p w k);
+}

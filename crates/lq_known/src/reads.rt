@@ -53,8 +53,8 @@ fn take_all(state: &mut PathState, room: u64, readings: &Nnfs) -> bool
     false
 }
 
-/// Takes the literals of a reading. The answer is whether the facts are known to clash then.
-fn take_and_check(state: &mut PathState, room: u64, reading: &Nnf) -> bool
+/// Takes the literals of a reading. The answer is whether the facts are known to clash then; a check is made only where it is asked for.
+fn take_and_check(state: &mut PathState, room: u64, checks: bool, reading: &Nnf) -> bool
     requires { terms_of state.old.rows ≡ room }
     ensures refuted { IsTrue result → (v : Valuation) (p : Point) → AllHold v p (facts_of state.old)
         → MeetsRows v p (nnf_view reading.now) → ⊥ }
@@ -64,11 +64,14 @@ fn take_and_check(state: &mut PathState, room: u64, reading: &Nnf) -> bool
     if take(state, room, reading) {
         return true;
     }
-    clashes(state)
+    if checks {
+        return clashes(state);
+    }
+    false
 }
 
 /// Whether the facts are known to clash with the literals of a reading. They are then as before.
-fn clashes_with(state: &mut PathState, room: u64, reading: &Nnf) -> bool
+fn clashes_with(state: &mut PathState, room: u64, checks: bool, reading: &Nnf) -> bool
     requires { terms_of state.old.rows ≡ room }
     ensures refuted { IsTrue result → (v : Valuation) (p : Point) → AllHold v p (facts_of state.old)
         → MeetsRows v p (nnf_view reading.now) → ⊥ }
@@ -76,7 +79,7 @@ fn clashes_with(state: &mut PathState, room: u64, reading: &Nnf) -> bool
     ensures limits { terms_of state.new.rows ≡ terms_of state.old.rows }
 {
     let before = state.mark();
-    let found = take_and_check(state, room, reading);
+    let found = take_and_check(state, room, checks, reading);
     let _after = state.mark();
     state.back_to(Mark(before.0));
     found
@@ -84,7 +87,7 @@ fn clashes_with(state: &mut PathState, room: u64, reading: &Nnf) -> bool
 
 /// Whether a reading is known to be met nowhere where the facts hold. They are then as before.
 #[cycle(refutes)]
-pub(crate) fn refutes(state: &mut PathState, room: u64, reading: &Nnf) -> bool
+pub(crate) fn refutes(state: &mut PathState, room: u64, checks: bool, reading: &Nnf) -> bool
     requires { terms_of state.old.rows ≡ room }
     ensures refuted { IsTrue result → (v : Valuation) (p : Point) → AllHold v p (facts_of state.old)
         → MeetsRows v p (nnf_view reading.now) → ⊥ }
@@ -92,16 +95,16 @@ pub(crate) fn refutes(state: &mut PathState, room: u64, reading: &Nnf) -> bool
     ensures limits { terms_of state.new.rows ≡ terms_of state.old.rows }
 {
     match reading {
-        Nnf::Any(members) => refutes_each(state, room, members),
+        Nnf::Any(members) => refutes_each(state, room, checks, members),
         Nnf::Yes | Nnf::No | Nnf::Row(_) | Nnf::Flag(_, _) | Nnf::Same(_, _, _) | Nnf::All(_) => {
-            clashes_with(state, room, reading)
+            clashes_with(state, room, checks, reading)
         }
     }
 }
 
 /// Whether none of some readings is known to be met anywhere where the facts hold. They are then as before.
 #[cycle(refutes)]
-fn refutes_each(state: &mut PathState, room: u64, readings: &Nnfs) -> bool
+fn refutes_each(state: &mut PathState, room: u64, checks: bool, readings: &Nnfs) -> bool
     requires { terms_of state.old.rows ≡ room }
     ensures refuted { IsTrue result → (v : Valuation) (p : Point) → AllHold v p (facts_of state.old)
         → MeetsAnyRow v p (nnfs_view readings.now) → ⊥ }
@@ -109,7 +112,7 @@ fn refutes_each(state: &mut PathState, room: u64, readings: &Nnfs) -> bool
     ensures limits { terms_of state.new.rows ≡ terms_of state.old.rows }
 {
     for reading in readings.as_slice() {
-        if !refutes(state, room, reading) {
+        if !refutes(state, room, checks, reading) {
             return false;
         }
     }

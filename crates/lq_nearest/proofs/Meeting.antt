@@ -12,9 +12,9 @@ use Rattle.lq_pred.specs.ClosedImplication.{MeetsEach}
 use Rattle.lq_pred.specs.Formula.{Formula}
 use Rattle.lq_pred.specs.Points.{Meets, Point}
 use Rattle.lq_pred.specs.Reading.{reading_of}
-use Rattle.lq_implications.specs.Views.{implication_view}
+use Rattle.lq_implications.specs.Views.{environment_in, implication_view}
 use Rattle.lq_implications.specs.declared.implication.Implication as code
-use Rattle.lq_substitution.specs.Views.{part_view}
+use Rattle.lq_substitution.specs.Views.{part_view, parts_view}
 use Rattle.lq_subtype.specs.Implication as Implication
 use Rattle.lq_subtype.specs.Implication.{constraint_of}
 use Rattle.lq_weakening.specs.Judging.{HoldsThere, Instances}
@@ -47,7 +47,7 @@ pub each_right : (p : Point) (xs ys : List Formula) → MeetsEach p (xs ++ ys) �
 each_right p [] ys h = h
 each_right p (x ∷ xs) ys h = each_right p xs ys h.1
 
-each_join : (p : Point) (xs ys : List Formula) → MeetsEach p xs → MeetsEach p ys → MeetsEach p (xs ++ ys)
+pub each_join : (p : Point) (xs ys : List Formula) → MeetsEach p xs → MeetsEach p ys → MeetsEach p (xs ++ ys)
 each_join p [] ys h k = k
 each_join p (x ∷ xs) ys h k = (h.0, each_join p xs ys h.1 k)
 
@@ -143,3 +143,12 @@ follows_there I c es is at item hs e h f k g = λ p is_point meets against.
     let made : constraint_of view ≡ k = some_is (constraint_of view) k (sym (get_map constraint_of (map (implication_view es) is) at view here) ∙ g) in
     f p (subst (λ l. MeetsEach p (parts_under (assigned I c) l)) (sym (same ∙ ap (λ (x : Constraint). x.hypotheses) made)) meets)
     (subst (λ q. Meets p (reading_of false (goal_under (assigned I c) q))) (sym (ap (λ (x : Constraint). x.goal) made)) against)
+
+-- of the code's implication at the number
+pub follows_here : (I : Instances) (c : Selection) (es : List Parts) (is : List code.Implication) (at : ℕ) (item : code.Implication) → Some item ≡ slice_get is at
+    → ((p : Point) → MeetsEach p (parts_under (assigned I c) (environment_in es item.env ++ parts_view item.left)) → Meets p (reading_of false (goal_under (assigned I c) (part_view item.goal))) → ⊥)
+    → HoldsThere I (map constraint_of (map (implication_view es) is)) c at
+follows_here I c es is at item e f = follows_there I c es is at item hs e (subst (λ o. MatchOption o (hs ≡ []) (λ i. hs ≡ i.hypotheses ++ i.left)) (sym (get_map (implication_view es) is at item (sym e))) refl) f
+  where
+    hs : Parts
+    hs = environment_in es item.env ++ parts_view item.left

@@ -2,7 +2,7 @@
 ghost use Rattle.std.specs.Prelude.{◌≡◌, IfOk, IsTrue, OnOk, map, true};
 ghost use Rattle.lq_implications.specs.Views.{hypotheses_left};
 ghost use Rattle.lq_instances.specs.Views.{list_view};
-ghost use Rattle.lq_known.specs.Known.{Hold};
+ghost use Rattle.lq_known.specs.Known.{Hold, Keeps};
 ghost use Rattle.lq_parts.specs.Assignment.{part_under, parts_under};
 ghost use Rattle.lq_parts.specs.Flowing.{picked};
 ghost use Rattle.lq_parts.specs.Substitution.{formula_by};
@@ -30,9 +30,10 @@ fn add_instance(
     is_chosen: bool,
     by: &Subst,
 ) -> Result<(), AllocError>
-    ensures { OnOk result ((p : Point) → Hold known.old p
+    ensures held { OnOk result ((p : Point) → Hold known.old p
         → (is_chosen ≡ true → Meets p (reading_of true (formula_by (subst_view by.now) (formula_of instance.now))))
         → Hold known.new p) }
+    ensures keeps { Keeps known.old known.new }
 {
     if is_chosen {
         let made = substitute(alloc, instance, by)?;
@@ -50,8 +51,9 @@ fn add_list(
     list: &InstanceList,
     chosen: &Chosen,
 ) -> Result<(), AllocError>
-    ensures { OnOk result ((p : Point) → Hold known.old p → MeetsEach p (map (formula_by (subst_view by.now))
+    ensures held { OnOk result ((p : Point) → Hold known.old p → MeetsEach p (map (formula_by (subst_view by.now))
         (picked (chosen_in chosen.now unknown) 0 (list_view list.now))) → Hold known.new p) }
+    ensures keeps { Keeps known.old known.new }
 {
     for at in 0..list.len() {
         let Some(instance) = list.get(at) else {
@@ -63,15 +65,16 @@ fn add_list(
 }
 
 /// Adds what is known of a part as a hypothesis.
-fn add_part(
+pub fn add_part(
     alloc: Global,
     known: &mut Known,
     part: &Part,
     instances: &Instances,
     chosen: &Chosen,
 ) -> Result<(), AllocError>
-    ensures { OnOk result ((p : Point) → Hold known.old p
+    ensures held { OnOk result ((p : Point) → Hold known.old p
         → MeetsEach p (part_under (assignment_of instances.now chosen.now) (part_view part.now)) → Hold known.new p) }
+    ensures keeps { Keeps known.old known.new }
 {
     match part {
         Part::Known(pred) => {

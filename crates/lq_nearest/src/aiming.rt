@@ -1,7 +1,7 @@
 // Whether what is known proves a goal.
 ghost use Rattle.std.specs.Prelude.{◌≡◌, IfOk, IsTrue, false, map, true};
 ghost use Rattle.lq_instances.specs.Views.{list_view};
-ghost use Rattle.lq_known.specs.Known.{Hold};
+ghost use Rattle.lq_known.specs.Known.{Hold, Keeps};
 ghost use Rattle.lq_parts.specs.Assignment.{all_joined, goal_under};
 ghost use Rattle.lq_parts.specs.Flowing.{picked};
 ghost use Rattle.lq_parts.specs.Substitution.{formula_by};
@@ -30,6 +30,7 @@ fn proves_instance(
     ensures proved { IfOk result (λ b. IsTrue b → (p : Point) → Hold known.old p → is_chosen ≡ true
         → Meets p (reading_of false (formula_by (subst_view by.now) (formula_of instance.now))) → ⊥) }
     ensures kept { (p : Point) → Hold known.old p → Hold known.new p }
+    ensures keeps { Keeps known.old known.new }
 {
     if is_chosen {
         let made = substitute(alloc, instance, by)?;
@@ -51,6 +52,7 @@ fn proves_list(
         → Meets p (reading_of false (all_joined (map (formula_by (subst_view by.now))
         (picked (chosen_in chosen.now unknown) 0 (list_view list.now))))) → ⊥) }
     ensures kept { (p : Point) → Hold known.old p → Hold known.new p }
+    ensures keeps { Keeps known.old known.new }
 {
     for at in 0..list.len() {
         let Some(instance) = list.get(at) else {
@@ -66,7 +68,7 @@ fn proves_list(
 }
 
 /// Whether a part as a goal is proved.
-pub(crate) fn proves_part(
+pub fn proves_part(
     alloc: Global,
     known: &mut Known,
     part: &Part,
@@ -76,6 +78,7 @@ pub(crate) fn proves_part(
     ensures proved { IfOk result (λ b. IsTrue b → (p : Point) → Hold known.old p
         → Meets p (reading_of false (goal_under (assignment_of instances.now chosen.now) (part_view part.now))) → ⊥) }
     ensures kept { (p : Point) → Hold known.old p → Hold known.new p }
+    ensures keeps { Keeps known.old known.new }
 {
     match part {
         Part::Known(pred) => Ok(known.proves(pred)),

@@ -1,7 +1,10 @@
 // The prover as who says which implications are valid.
 ghost use Rattle.std.specs.Prelude.{◌≡◌, ◌<◌, length, slice_get, IfOk, IfErr, IfSome, IsTrue};
+ghost use Rattle.lq_implications.specs.Views.{environment_lists};
+ghost use Rattle.lq_kept.specs.Kept.{IsKeptFor};
 ghost use Rattle.lq_literals.specs.Gathered.{CanBeGathered};
 ghost use Rattle.lq_parts.specs.Assignment.{goal_under};
+ghost use Rattle.lq_parts.specs.Flowing.{assigned};
 ghost use Rattle.lq_point.specs.Values.{as_point};
 ghost use Rattle.lq_pred.specs.PredView.{implication_of};
 ghost use Rattle.lq_prove.specs.Answers.{IsCounterexample, IsReadable};
@@ -15,6 +18,7 @@ use crate::laws::some_instances_gather;
 use crate::refuting::refuted;
 use lq_implications::Implications;
 use lq_instances::Instances;
+use lq_kept::Kept;
 use lq_literals::sources_have_the_literals;
 use lq_nearest::follows;
 use lq_point::Point;
@@ -56,13 +60,14 @@ fn refuted_of(
     }
 }
 
-/// Implications with the instances of their unknowns and a limit on pivots.
+/// Implications with the instances of their unknowns, a limit on pivots, and the facts of the last environment that was asked about.
 #[derive(Drop)]
 pub(crate) struct Questions<'a> {
     pub(crate) alloc: Global,
     pub(crate) implications: &'a Implications,
     pub(crate) instances: &'a Instances,
     pub(crate) limit: u64,
+    pub(crate) kept: Kept,
 }
 
 impl Questions<'_> {
@@ -167,6 +172,26 @@ impl Questions<'_> {
     }
 }
 
+/// Whether an implication is known to follow from the facts of its environment, which are kept.
+fn follows_by_kept(
+    kept: &mut Kept,
+    implications: &Implications,
+    at: u64,
+    instances: &Instances,
+    chosen: &Chosen,
+) -> bool
+    requires there { at < length (constraints_of implications.now) }
+    requires kept { IsKeptFor (assignment_of instances.now chosen.now) (environment_lists implications.now) kept.old }
+    ensures holds { IsTrue result → HoldsThere (instances_in instances.now) (constraints_of implications.now)
+        (chosen_in chosen.now) at }
+    ensures kept { IsKeptFor (assignment_of instances.now chosen.now) (environment_lists implications.now) kept.new }
+{
+    match kept.follows(implications, at, instances, chosen) {
+        Ok(found) => found,
+        Err(AllocError) => false,
+    }
+}
+
 impl Judge for Questions<'_> {
     ghost instances = { λ q. instances_in q.instances.now };
 
@@ -174,7 +199,22 @@ impl Judge for Questions<'_> {
 
     ghost may_stop = { λ q. MayStop q.limit (instances_in q.instances.now) (constraints_of q.implications.now) };
 
+    ghost keeps = { λ q chosen. IsKeptFor (assigned (instances_in q.instances.now) chosen) (environment_lists q.implications.now) q.kept };
+
     fn ask(&mut self, at: u64, chosen: &Chosen) -> Result<Asked, Stop> {
+        if follows_by_kept(
+            &mut self.kept,
+            self.implications,
+            at,
+            self.instances,
+            chosen,
+        ) {
+            return Ok(Asked::Holds);
+        }
         self.judged(at, chosen)
+    }
+
+    fn forget(&mut self) {
+        self.kept.forget();
     }
 }

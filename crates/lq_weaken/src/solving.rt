@@ -13,6 +13,7 @@ use crate::gathering::first_ungathered;
 use crate::unknowns::unknown_count;
 use lq_implications::Implications;
 use lq_instances::Instances;
+use lq_kept::Kept;
 use lq_pred::Stop;
 use lq_questions::{goal_unknowns, unknown_spans};
 use lq_weakening::{SolveError, Solved};
@@ -63,11 +64,15 @@ fn solve_gathered(
     let Ok(counts) = instance_counts(alloc, instances) else {
         return Err(SolveError::Memory);
     };
+    let Ok(kept) = Kept::new(alloc, implications) else {
+        return Err(SolveError::Memory);
+    };
     let mut questions = Questions {
         alloc,
         implications,
         instances,
         limit,
+        kept,
     };
     match lq_weakening::solve(alloc, &mut questions, &goals, &spans, &counts) {
         Ok(solved) => Ok(solved),

@@ -1,5 +1,5 @@
 // Who says which implications are valid.
-ghost use Rattle.std.specs.Prelude.{◌≡◌, ◌<◌, ℕ, List, length, IfOk, IfErr};
+ghost use Rattle.std.specs.Prelude.{◌≡◌, ◌<◌, ℕ, Bool, List, length, IfOk, IfErr};
 ghost use Rattle.lq_parts.specs.Constraint.{Constraint};
 ghost use Rattle.lq_pred.specs.Formula.{Formula};
 ghost use Rattle.lq_pred.specs.declared.pred.Stop.{Stop};
@@ -35,14 +35,26 @@ pub trait Judge {
     // with which stops an implication may be left undecided
     ghost may_stop: { Self → ℕ → Stop → Type 0 };
 
-    /// Whether an implication is valid under the chosen instances.
+    // that what is kept between questions is right where these instances are chosen
+    ghost keeps: { Self → (ℕ → ℕ → Bool) → Type 0 };
+
+    /// Whether an implication is valid under the chosen instances, for which what is kept is right.
     fn ask(&mut self, at: u64, chosen: &Chosen) -> Result<Asked, Stop>
-        requires { at < length (constraints self.old) }
+        requires there { at < length (constraints self.old) }
+        requires kept { keeps self.old (chosen_in chosen.now) }
         ensures holds { IfOk result (λ asked. IfHolds asked (HoldsThere (instances self.old)
             (constraints self.old) (chosen_in chosen.now) at)) }
         ensures fails { IfOk result (λ asked. IfFails asked (FailsThere (instances self.old)
             (constraints self.old) (chosen_in chosen.now) at)) }
         ensures stop { IfErr result (may_stop self.old at) }
+        ensures kept { keeps self.new (chosen_in chosen.now) }
+        ensures instances { instances self.new ≡ instances self.old }
+        ensures constraints { constraints self.new ≡ constraints self.old }
+        ensures stops { (i : ℕ) (stop : Stop) → may_stop self.new i stop → may_stop self.old i stop };
+
+    /// Forgets what is right for some chosen instances only.
+    fn forget(&mut self)
+        ensures forgotten { (chosen : ℕ → ℕ → Bool) → keeps self.new chosen }
         ensures instances { instances self.new ≡ instances self.old }
         ensures constraints { constraints self.new ≡ constraints self.old }
         ensures stops { (i : ℕ) (stop : Stop) → may_stop self.new i stop → may_stop self.old i stop };

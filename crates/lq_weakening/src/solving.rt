@@ -1,5 +1,5 @@
 // The strongest solution.
-ghost use Rattle.std.specs.Prelude.{◌≡◌, ◌<◌, ℕ, [], IfErr, IfOk, IfNone, IfSome, OnOk, length};
+ghost use Rattle.std.specs.Prelude.{◌≡◌, ◌<◌, ℕ, Bool, [], IfErr, IfOk, IfNone, IfSome, OnOk, length};
 ghost use Rattle.lq_pred.specs.declared.pred.Stop.{Stop};
 ghost use Rattle.lq_weakening.specs.Chosen.{chosen_in};
 ghost use Rattle.lq_weakening.specs.Index.{AreCovered, AreGoals};
@@ -53,8 +53,10 @@ fn weaken_all<J: Judge>(
     requires goals { AreGoals (J.constraints judge.old) goals.now }
     requires covered { AreCovered (J.constraints judge.old) spans.now }
     requires all { Wakes goals.now (λ _. Unit {0}) [] waiting.old.keys }
+    requires kept { J.keeps judge.old (chosen_in chosen.old) }
     ensures weakened { OnOk result (IsWeakening (J.instances judge.old) (J.constraints judge.old) (chosen_in chosen.old)
         waiting.old.keys → IsWeakening (J.instances judge.old) (J.constraints judge.old) (chosen_in chosen.new) []) }
+    ensures kept { OnOk result (J.keeps judge.new (chosen_in chosen.new)) }
     ensures stop { IfErr result (StopsAt (J.may_stop judge.old)) }
     ensures instances { J.instances judge.new ≡ J.instances judge.old }
     ensures constraints { J.constraints judge.new ≡ J.constraints judge.old }
@@ -77,10 +79,12 @@ fn failing_point<J: Judge>(
 ) -> Result<Option<Point>, SolveError>
     requires goals { AreGoals (J.constraints judge.old) goals.now }
     requires at { at < length goals.now }
+    requires kept { J.keeps judge.old (chosen_in chosen.now) }
     ensures none { IfOk result (λ found. IfNone found (DemandMet (J.instances judge.old) (J.constraints judge.old)
         (chosen_in chosen.now) at)) }
     ensures some { IfOk result (λ found. IfSome found (DemandFails (J.instances judge.old) (J.constraints judge.old)
         (chosen_in chosen.now) at)) }
+    ensures kept { J.keeps judge.new (chosen_in chosen.now) }
     ensures stop { IfErr result (StopsAt (J.may_stop judge.old)) }
     ensures instances { J.instances judge.new ≡ J.instances judge.old }
     ensures constraints { J.constraints judge.new ≡ J.constraints judge.old }
@@ -102,7 +106,8 @@ fn first_failing<J: Judge>(
     goals: &[Option<u64>],
     chosen: &Chosen,
 ) -> Result<Option<(u64, Point)>, SolveError>
-    requires { AreGoals (J.constraints judge.old) goals.now }
+    requires goals { AreGoals (J.constraints judge.old) goals.now }
+    requires kept { J.keeps judge.old (chosen_in chosen.now) }
     ensures none { IfOk result (λ found. IfNone found (DemandsMet (J.instances judge.old) (J.constraints judge.old)
         (chosen_in chosen.now))) }
     ensures some { IfOk result (λ found. IfSome found (λ f. IsFailingDemand (J.instances judge.old)
@@ -120,6 +125,38 @@ fn first_failing<J: Judge>(
         }
     }
     Ok(None)
+}
+
+/// The strongest solution, of a judge that keeps nothing.
+fn solve_from_nothing<J: Judge>(
+    alloc: Global,
+    judge: &mut J,
+    goals: &[Option<u64>],
+    spans: &[Vec<Span>],
+    counts: &[u64],
+) -> Result<Solved, SolveError>
+    requires goals { AreGoals (J.constraints judge.old) goals.now }
+    requires covered { AreCovered (J.constraints judge.old) spans.now }
+    requires counts { AreCounts (J.instances judge.old) counts.now }
+    requires kept { (chosen : ℕ → ℕ → Bool) → J.keeps judge.old chosen }
+    ensures solved { IfOk result (IsSolved (J.instances judge.old) (J.constraints judge.old)) }
+    ensures stop { IfErr result (StopsAt (J.may_stop judge.old)) }
+    ensures instances { J.instances judge.new ≡ J.instances judge.old }
+    ensures constraints { J.constraints judge.new ≡ J.constraints judge.old }
+    ensures stops { (i : ℕ) (stop : Stop) → J.may_stop judge.new i stop → J.may_stop judge.old i stop }
+{
+    unions_of_selections();
+    let Ok(mut chosen) = Chosen::all(alloc, counts) else {
+        return Err(SolveError::Memory);
+    };
+    let Ok(mut waiting) = all_flows(alloc, goals) else {
+        return Err(SolveError::Memory);
+    };
+    weaken_all(judge, goals, spans, &mut waiting, &mut chosen)?;
+    match first_failing(judge, goals, &chosen)? {
+        Some((at, point)) => Ok(Solved::NoSolution(chosen, at, point)),
+        None => Ok(Solved::Strongest(chosen)),
+    }
 }
 
 /// The strongest solution of implications, each flow with the unknown of its goal and for each unknown between which implications those
@@ -145,18 +182,8 @@ pub fn solve<J: Judge>(
     ensures constraints { J.constraints judge.new ≡ J.constraints judge.old }
     ensures stops { (i : ℕ) (stop : Stop) → J.may_stop judge.new i stop → J.may_stop judge.old i stop }
 {
-    unions_of_selections();
-    let Ok(mut chosen) = Chosen::all(alloc, counts) else {
-        return Err(SolveError::Memory);
-    };
-    let Ok(mut waiting) = all_flows(alloc, goals) else {
-        return Err(SolveError::Memory);
-    };
-    weaken_all(judge, goals, spans, &mut waiting, &mut chosen)?;
-    match first_failing(judge, goals, &chosen)? {
-        Some((at, point)) => Ok(Solved::NoSolution(chosen, at, point)),
-        None => Ok(Solved::Strongest(chosen)),
-    }
+    judge.forget();
+    solve_from_nothing(alloc, judge, goals, spans, counts)
 }
 
 #[cfg(test)]
@@ -182,9 +209,13 @@ mod tests {
 
         ghost may_stop = { λ _ at stop. Unit {0} };
 
+        ghost keeps = { λ _ chosen. Unit {0} };
+
         fn ask(&mut self, _at: u64, _chosen: &Chosen) -> Result<Asked, Stop> {
             Err(Stop::Memory)
         }
+
+        fn forget(&mut self) {}
     }
 
     #[test]

@@ -80,7 +80,7 @@ fn weaken(
     Ok(())
 }
 
-/// Asks a flow. Where it fails, fewer instances are chosen; else nothing changes.
+/// Asks a flow. Where it fails, fewer instances are chosen, and the judge forgets what it kept; else nothing changes.
 pub(crate) fn step<J: Judge>(
     judge: &mut J,
     goals: &[Option<u64>],
@@ -92,6 +92,7 @@ pub(crate) fn step<J: Judge>(
     requires goals { AreGoals (J.constraints judge.old) goals.now }
     requires covered { AreCovered (J.constraints judge.old) spans.now }
     requires flow { IsFlowAt goals.now at }
+    requires kept { J.keeps judge.old (chosen_in chosen.old) }
     ensures weakening { OnOk result (IsWeakening (J.instances judge.old) (J.constraints judge.old) (chosen_in chosen.old)
         (at ∷ waiting.old.keys) → IsWeakening (J.instances judge.old) (J.constraints judge.old) (chosen_in chosen.new)
         waiting.new.keys) }
@@ -99,6 +100,7 @@ pub(crate) fn step<J: Judge>(
         ⊎ ((total chosen.new ≡ total chosen.old) × (waiting.new.keys ≡ waiting.old.keys))) }
     ensures flows { OnOk result (All (IsFlowAt goals.now) waiting.old.keys → All (IsFlowAt goals.now) waiting.new.keys) }
     ensures sorted { OnOk result (IsStrictlySortedBy nat_cmp waiting.old.keys → IsStrictlySortedBy nat_cmp waiting.new.keys) }
+    ensures kept { OnOk result (J.keeps judge.new (chosen_in chosen.new)) }
     ensures stop { IfErr result (StopsAt (J.may_stop judge.old)) }
     ensures instances { J.instances judge.new ≡ J.instances judge.old }
     ensures constraints { J.constraints judge.new ≡ J.constraints judge.old }
@@ -107,7 +109,10 @@ pub(crate) fn step<J: Judge>(
     match judge.ask(at, chosen) {
         Ok(Asked::Holds) => Ok(()),
         Ok(Asked::Fails(failure)) => match weaken(goals, spans, at, &failure, chosen, waiting) {
-            Ok(()) => Ok(()),
+            Ok(()) => {
+                judge.forget();
+                Ok(())
+            }
             Err(AllocError) => Err(SolveError::Memory),
         },
         Err(stop) => Err(stopped(at, stop)),

@@ -16,4 +16,4 @@ loop-preserved c =
     let before = c.loop.invariant in
     let split : (p : Point) → MeetsEach p (parts_under A (hypotheses_left c.args.left.now)) → MeetsEach p (parts_under A (hypotheses_left c.take_last.new.self)) × MeetsEach p (part_under A (part_view c.in-Some.part.now))
     = λ p m. last_split A p (hypotheses_left c.loop.left) (hypotheses_left c.take_last.new.self) (part_view c.in-Some.part.now) c.in-Some.ensures (before.less p m) in
-    record { holds = λ p h m. c.in_ok-add_part.ensures p (before.holds p h m) (split p m).1; less = λ p m. (split p m).0 }
+    record { holds = λ p h m. c.in_ok-add_part.ensures.held p (before.holds p h m) (split p m).1; less = λ p m. (split p m).0 }

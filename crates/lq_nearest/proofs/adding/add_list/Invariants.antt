@@ -1,7 +1,7 @@
 -- What is known holds where the chosen instances are met.
 use Rattle.std.proofs.Common.{map}
 use Rattle.lq_instances.specs.Views.{list_view}
-use Rattle.lq_known.specs.Known.{Hold}
+use Rattle.lq_known.specs.Known.{Hold, Keeps}
 use Rattle.lq_parts.specs.Flowing.{picked}
 use Rattle.lq_parts.specs.Substitution.{formula_by}
 use Rattle.lq_pred.specs.ClosedImplication.{MeetsEach}
@@ -11,5 +11,7 @@ use Rattle.lq_weakening.specs.Chosen.{chosen_in}
 use Rattle.lq_nearest.proofs.adding.add_list.Given as goal
 
 abbrev pub invariant-loop-at : goal.invariant-loop-at
-invariant-loop-at l =
-    (p : Point) → Hold l.fn.known p → MeetsEach p (map (formula_by (subst_view l.by)) (picked (chosen_in l.chosen l.unknown) 0 (list_view l.list))) → Hold l.known p
+invariant-loop-at l = record {
+  held : (p : Point) → Hold l.fn.known p → MeetsEach p (map (formula_by (subst_view l.by)) (picked (chosen_in l.chosen l.unknown) 0 (list_view l.list))) → Hold l.known p;
+  keeps : Keeps l.fn.known l.known;
+}

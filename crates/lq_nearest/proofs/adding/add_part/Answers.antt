@@ -13,12 +13,12 @@ use Rattle.lq_weakening.specs.Chosen.{chosen_in}
 use Rattle.lq_nearest.proofs.Meeting.{listed}
 use Rattle.lq_nearest.proofs.adding.add_part.Goals as goal
 
-pub returns-in-Known : goal.returns-in-Known
-returns-in-Known c = λ p h m.
-    c.add.ensures p h (subst (λ (q : code.Part). MeetsEach p (part_under (assignment_of c.args.instances.now c.args.chosen.now) (part_view q))) c.in-Known.is m).0
+pub returns-in-Known-clause-held : goal.returns-in-Known-clause-held
+returns-in-Known-clause-held c = λ p h m.
+    c.add.ensures.held p h (subst (λ (q : code.Part). MeetsEach p (part_under (assignment_of c.args.instances.now c.args.chosen.now) (part_view q))) c.in-Known.is m).0
 
-pub returns-in-Some : goal.returns-in-Some
-returns-in-Some c =
+pub returns-in-Some-clause-held : goal.returns-in-Some-clause-held
+returns-in-Some-clause-held c =
     let f = formula_by (subst_view c.in-Unknown.by) in
     let chosen = chosen_in c.args.chosen.now c.in-Unknown.unknown in
     let all = instances_view c.args.instances.now in
@@ -26,4 +26,4 @@ returns-in-Some c =
     subst (λ (q : code.Part). OnOk c.add_list.result ((p : Point) → Hold c.args.known.now p
     → MeetsEach p (part_under (assignment_of c.args.instances.now c.args.chosen.now) (part_view q)) → Hold c.add_list.new.known p)) (sym c.in-Unknown.is)
     (subst (λ x. OnOk c.add_list.result ((p : Point) → Hold c.args.known.now p → MeetsEach p (map f (picked chosen 0 x)) → Hold c.add_list.new.known p))
-    (sym (listed all c.in-Unknown.unknown l c.in-Some.ensures)) c.add_list.ensures)
+    (sym (listed all c.in-Unknown.unknown l c.in-Some.ensures)) c.add_list.ensures.held)

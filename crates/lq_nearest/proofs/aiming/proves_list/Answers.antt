@@ -3,16 +3,18 @@ use Rattle.lq_instances.specs.Views.{list_view}
 use Rattle.lq_pred.specs.PredView.{formula_of}
 use Rattle.lq_substitution.specs.Views.{subst_view}
 use Rattle.lq_weakening.specs.Chosen.{chosen_in}
+use Rattle.lq_known.proofs.Holding.{keeps_self, keeps_then}
 use Rattle.lq_nearest.proofs.Meeting.{none_against, none_next, none_past}
 use Rattle.lq_nearest.proofs.aiming.proves_list.Goals as goal
 
 pub loop-at-init : goal.loop-at-init
-loop-at-init c = record { kept = λ p h. h; none = λ p h i q w. absurd (omega (arith, w)) }
+loop-at-init c = record { kept = λ p h. h; keeps = keeps_self _; none = λ p h i q w. absurd (omega (arith, w)) }
 
 pub loop-at-preserved : goal.loop-at-preserved
 loop-at-preserved c =
     let before = c.loop-at.invariant in record {
       kept = λ p h. c.in_ok-proved.ensures.kept p (before.kept p h);
+      keeps = keeps_then _ _ _ before.keeps c.in_ok-proved.ensures.keeps;
       none = λ p h. none_next p (chosen_in c.args.chosen.now c.args.unknown) (subst_view c.args.by.now) c.loop-at.at (list_view c.args.list.now) (formula_of c.in-Some.instance.now) c.in-Some.ensures
           (before.none p h) (λ t. c.in_ok-proved.ensures.proved c.if-not-proved.false p (before.kept p h) (subst (λ b. b ≡ true) (sym c.has-is_chosen.ensures) t));
     }
@@ -22,3 +24,9 @@ returns-clause-proved c = λ _ p h.
     let past : length (list_view c.args.list.now) ≤ c.loop-at.at = omega arith in
     none_against p (chosen_in c.args.chosen.now c.args.unknown) (subst_view c.args.by.now) (list_view c.args.list.now)
     (none_past p (chosen_in c.args.chosen.now c.args.unknown) (subst_view c.args.by.now) c.loop-at.at (list_view c.args.list.now) past (c.loop-at.invariant.none p h))
+
+pub returns-in_err-proved-clause-keeps : goal.returns-in_err-proved-clause-keeps
+returns-in_err-proved-clause-keeps c = keeps_then _ _ _ c.loop-at.invariant.keeps c.in_err-proved.ensures.keeps
+
+pub returns-then-not-proved-clause-keeps : goal.returns-then-not-proved-clause-keeps
+returns-then-not-proved-clause-keeps c = keeps_then _ _ _ c.loop-at.invariant.keeps c.in_ok-proved.ensures.keeps

@@ -1,5 +1,10 @@
+use Rattle.std.proofs.Common.{subst, sym}
 use Rattle.lq_questions.specs.Assigned.{constraints_of, instances_in}
+use Rattle.lq_weakening.specs.Index.{AreCovered}
 use Rattle.lq_weaken.proofs.solving.solve_gathered.Goals as goal
+
+pub solve-requires-clause-covered : goal.solve-requires-clause-covered
+solve-requires-clause-covered c = subst (AreCovered (constraints_of c.args.implications.now)) (sym c.deref-2.ensures.value) c.in-Ok-unknown_spans.ensures
 
 pub returns-clause-stop : goal.returns-clause-stop
 returns-clause-stop c =

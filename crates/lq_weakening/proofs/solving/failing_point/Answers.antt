@@ -9,8 +9,8 @@ pub returns-then-is_flow-clause-none : goal.returns-then-is_flow-clause-none
 returns-then-is_flow-clause-none g c =
     flow_met (g.J.Judge.instances c.args.judge.now) (g.J.Judge.constraints c.args.judge.now) (chosen_in c.args.chosen.now) c.args.goals.now c.args.at c.requires.goals (c.is_flow.ensures.is c.if-is_flow.true)
 
-pub ask-requires : goal.ask-requires
-ask-requires g c =
+pub ask-requires-clause-there : goal.ask-requires-clause-there
+ask-requires-clause-there g c =
     let e = same_lengths (g.J.Judge.constraints c.args.judge.now) c.args.goals.now c.requires.goals in
     let h = c.requires.at in omega (arith, e, h)
 

@@ -14,4 +14,4 @@ returns-in-Ok-Some-clause-some g c =
 
 pub returns-clause-none : goal.returns-clause-none
 returns-clause-none g c =
-    demands_met (g.J.Judge.instances c.args.judge.now) (g.J.Judge.constraints c.args.judge.now) (chosen_in c.args.chosen.now) c.args.goals.now c.loop-at.at c.requires c.loop-at-test.false c.loop-at.invariant.0
+    demands_met (g.J.Judge.instances c.args.judge.now) (g.J.Judge.constraints c.args.judge.now) (chosen_in c.args.chosen.now) c.args.goals.now c.loop-at.at c.requires.goals c.loop-at-test.false c.loop-at.invariant.0

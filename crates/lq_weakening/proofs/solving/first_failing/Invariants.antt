@@ -11,3 +11,4 @@ invariant-loop-at g l =
     × (g.J.Judge.instances l.judge ≡ g.J.Judge.instances l.initial.judge)
     × (g.J.Judge.constraints l.judge ≡ g.J.Judge.constraints l.initial.judge)
     × ((i : ℕ) (stop : Stop) → g.J.Judge.may_stop l.judge i stop → g.J.Judge.may_stop l.initial.judge i stop)
+    × g.J.Judge.keeps l.judge (chosen_in l.chosen)

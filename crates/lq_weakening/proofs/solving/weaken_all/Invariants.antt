@@ -11,6 +11,7 @@ invariant-loop-at g l =
     × (g.J.Judge.instances l.judge ≡ g.J.Judge.instances l.initial.judge)
     × (g.J.Judge.constraints l.judge ≡ g.J.Judge.constraints l.initial.judge)
     × ((i : ℕ) (stop : Stop) → g.J.Judge.may_stop l.judge i stop → g.J.Judge.may_stop l.initial.judge i stop)
+    × g.J.Judge.keeps l.judge (chosen_in l.chosen)
 
 abbrev pub decreases-loop-at : goal.decreases-loop-at
 decreases-loop-at g l = total l.chosen * (length l.goals + 1) + length l.waiting.keys

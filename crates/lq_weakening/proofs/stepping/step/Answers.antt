@@ -5,8 +5,8 @@ use Rattle.lq_weakening.proofs.Inserting.{flow_in_range}
 use Rattle.lq_weakening.proofs.Weakening.{same_lengths}
 use Rattle.lq_weakening.proofs.stepping.step.Goals as goal
 
-pub ask-requires : goal.ask-requires
-ask-requires g c =
+pub ask-requires-clause-there : goal.ask-requires-clause-there
+ask-requires-clause-there g c =
     let e = same_lengths (g.J.Judge.constraints c.args.judge.now) c.args.goals.now c.requires.goals in
     let h = flow_in_range c.args.goals.now c.args.at c.requires.flow in omega (arith, e, h)
 

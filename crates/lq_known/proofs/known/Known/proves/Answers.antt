@@ -1,11 +1,11 @@
-use Rattle.std.proofs.Common.{false}
+use Rattle.std.proofs.Common.{false, arith}
 use Rattle.lq_pred.specs.NnfView.{nnf_view}
 use Rattle.lq_pred.specs.PredView.{formula_of}
 use Rattle.lq_pred.specs.Reading.{reading_of}
 use Rattle.lq_pred.specs.RowMeaning.{numbers_at}
 use Rattle.lq_pred.specs.TableView.{terms_of}
 use Rattle.lq_known.specs.Facts.{facts_of}
-use Rattle.lq_known.proofs.Holding.{agrees_before, hold_same}
+use Rattle.lq_known.proofs.Holding.{agrees_before, count_same, first_same, hold_same}
 use Rattle.lq_known.proofs.known.Known.proves.Goals as goal
 
 pub returns-in-Ok-clause-proved : goal.returns-in-Ok-clause-proved
@@ -22,3 +22,17 @@ returns-in-Ok-clause-kept c = λ p h v a.
 
 pub returns-in-Err-clause-kept : goal.returns-in-Err-clause-kept
 returns-in-Err-clause-kept c = λ p h v a. h v (agrees_before (terms_of c.args.self.now.table) (terms_of c.tighten.new.table) v p c.in-Err.ensures.grows a)
+
+pub returns-in-Ok-clause-keeps : goal.returns-in-Ok-clause-keeps
+returns-in-Ok-clause-keeps c =
+    let old = facts_of c.args.self.now.state in let new = facts_of c.refutes.new.state in record {
+      count = count_same old new c.refutes.ensures.same;
+      first = λ n p w h v a.
+          first_same v p old new n c.refutes.ensures.same (h v (agrees_before (terms_of c.args.self.now.table) (terms_of c.tighten.new.table) v p c.in-Ok.ensures.grows a));
+    }
+
+pub returns-in-Err-clause-keeps : goal.returns-in-Err-clause-keeps
+returns-in-Err-clause-keeps c = record {
+  count = omega arith;
+  first = λ n p w h v a. h v (agrees_before (terms_of c.args.self.now.table) (terms_of c.tighten.new.table) v p c.in-Err.ensures.grows a);
+}

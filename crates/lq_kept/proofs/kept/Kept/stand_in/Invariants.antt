@@ -1,0 +1,12 @@
+-- The steps that are left lead from the environment to one that stands.
+use Rattle.std.proofs.Common.{vec_len}
+use Rattle.lq_implications.specs.Views.{environment_lists}
+use Rattle.lq_questions.specs.Assigned.{assignment_of}
+use Rattle.lq_kept.specs.Way.{IsUnderWay}
+use Rattle.lq_kept.proofs.kept.Kept.stand_in.Given as goal
+
+abbrev pub invariant-loop-step : goal.invariant-loop-step
+invariant-loop-step l = IsUnderWay (assignment_of l.instances l.chosen) (environment_lists l.implications) l.self l.steps.items l.env
+
+abbrev pub decreases-loop-step : goal.decreases-loop-step
+decreases-loop-step l = vec_len l.steps

@@ -1,0 +1,40 @@
+use Rattle.std.proofs.Common.{◌≡◌, ◌++◌, [], ◌∷◌, arith, refl, sym, subst}
+use Rattle.lq_implications.specs.Views.{environment_in, environment_lists}
+use Rattle.lq_substitution.specs.Views.{part_view}
+use Rattle.lq_kept.specs.Way.{LeadsTo}
+use Rattle.lq_kept.specs.declared.way.Step.{Step}
+use Rattle.lq_kept.proofs.Ways.{way_added}
+use Rattle.lq_kept.proofs.kept.Kept.way_to.Goals as goal
+
+pub loop-found-init : goal.loop-found-init
+loop-found-init c =
+    let es = environment_lists c.args.implications.now in record {
+      inside = c.requires;
+      way = subst (λ l. LeadsTo es c.args.env l c.args.env) (sym c.new-steps.ensures.items) refl;
+      kept = λ A k. c.back_to-found.ensures.kept A es k;
+      stands = λ b A k. c.back_to-found.ensures.stands b A es k;
+    }
+
+pub returns-in_default-clause-way : goal.returns-in_default-clause-way
+returns-in_default-clause-way c = λ A k.
+    let es = environment_lists c.args.implications.now in
+    record { at = c.loop-found.at; kept = c.forget.ensures.kept A es; stands = c.forget.ensures.nothing A es c.loop-found.at; way = c.loop-found.invariant.way }
+
+pub loop-found-preserved : goal.loop-found-preserved
+loop-found-preserved c =
+    let es = environment_lists c.args.implications.now in
+    let before = c.loop-found.invariant in
+    let at = c.loop-found.at in
+    let parent = c.in-Some.parent in
+    let step : Step = record { env = at; part = c.in-Some.part } in
+    let e : environment_in es at ≡ environment_in es parent ++ part_view c.in-Some.part.now ∷ [] = c.in-Some.ensures.hypotheses in
+    record {
+      inside = let a = before.inside in let b = c.in-Some.ensures.earlier in omega (arith, a, b);
+      way = subst (λ l. LeadsTo es parent l c.args.env) (sym c.in_ok-push.ensures.items) (way_added es c.loop-found.steps.items step parent c.args.env before.way e);
+      kept = λ A k. c.back_to-found-in-loop-found.ensures.kept A es (before.kept A k);
+      stands = λ b A k. c.back_to-found-in-loop-found.ensures.stands b A es (before.kept A k);
+    }
+
+pub returns-clause-way : goal.returns-clause-way
+returns-clause-way c = λ A k.
+    let before = c.loop-found.invariant in record { at = c.loop-found.at; kept = before.kept A k; stands = before.stands c.loop-found-test.false A k; way = before.way }

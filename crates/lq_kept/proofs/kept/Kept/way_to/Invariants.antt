@@ -1,0 +1,18 @@
+-- What is kept stays right, and the steps lead to where the way has come.
+use Rattle.std.proofs.Common.{◌<◌, IsTrue, length}
+use Rattle.lq_implications.specs.Views.{environment_lists}
+use Rattle.lq_parts.specs.Assignment.{Assignment}
+use Rattle.lq_kept.specs.Kept.{IsKeptFor, Stands}
+use Rattle.lq_kept.specs.Way.{LeadsTo}
+use Rattle.lq_kept.proofs.kept.Kept.way_to.Given as goal
+
+abbrev pub invariant-loop-found : goal.invariant-loop-found
+invariant-loop-found l = record {
+  inside : l.at < length (environment_lists l.implications);
+  way : LeadsTo (environment_lists l.implications) l.at l.steps.items l.env;
+  kept : (A : Assignment) → IsKeptFor A (environment_lists l.implications) l.fn.self → IsKeptFor A (environment_lists l.implications) l.self;
+  stands : IsTrue l.found → (A : Assignment) → IsKeptFor A (environment_lists l.implications) l.fn.self → Stands A (environment_lists l.implications) l.self l.at;
+}
+
+abbrev pub decreases-loop-found : goal.decreases-loop-found
+decreases-loop-found l = l.at

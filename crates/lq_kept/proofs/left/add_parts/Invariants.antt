@@ -1,0 +1,15 @@
+-- What is known holds where the hypotheses are met.
+use Rattle.std.proofs.Common.{map}
+use Rattle.lq_known.specs.Known.{Hold, Keeps}
+use Rattle.lq_parts.specs.Assignment.{parts_under}
+use Rattle.lq_pred.specs.ClosedImplication.{MeetsEach}
+use Rattle.lq_pred.specs.Points.{Point}
+use Rattle.lq_questions.specs.Assigned.{assignment_of}
+use Rattle.lq_substitution.specs.Views.{part_view}
+use Rattle.lq_kept.proofs.left.add_parts.Given as goal
+
+abbrev pub invariant-loop-part : goal.invariant-loop-part
+invariant-loop-part l = record {
+  held : (p : Point) → Hold l.fn.known p → MeetsEach p (parts_under (assignment_of l.instances l.chosen) (map part_view l.parts)) → Hold l.known p;
+  keeps : Keeps l.fn.known l.known;
+}

@@ -1,0 +1,3 @@
+-- Facts that are kept: definitions.
+pub mod Kept
+pub mod Way
