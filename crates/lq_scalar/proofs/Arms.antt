@@ -198,7 +198,7 @@ module _ (P : Basis) (unknowns : ℕ → Unknown) (keep : KeepNames P.setting.co
   nameless_opened N Γ good x t new low is nameless o h =
       let k = fine_known P unknowns keep m N t (nameless_fine P unknowns keep m N t nameless o) in
       let parts = top_sorted (names_in Γ) (kind t) (top t) h in (
-        good_bind_in P unknowns keep m N Γ good x t low is k,
+        good_bind_in P unknowns keep m N Γ good x t low is k h,
         (λ c. (refl, new, (((type_over P unknowns keep m laws A O sorted N t o).0.0, parts.0), parts.1), c)),
       )
 
@@ -237,7 +237,7 @@ module _ (P : Basis) (unknowns : ℕ → Unknown) (keep : KeepNames P.setting.co
   guards_opened (q ∷ qs) Γ good h =
       let N = names_in Γ in
       let on = each_on N N N (λ y e. e) (λ y e. e) (parts_under A (q ∷ [])) (parts_over unknowns A sorted (of_any_sort N) (q ∷ []) (h.0, tt)) in
-      let rest = guards_opened qs (guard q ∷ Γ) (good_guard P unknowns keep m Γ q good) h.1 in
+      let rest = guards_opened qs (guard q ∷ Γ) (good_guard P unknowns keep m Γ q h.0 good) h.1 in
       (rest.0, (λ k. rest.1 (on, k)))
 
   -- the arm of a constructor, where the variable has a datatype

@@ -1,6 +1,7 @@
 -- Types that are scalar, over names and apart from these, and environments of such.
 use Rattle.std.proofs.Common.{◌≡◌, ◌⊎◌, inl, inr, ℕ, suc, ◌<◌, ◌^◌, Bool, true, false, ◌||◌, ◌==◌, cond, [], ◌∷◌, Option, Some, None, refl, sym, ap, subst}
 use Rattle.std.proofs.lemmas.Bool.{eqb-true, eq-eqb}
+use Rattle.lq_bound_splits.specs.Bound.{EntriesOver}
 use Rattle.lq_calls.specs.Operands.{IsUsable, IsUsablePure}
 use Rattle.lq_checks.specs.Basis.{Basis}
 use Rattle.lq_checks.specs.Binders.{IsNewName, operation_binders, block_binders}
@@ -31,7 +32,7 @@ use Rattle.lq_pures.specs.Pures as pures
 use Rattle.lq_pures.specs.Pures.{PureOver, UseOver, scene_of}
 use Rattle.lq_pures.proofs.Pures.{each_use}
 use Rattle.lq_pures.proofs.Values.{formula_over, sum_over}
-use Rattle.lq_refined.specs.Context.{Context, type_in, guard}
+use Rattle.lq_refined.specs.Context.{Context, type_in, name, guard}
 use Rattle.lq_refined.specs.Operations.{applied, atom_of, instantiated, renamed, symbol_of, twin, twin_of}
 use Rattle.lq_refined.specs.Refined.{Refined, Refineds, none, more, int_with, bool_with, unit_type, function, tuple_of, array_with, data_with, map_with, type_variable, Kind, number, truth_value, object, other, kind, argument_of}
 use Rattle.lq_renamed.specs.Names.{IsNoVariable, NamesApart, AllNamesApart, with_twins}
@@ -251,10 +252,19 @@ module _ (P : Basis) (unknowns : ℕ → Unknown) (keep : KeepNames P.setting.co
     pub clean : HasNoPositions (names_in Γ)
     pub types : (z : ℕ) → names_in Γ (symbol_of z) ≡ true → IsKnown N (type_in Γ (symbol_of z))
     pub general : (z : ℕ) → m.general (symbol_of z) ≡ true → NamesOutside m.all (type_in Γ (symbol_of z))
+    -- and each guard speaks of these names
+    pub entries : EntriesOver P.setting unknowns (of_any_sort N) Γ
 
   -- over all that the environment has
   abbrev pub IsGood : Context → Type 0
   IsGood Γ = IsGoodIn (names_in Γ) Γ
+
+  pub entries_more : (N M : Symbols) → IsWithin N M → (Γ : Context) → EntriesOver P.setting unknowns (of_any_sort N) Γ
+      → EntriesOver P.setting unknowns (of_any_sort M) Γ
+  entries_more N M w [] h = tt
+  entries_more N M w (name x t ∷ Γ) h =
+      (inside_wide (of_any_sort N) (of_any_sort M) (record { terms = w; flags = w }) t h.0, h.1, entries_more N M w Γ h.2)
+  entries_more N M w (guard p ∷ Γ) h = (h.0, entries_more N M w Γ h.1)
 
   pub good_more : (N M : Symbols) → IsWithin N M → (Γ : Context) → IsGoodIn N Γ → IsGoodIn M Γ
   good_more N M w Γ good =
@@ -263,29 +273,32 @@ module _ (P : Basis) (unknowns : ℕ → Unknown) (keep : KeepNames P.setting.co
         clean = good.clean;
         types = λ z h. known_more N M w (type_in Γ (symbol_of z)) (good.types z h);
         general = good.general;
+        entries = entries_more N M w Γ good.entries;
       }
 
   pub small_names : (Γ : Context) → IsGood Γ → AreSmall (names_in Γ)
   small_names Γ good z h = (good.kinds z h).0
 
-  pub good_guard : (Γ : Context) (p : Part) → IsGood Γ → IsGood (guard p ∷ Γ)
-  good_guard Γ p good =
+  pub good_guard : (Γ : Context) (p : Part) → over.PartOver unknowns (of_any_sort (names_in Γ)) p → IsGood Γ → IsGood (guard p ∷ Γ)
+  good_guard Γ p h good =
       record {
         kinds = λ z h. good.kinds z h;
         clean = λ k. good.clean k;
         types = λ z h. known_more (names_in Γ) (names_in (guard p ∷ Γ)) (λ y k. k) (type_in Γ (symbol_of z)) (good.types z h);
         general = λ z h. good.general z h;
+        entries = (h, entries_more (names_in Γ) (names_in (guard p ∷ Γ)) (λ y k. k) Γ good.entries);
       }
 
   -- one more name
   pub good_bind_in : (N : Symbols) (Γ : Context) → IsGoodIn N Γ → (x : ℕ) (t : Refined) → x < 2 ^ 31 → IsBound m x (name_kind t) → IsKnown N t
-      → IsGoodIn N (bind x t Γ)
-  good_bind_in N Γ good x t low is known =
+      → over.TopOver unknowns (of_any_sort (names_in Γ)) t → IsGoodIn N (bind x t Γ)
+  good_bind_in N Γ good x t low is known own =
       record {
         kinds = λ z h. kinds_at z (x == z) refl h;
         clean = clean_bind Γ x t good.clean;
         types = λ z h. types_at z (x == z) h;
         general = λ z h. general_at z (x == z) refl h;
+        entries = ((wide known.own N known.within t known.over).0, own, good.entries);
       }
     where
       kinds_at : (z : ℕ) (b : Bool) → (x == z) ≡ b → (names_in Γ (symbol_of z) || b) ≡ true
@@ -311,6 +324,7 @@ module _ (P : Basis) (unknowns : ℕ → Unknown) (keep : KeepNames P.setting.co
       let N = names_in (bind x t Γ) in
       let w = within_with (names_in Γ) (symbol_of x) in
       good_bind_in N Γ (good_more (names_in Γ) N w Γ good) x t low is (known_more (names_in Γ) N w t known)
+      (wide known.own (names_in Γ) known.within t known.over).1
 
   -- ---- uses
 

@@ -1,26 +1,26 @@
 -- Lemmas.
 mod Templates
 mod Reading
-mod Twins
-mod Uses
-mod Types
-mod NameKinds
-mod Instances
-mod Contexts
-mod Forms
-mod Standing
-mod Fields
-mod Datatypes
-mod Builds
-mod Arms
-mod Fine
-mod Outside
-mod Items
-mod Components
-mod Typings
-mod Patterns
+pub mod Twins
+pub mod Uses
+pub mod Types
+pub mod NameKinds
+pub mod Instances
+pub mod Contexts
+pub mod Forms
+pub mod Standing
+pub mod Fields
+pub mod Datatypes
+pub mod Builds
+pub mod Arms
+pub mod Fine
+pub mod Outside
+pub mod Items
+pub mod Components
+pub mod Typings
+pub mod Patterns
 mod Plain
-mod Programs
+pub mod Programs
 mod Normal
 mod Example
 mod ListExample

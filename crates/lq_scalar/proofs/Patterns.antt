@@ -44,7 +44,7 @@ use Rattle.lq_scalar.proofs.Datatypes.{datatype_for}
 use Rattle.lq_scalar.proofs.NameKinds.{Agree, component_kinds, Naming, pattern_kinds}
 use Rattle.lq_scalar.proofs.Uses.{UseOf, use_erased}
 
-abbrev number_in : MlType → ℕ
+abbrev pub number_in : MlType → ℕ
 number_in (ml.named d us) = d
 number_in _ = 0
 

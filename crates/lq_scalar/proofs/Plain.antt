@@ -26,10 +26,11 @@ use Rattle.lq_plain.proofs.Datatypes.{within_arm}
 use Rattle.lq_plain_scope.specs.Laws.{RecursionsAreOver}
 use Rattle.lq_pred.specs.Formula.{negation}
 use Rattle.lq_pures.specs.Pures.{EachUse, PureOver, scene_of}
+use Rattle.lq_pures.proofs.Values.{formula_over}
 use Rattle.lq_refined.specs.Context.{Context, guard}
 use Rattle.lq_refined.specs.Operations.{symbol_of}
 use Rattle.lq_refined.specs.Refined.{Refined, Refineds, none, more, int_with, bool_with, unit_type, function, tuple_of, array_with, data_with, map_with, type_variable, Kind, kind, argument_of, element_of, erased}
-use Rattle.lq_runs.specs.Closed.{names_in, IsTypeOver}
+use Rattle.lq_runs.specs.Closed.{names_in, IsTypeOver, SortedOn}
 use Rattle.lq_runs.proofs.Closing.{within_with, with_within}
 use Rattle.lq_safe.specs.Scoped.{AreDatatypesFor, IsOperand, NamesArgument}
 use Rattle.lq_sorted_matrices.specs.Laws.{ArgumentsLackFields, MatricesAreSorted}
@@ -43,7 +44,7 @@ use Rattle.lq_scalar.specs.Scalar.{HasNoTypeVariables, HaveTwins}
 use Rattle.lq_scalar.specs.Written.{end_point, AreArmsWritten, HasArm, IsBlockFor, IsBlockWritten, IsFunctionFor, IsNameless, IsNamedBy, IsOperationWritten}
 use Rattle.lq_scalar.proofs.Contexts as contexts
 use Rattle.lq_scalar.proofs.Builds.{AreFields, built_fine}
-use Rattle.lq_scalar.proofs.Contexts.{IsKnown, fine_known, function_far, good_bind, good_guard, known_usable, near_bind, own_body, own_near, pure_fine, pure_over, pure_usable, small_bind, small_names, use_known, use_over, wide}
+use Rattle.lq_scalar.proofs.Contexts.{IsKnown, fine_known, function_far, good_bind, good_guard, known_usable, near_bind, own_body, own_near, pure_fine, pure_over, pure_usable, small_bind, small_names, sorted_any, use_known, use_over, wide}
 use Rattle.lq_scalar.proofs.Fine.{IsBuiltFine, argument_fine, element_fine, flow, nameless_fine, operation_fine, sort_within, typed}
 use Rattle.lq_scalar.proofs.Forms.{function_scalar, nameless_block, twins_back, twins_front}
 use Rattle.lq_scalar.proofs.NameKinds.{Agree, agree_back, agree_front, arms_kinds, block_kinds, given_kinds, name_kind, Naming, NoneIn, operation_kinds, pattern_kinds}
@@ -51,7 +52,7 @@ use Rattle.lq_scalar.proofs.Outside.{operation_outside}
 use Rattle.lq_scalar.proofs.Patterns.{arm_names, arm_opened, components_over, matched_data, template_data}
 use Rattle.lq_scalar.proofs.Twins.{AreSmall}
 use Rattle.lq_scalar.proofs.Types.{none_variable}
-use Rattle.lq_scalar.proofs.Uses.{IsKnownUse, PureOf, PuresOf, UseOf, pure_more, pure_uses, pures_more, pures_uses, use_erased, use_more}
+use Rattle.lq_scalar.proofs.Uses.{IsKnownUse, PureOf, PuresOf, UseOf, names_of_pure, pure_more, pure_uses, pures_more, pures_uses, use_erased, use_more}
 use Rattle.lq_scalar.proofs.Typings.{IsBuilt, IsSuited, RecursiveTyping, argument_in, arm_typing, binding_typing, built_typing, end_binding_typing, end_last_fits, end_last_typing, end_recursive_typing, fetch_typing, last_typing, others, recursive_typing, result_in, suited_given, suited_last, where_either, where_or}
 
 module _ (over : TypesAreOver) (kept : NamesAreKept) (recursions : RecursionsAreOver) (given : SimpleTypesAreGiven) (matrices : MatricesAreSorted)
@@ -177,6 +178,13 @@ module _ (over : TypesAreOver) (kept : NamesAreKept) (recursions : RecursionsAre
   operand_of : (N : Symbols) (Γ : Context) → IsWithin N (names_in Γ) → (e : Pure) → PureInScope P unknowns N e → EachUse Known e
       → PureOf P unknowns keep m (names_in Γ) e
   operand_of N Γ w e scoped written = pure_more P unknowns keep m N (names_in Γ) w e (pure_uses P unknowns keep m N e scoped written)
+
+  -- a condition speaks of the environment's names
+  condition_over : (N : Symbols) (Γ : Context) → IsWithin N (names_in Γ) → (e : Pure) → PureInScope P unknowns N e → EachUse Known e
+      → SortedOn (names_in Γ) (names_in Γ) (formula_of e)
+  condition_over N Γ w e scoped written =
+      sorted_any (names_in Γ) (formula_of e)
+      (formula_over (names_in Γ) e (names_of_pure P unknowns keep m (names_in Γ) e (operand_of N Γ w e scoped written)))
 
   operand_over : (N : Symbols) (Γ : Context) → IsWithin N (names_in Γ) → Good Γ → (e : Pure) → PureInScope P unknowns N e → EachUse Known e
       → PureOver P A Γ e
@@ -339,12 +347,13 @@ module _ (over : TypesAreOver) (kept : NamesAreKept) (recursions : RecursionsAre
         )
     operation_plain (if_else p c a b) N Γ w good t scoped written ready twins kinds h Δ fits suited =
         let x = guard (known (formula_of c)) ∷ Γ in
-        let y = guard (known (negation (formula_of c))) ∷ Γ in (
+        let y = guard (known (negation (formula_of c))) ∷ Γ in
+        let told_of = condition_over N Γ w c scoped.1 written.0 in (
           operand_over N Γ w good c scoped.1 written.0,
-          block_plain a N x (λ z k. w z k) (good_guard P unknowns keep m Γ (known (formula_of c)) good) t scoped.2 written.1 ready.0
+          block_plain a N x (λ z k. w z k) (good_guard P unknowns keep m Γ (known (formula_of c)) told_of good) t scoped.2 written.1 ready.0
               (twins_front (block_binders a) (block_binders b) twins) (agree_front m (block_kinds P x a t) (block_kinds P y b t) kinds)
               (nameless_block a t suited.0) h Δ (fits_guard fits) suited.1,
-          block_plain b N y (λ z k. w z k) (good_guard P unknowns keep m Γ (known (negation (formula_of c))) good) t scoped.3 written.2 ready.1
+          block_plain b N y (λ z k. w z k) (good_guard P unknowns keep m Γ (known (negation (formula_of c))) told_of good) t scoped.3 written.2 ready.1
               (twins_back (block_binders a) (block_binders b) twins) (agree_back m (block_kinds P x a t) (block_kinds P y b t) kinds)
               (nameless_block b t suited.0) h Δ (fits_guard fits) suited.2,
         )

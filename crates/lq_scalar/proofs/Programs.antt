@@ -68,7 +68,7 @@ module _ (m n : Naming) (same : (z : ℕ) → n.kinds z ≡ m.kinds z) (less : I
     known_next N t k =
         record { scalar = k.scalar; own = k.own; within = k.within; over = k.over; apart = k.apart; named = named_less t k.named }
 
-    good_next : (Γ : Context) → IsWithin (names_in Γ) n.all → contexts.IsGood P unknowns keep m Γ
+    pub good_next : (Γ : Context) → IsWithin (names_in Γ) n.all → contexts.IsGood P unknowns keep m Γ
         → ((z : ℕ) → n.general (symbol_of z) ≡ true → NamesOutside n.all (type_in Γ (symbol_of z))) → contexts.IsGood P unknowns keep n Γ
     good_next Γ w good general =
         record {
@@ -76,10 +76,11 @@ module _ (m n : Naming) (same : (z : ℕ) → n.kinds z ≡ m.kinds z) (less : I
           clean = good.clean;
           types = λ z h. known_next (names_in Γ) (type_in Γ (symbol_of z)) (good.types z h);
           general = general;
+          entries = good.entries;
         }
 
     -- and one more is defined
-    general_next : (N : Symbols) (Γ : Context) → ((z : ℕ) → N (symbol_of z) ≡ true → NamesOutside m.all (type_in Γ (symbol_of z)))
+    pub general_next : (N : Symbols) (Γ : Context) → ((z : ℕ) → N (symbol_of z) ≡ true → NamesOutside m.all (type_in Γ (symbol_of z)))
         → (x : ℕ) (T : Refined)
         → NamesOutside n.all T → (z : ℕ) → with_symbol N (symbol_of x) (symbol_of z) ≡ true → NamesOutside n.all (type_in (bind x T Γ) (symbol_of z))
     general_next N Γ general x T o z h = by (x == z) h
@@ -94,7 +95,7 @@ module _ (m n : Naming) (same : (z : ℕ) → n.kinds z ≡ m.kinds z) (less : I
             no k = cc
 
 -- What is known of names where these are bound from here on, and these are what earlier definitions defined.
-abbrev naming : (ℕ → NameKind) → (M : Symbols) → AreSmall M → Symbols → Naming
+abbrev pub naming : (ℕ → NameKind) → (M : Symbols) → AreSmall M → Symbols → Naming
 naming k M small N = record { kinds = k; all = M; general = N; small = small }
 
 module _ (over : TypesAreOver) (kept : NamesAreKept) (recursions : RecursionsAreOver) (given : SimpleTypesAreGiven) (matrices : MatricesAreSorted)
@@ -247,10 +248,10 @@ module _ (over : TypesAreOver) (kept : NamesAreKept) (recursions : RecursionsAre
             (kinds_back kinds_of Kb Kc kinds) Δ fits d.1.1.1,
       )
 
-not_true : false ≡ true → ⊥
+pub not_true : false ≡ true → ⊥
 not_true h = cc
 
-none_there : (xs : List ℕ) → NoneIn no_names xs
+pub none_there : (xs : List ℕ) → NoneIn no_names xs
 none_there [] = tt
 none_there (x ∷ xs) = (refl, none_there xs)
 
@@ -262,5 +263,5 @@ scalar_plain over kept recursions given matrices lack P unknowns A O sorted agre
     program_plain over kept recursions given matrices lack P unknowns A O sorted agree datatypes Q templates k p no_names []
     (λ y h. absurd (not_true h))
     small
-    (record { kinds = λ z h. absurd (not_true h); clean = λ k. refl; types = λ z h. absurd (not_true h); general = λ z h. absurd (not_true h) }) scoped written
+    (record { kinds = λ z h. absurd (not_true h); clean = λ k. refl; types = λ z h. absurd (not_true h); general = λ z h. absurd (not_true h); entries = tt }) scoped written
     before ready twins differ (none_there (binders p)) (binders_agree P p differ) [] fits_none typing

@@ -27,10 +27,10 @@ use Rattle.lq_tree.specs.MlType as ml
 use Rattle.lq_tree.specs.MlType.{MlType, MlTypes}
 use Rattle.lq_tree.specs.Tree as form
 use Rattle.lq_tree.specs.Tree.{Tree, Trees, no_trees, more_trees, Cases, more_cases}
-use Rattle.lq_scalar.specs.Laws.{TemplatesAreWritten}
+use Rattle.lq_scalar.specs.Laws.{DefinitionsAreNameless, TemplatesAreWritten}
 use Rattle.lq_quiet.specs.Quiet.{IsValueBlock, IsValueOperation}
 use Rattle.lq_scalar.specs.Scalar.{end_type, AreScalarCases, HasNoTypeVariables, IsScalarTree, IsScalarItem, IsScalarProgram, IsValueTree}
-use Rattle.lq_scalar.specs.Written.{end_point, function_point, AreArmsWritten, AreScalar, EachUseIn, HasNamelessArguments, IsNameless, IsFunctionFor, IsGivenWritten, IsOperationWritten, IsBlockWritten, AreItemsWritten}
+use Rattle.lq_scalar.specs.Written.{end_point, function_point, AreArmsWritten, AreDefinitionsNameless, AreScalar, EachUseIn, HasNamelessArguments, IsNameless, IsFunctionFor, IsGivenWritten, IsOperationWritten, IsBlockWritten, AreItemsWritten}
 use Rattle.lq_scalar.proofs.Forms.{nameless_function}
 use Rattle.lq_scalar.proofs.Templates.{all_plain_nameless, arguments_made, constant_nameless, function_made, inner_nameless, nameless_made, plain_nameless}
 
@@ -516,6 +516,46 @@ module _ (erases : TemplatesErase) (D : Datatypes) (n : Annotation) (all : List 
   items_read [] m s k Δ h = tt
   items_read (i ∷ is) m s k Δ h = item_read k Δ m.0 s.0 (λ j Θ. program_from n j Θ is) (items_read is m.1 s.1) h
 
+  -- ---- templates of definitions
+
+  own_nameless : (b : Bool) (x k : ℕ) (Γ : Scope) (ps : List Point) → Made k (own_point n b (whole Γ [] (n.names x)) ++ ps) → (p : ℕ)
+      → Where b (IsNameless (P.template (cond b k p))) (Unit {0})
+  own_nameless true x k Γ ps made p =
+      template_at (IsNameless) k Γ [] (n.names x) made.0 (λ m. nameless_made erases D.constructors D.ordered m Γ (n.names x))
+      (plain_nameless erases (n.names x))
+  own_nameless false x k Γ ps made p = tt
+
+  abbrev RestNameless : (ℕ → List Seen → Read t.Program) → Type 0
+  RestNameless rest = (k : ℕ) (Δ : List Seen) → Made k (rest k Δ).points → AreDefinitionsNameless P (rest k Δ).read
+
+  item_nameless : (k : ℕ) (Δ : List Seen) {i : ItemForm} → IsItem i → (rest : ℕ → List Seen → Read t.Program) → RestNameless rest
+      → Made k (item n k Δ i rest).points → AreDefinitionsNameless P (item n k Δ i rest).read
+  item_nameless k Δ item_type rest r h = r k Δ h
+  item_nameless k Δ (item_name {l = l} {x = x} {e = e} b) rest r h =
+      let B : Read t.Block = block_of n false k Δ e in
+      let Γ = scope_at n Δ (number_of e) in
+      let own : List Point = own_point n (has_template B.read) (whole Γ [] (n.names x)) in (
+        own_nameless (has_template B.read) x (after k B) Γ _ (back k B.points _ h) _,
+        r (after k B + length own) (seen x ∷ Δ) (back (after k B) own _ (back k B.points _ h)),
+      )
+  item_nameless k Δ (item_any {e = e} b) rest r h =
+      let B : Read t.Block = block_of n false k Δ e in r (after k B) Δ (back k B.points _ h)
+  item_nameless k Δ (item_unit {e = e} b) rest r h =
+      let B : Read t.Block = block_of n true k Δ e in r (after k B) Δ (back k B.points _ h)
+  item_nameless k Δ (item_function {f = f} {r = z} m b) rest r h =
+      let Θ : List Seen = seen f ∷ Δ in
+      let y : ℕ = reading.parameter_of z.parameter in
+      let B : Read t.Block = block_of n true (suc k) (seen y ∷ Θ) z.body in
+      r (after (suc k) B) Θ (back (suc k) B.points _ h.1)
+
+  items_nameless : (is : List ItemTree) → AreNormal is → RestNameless (λ k Δ. program_from n k Δ is)
+  items_nameless [] m k Δ h = tt
+  items_nameless (i ∷ is) m k Δ h = item_nameless k Δ m.0 (λ j Θ. program_from n j Θ is) (items_nameless is m.1) h
+
 pub templates_written : TemplatesErase → TemplatesAreWritten
 templates_written erases D n is m s =
     let ps : List Point = (program_of n is).points in items_read erases D n ps is m s 0 [] (all_made D 0 ps)
+
+pub definitions_nameless : TemplatesErase → DefinitionsAreNameless
+definitions_nameless erases D n is m =
+    let ps : List Point = (program_of n is).points in items_nameless erases D n ps is m 0 [] (all_made D 0 ps)

@@ -23,13 +23,19 @@ use Rattle.lq_plain.specs.Plain.{IsPlainProgram}
 use Rattle.lq_scalar.specs.Data.{HasDatatypes}
 use Rattle.lq_scalar.specs.Scalar.{HaveTwins, IsScalarProgram}
 use Rattle.lq_scalar.specs.Uses.{ProgramUsesBefore}
-use Rattle.lq_scalar.specs.Written.{IsWritten}
+use Rattle.lq_scalar.specs.Written.{AreDefinitionsNameless, IsWritten}
 
 -- The templates of a scalar program's points name arguments of functions that are written there alone, and its forms are scalar as they are read.
 abbrev pub TemplatesAreWritten : Type 0
 TemplatesAreWritten =
     (D : Datatypes) (n : Annotation) (is : List ItemTree) → AreNormal is → IsScalarProgram n is
     → let p = program_of n is in IsWritten (basis_of D p.points) p.read
+
+-- The template of a definition that has one of its own names no argument.
+abbrev pub DefinitionsAreNameless : Type 0
+DefinitionsAreNameless =
+    (D : Datatypes) (n : Annotation) (is : List ItemTree) → AreNormal is
+    → let p = program_of n is in AreDefinitionsNameless (basis_of D p.points) p.read
 
 -- Where its forms are scalar and its templates written so, a simply typed program that is ready and in scope, with binders that differ and have
 -- twins, is plain, under instances that speak of what their unknowns may speak of, at its sorts, and over objects that know its measures, where only

@@ -207,3 +207,11 @@ module _ (P : Basis) where
 -- and each use puts scalar types without names for variables
 abbrev pub IsWritten : Basis → Program → Type 0
 IsWritten P p = AreItemsWritten P (HasNamelessArguments P) p
+
+-- the template of a definition that has one of its own names no argument
+abbrev pub AreDefinitionsNameless : Basis → Program → Type 0
+AreDefinitionsNameless P no_items = Unit {0}
+AreDefinitionsNameless P (define x l k b rest) = Where (has_template b) (IsNameless (P.template k)) (Unit {0}) × AreDefinitionsNameless P rest
+AreDefinitionsNameless P (define_recursive g p y b rest) = AreDefinitionsNameless P rest
+AreDefinitionsNameless P (run_unit b rest) = AreDefinitionsNameless P rest
+AreDefinitionsNameless P (run_any b rest) = AreDefinitionsNameless P rest

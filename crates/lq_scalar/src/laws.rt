@@ -2,7 +2,7 @@
 ghost use Rattle.lq_scalar.specs.Example.{ExampleIsScalar};
 ghost use Rattle.lq_scalar.specs.GeneralExample.{GeneralExampleIsScalar};
 ghost use Rattle.lq_scalar.specs.ListExample.{ListExampleIsScalar};
-ghost use Rattle.lq_scalar.specs.Laws.{ScalarNormalFormsArePlain, ScalarProgramsArePlain, TemplatesAreWritten};
+ghost use Rattle.lq_scalar.specs.Laws.{DefinitionsAreNameless, ScalarNormalFormsArePlain, ScalarProgramsArePlain, TemplatesAreWritten};
 
 use lq_checks::simple_types_are_given;
 use lq_in_scope::{scopes_are_of_unknowns, templates_are_in_scope, types_over_names_are_over_them};
@@ -16,6 +16,13 @@ use lq_templates::templates_are_of_their_types;
 /// What is read of a scalar program has scalar forms, and templates that name arguments of functions that are written there alone.
 pub fn templates_are_written()
     ensures { TemplatesAreWritten }
+{
+    templates_are_of_their_types();
+}
+
+/// Where a definition that is read has a template of its own, this names no argument.
+pub fn definitions_are_nameless()
+    ensures { DefinitionsAreNameless }
 {
     templates_are_of_their_types();
 }

@@ -1,0 +1,5 @@
+-- Lemmas.
+mod Forms
+mod Parts
+mod Matrices
+mod Splits

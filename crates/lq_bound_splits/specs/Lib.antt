@@ -1,0 +1,2 @@
+-- Implications of subtypings in scope: definitions and a law.
+pub mod Bound
