@@ -3,11 +3,13 @@
 
 mod applied;
 mod branch;
+mod choosing;
 mod counting;
 mod givens;
 mod laws;
 mod open;
 mod opening;
+mod order;
 mod pair;
 mod pairs;
 mod parts;

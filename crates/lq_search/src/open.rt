@@ -7,6 +7,7 @@ ghost use Rattle.lq_search.specs.Branches.{IsOpenIn};
 ghost use Rattle.lq_search.specs.SearchPath.{AreGiven, IsReady, scope_of};
 ghost use Rattle.lq_search.specs.Splits.{IsDoneOrMet};
 
+use crate::choosing::best_choice;
 use crate::givens::Givens;
 use crate::opening::first_open;
 use crate::search_path::SearchPath;
@@ -18,7 +19,7 @@ pub(crate) enum Open {
     Pair(usize),
 }
 
-/// The first choice, or else the first pair, of which no member was taken and none is known to be met.
+/// A choice, or else the first pair, of which no member was taken and none is known to be met.
 pub(crate) fn next_open(givens: &Givens<'_>, path: &SearchPath<'_>) -> Option<Open>
     requires given { AreGiven (scope_of givens.now) givens.now.pairs.now }
     requires ready { IsReady (scope_of givens.now) givens.now.pairs.now path.now }
@@ -30,8 +31,9 @@ pub(crate) fn next_open(givens: &Givens<'_>, path: &SearchPath<'_>) -> Option<Op
         → All (IsDoneOrMet (row_point path.now.state.rows) p) path.now.pairs.items) }
 {
     let objects = givens.objects.as_set();
-    if let Some(at) = first_open(&path.state, objects, &path.choices) {
-        return Some(Open::Choice(at));
+    if let Some(first) = first_open(&path.state, objects, &path.choices) {
+        let best = best_choice(&path.state, objects, &path.choices, &path.order, first);
+        return Some(Open::Choice(best));
     }
     match first_open(&path.state, objects, &path.pairs) {
         Some(at) => Some(Open::Pair(at)),

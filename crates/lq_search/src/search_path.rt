@@ -6,6 +6,7 @@ ghost use Rattle.lq_pred.specs.Sum.{Sum};
 ghost use Rattle.lq_search.specs.SearchPath.{SetsDone, ways_of};
 
 use crate::counting::Counts;
+use crate::order::Order;
 use crate::pair::Pair;
 use lq_case::PathState;
 use lq_linear::Mark;
@@ -18,6 +19,7 @@ pub struct SearchPath<'a> {
     pub state: PathState,
     pub choices: Vec<Choice<'a>>,
     pub pairs: Vec<Choice<'a>>,
+    pub(crate) order: Order,
 }
 
 impl<'a> SearchPath<'a> {
@@ -43,6 +45,7 @@ impl<'a> SearchPath<'a> {
             state,
             choices: Vec::new(alloc),
             pairs: ways,
+            order: Order::new(alloc),
         })
     }
 

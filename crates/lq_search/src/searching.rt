@@ -14,6 +14,7 @@ ghost use Rattle.lq_search.specs.Splits.{IsOpen};
 ghost use Rattle.lq_search.specs.Stopping.{HandsFrom, ReachesFrom, StopsFrom};
 
 use crate::branch::{Branch, Split, any_tree, apart_tree, branch_of, leaf_around, tree_around};
+use crate::choosing::{forced_choice, is_forced};
 use crate::counting::Counts;
 use crate::givens::Givens;
 use crate::open::{Open, next_open};
@@ -88,6 +89,9 @@ fn search_on<'a>(
         givens.now.pairs.now path.old) }
 {
     path.state.facts_are_few();
+    if let Some(at) = forced_choice(&path.state, &path.choices, path.order.forced()) {
+        return split_choice(alloc, givens, path, at);
+    }
     if let Some(clash) = path.state.check()? {
         return Ok(Some(ProofTree::Leaf(clash)));
     }
@@ -122,10 +126,12 @@ fn split_choice<'a>(
         givens.now.pairs.now path.old) }
 {
     let members = path.choices[at].members;
+    path.order.split(at, is_forced(&path.state, members));
     set_done(&mut path.choices, at, true);
     match refute_each(alloc, givens, path, members)? {
         Some(split) => {
             set_done(&mut path.choices, at, false);
+            path.order.add(at);
             Ok(Some(any_tree(at, split)))
         }
         None => Ok(None),

@@ -109,7 +109,7 @@ pub search-search_on-requires : goal.search-search_on-requires
 search-search_on-requires t c =
     let s = scope_of c.args.givens.now in
     let e = c.in_ok-joints.ensures in
-    let q : SearchPath = record { state = c.equate_all.new.state; choices = c.args.path.now.choices; pairs = c.args.path.now.pairs } in
+    let q : SearchPath = record { state = c.equate_all.new.state; choices = c.args.path.now.choices; pairs = c.args.path.now.pairs; order = c.args.path.now.order } in
     let at = c.decreases in (
       omega (arith, at),
       (
@@ -122,15 +122,15 @@ search-search_on-requires t c =
       ),
     )
 
-pub search_on-returns-in-Some-clause-tree : goal.search_on-returns-in-Some-clause-tree
-search_on-returns-in-Some-clause-tree t c =
+pub search_on-returns-in-Some-2-clause-tree : goal.search_on-returns-in-Some-2-clause-tree
+search_on-returns-in-Some-2-clause-tree t c =
     let s = scope_of c.args.givens.now in
     let n = numbering_by s.terms in
     let p = path_of s c.args.path.now in
     let name = name_in s.objects in
-    let k = clash_of c.in-Some.clash in
-    subst (Proves n p) (sym (leaf_seen c.in-Some.clash))
-    (by_clash p k (subst (λ fs. Clashes fs k) (c.in_ok-clash.ensures.facts name) ((rw c.in-Some.is at c.in_ok-clash.ensures.some) name)))
+    let k = clash_of c.in-Some-2.clash in
+    subst (Proves n p) (sym (leaf_seen c.in-Some-2.clash))
+    (by_clash p k (subst (λ fs. Clashes fs k) (c.in_ok-clash.ensures.facts name) ((rw c.in-Some-2.is at c.in_ok-clash.ensures.some) name)))
 
 pub search_on-returns-in-None-clause-met : goal.search_on-returns-in-None-clause-met
 search_on-returns-in-None-clause-met t c =
@@ -139,16 +139,16 @@ search_on-returns-in-None-clause-met t c =
     let name = name_in s.objects in
     let e = c.in_ok-clash.ensures in
     let p = c.args.path.now in
-    let q : SearchPath = record { state = c.check.new.self; choices = c.args.path.now.choices; pairs = c.args.path.now.pairs } in
+    let q : SearchPath = record { state = c.check.new.self; choices = c.args.path.now.choices; pairs = c.args.path.now.pairs; order = c.args.path.now.order } in
     let back : IsBack p q = record { facts = e.facts; choices_are = refl; pairs_are = refl; limits = e.limits } in
-    let solves = rw c.in_default.is at e.solves in record {
+    let solves = rw c.in_default-2.is at e.solves in record {
       begins = subst (λ x. Begins x (path_of s q)) (path_back s p q back) (begins_itself (path_of s q));
       settled = record {
         ready = ready_back Always s pairs p q c.requires.ready back;
         solved = solves.0;
         solves = solves.1 name;
-        flags = (rw c.in_default.is at e.flags) name;
-        apart = rw c.in_default.is at e.apart;
+        flags = (rw c.in_default-2.is at e.flags) name;
+        apart = rw c.in_default-2.is at e.apart;
         equated = subst (λ about. AreEquated s.objects s.terms about (facts_of s q)) (sym e.objects)
             (subst (AreEquated s.objects s.terms (objects_in p.state)) (sym (e.facts name)) c.requires.equated);
         choices_met = c.in-None.ensures.choices;
@@ -188,7 +188,7 @@ search_with-search-requires t c =
     let r = nnf_view c.args.reading.now in
     let p = c.args.path.now in
     let e = c.in_ok-leaf.ensures in
-    let q : SearchPath = record { state = c.take_parts.new.state; choices = c.add_parts.new.choices; pairs = c.args.path.now.pairs } in
+    let q : SearchPath = record { state = c.take_parts.new.state; choices = c.add_parts.new.choices; pairs = c.args.path.now.pairs; order = c.args.path.now.order } in
     let is : IsTakenFrom s r p q = record {
       parts = c.deref.result.now;
       facts = rw c.in_default-2.is at e.stands;
@@ -211,7 +211,7 @@ search_with-returns-clause-tree t c =
     let r = nnf_view c.args.reading.now in
     let p = c.args.path.now in
     let e = c.in_ok-leaf.ensures in
-    let q : SearchPath = record { state = c.take_parts.new.state; choices = c.add_parts.new.choices; pairs = c.args.path.now.pairs } in
+    let q : SearchPath = record { state = c.take_parts.new.state; choices = c.add_parts.new.choices; pairs = c.args.path.now.pairs; order = c.args.path.now.order } in
     let is : IsTakenFrom s r p q = record {
       parts = c.deref.result.now;
       facts = rw c.in_default-2.is at e.stands;
@@ -230,7 +230,7 @@ search_with-returns-clause-longer t c =
     let r = nnf_view c.args.reading.now in
     let p = c.args.path.now in
     let e = c.in_ok-leaf.ensures in
-    let q : SearchPath = record { state = c.take_parts.new.state; choices = c.add_parts.new.choices; pairs = c.args.path.now.pairs } in
+    let q : SearchPath = record { state = c.take_parts.new.state; choices = c.add_parts.new.choices; pairs = c.args.path.now.pairs; order = c.args.path.now.order } in
     let is : IsTakenFrom s r p q = record {
       parts = c.deref.result.now;
       facts = rw c.in_default-2.is at e.stands;
@@ -249,7 +249,7 @@ search_with-returns-clause-met t c =
     let r = nnf_view c.args.reading.now in
     let p = c.args.path.now in
     let e = c.in_ok-leaf.ensures in
-    let q : SearchPath = record { state = c.take_parts.new.state; choices = c.add_parts.new.choices; pairs = c.args.path.now.pairs } in
+    let q : SearchPath = record { state = c.take_parts.new.state; choices = c.add_parts.new.choices; pairs = c.args.path.now.pairs; order = c.args.path.now.order } in
     let is : IsTakenFrom s r p q = record {
       parts = c.deref.result.now;
       facts = rw c.in_default-2.is at e.stands;
@@ -275,7 +275,7 @@ split_choice-refute_each-requires t c =
     let inside = slice_get_within p.choices.items at open_at.choice open_at.here in
     let here : slice_get p.choices.items at ≡ Some choice = slice_get-get_or p.choices.items at choice inside ∙ ap Some (sym c.index.ensures) in
     let is_open : choice.is_done ≡ false = ap (λ (x : Choice). x.is_done) (same_item p.choices.items at choice open_at.choice here open_at.here) ∙ open_at.open_still in
-    let q : SearchPath = record { state = p.state; choices = c.set_done.new.choices; pairs = p.pairs } in
+    let q : SearchPath = record { state = p.state; choices = c.set_done.new.choices; pairs = p.pairs; order = c.split.new.self } in
     let is : q.choices.items ≡ set p.choices.items at (with_done choice true) = marks p.choices.items c.set_done.new.choices.items at choice here c.set_done.ensures in
     let counted = total-marked p.choices.items at choice here is_open in
     let marked = ap total is in
@@ -312,7 +312,7 @@ split_choice-returns-in-Some-clause-tree t c =
     let open_at = c.requires.is_open in
     let inside = slice_get_within p.choices.items at open_at.choice open_at.here in
     let here : slice_get p.choices.items at ≡ Some choice = slice_get-get_or p.choices.items at choice inside ∙ ap Some (sym c.index.ensures) in
-    let q : SearchPath = record { state = p.state; choices = c.set_done.new.choices; pairs = p.pairs } in
+    let q : SearchPath = record { state = p.state; choices = c.set_done.new.choices; pairs = p.pairs; order = c.split.new.self } in
     let is : q.choices.items ≡ set p.choices.items at (with_done choice true) = marks p.choices.items c.set_done.new.choices.items at choice here c.set_done.ensures in
     c.any_tree.ensures n (path_of s p) (nnfs_view choice.members.now) (members_at p.choices.items at choice here)
     (subst (λ x. SplitProves n x (nnfs_view choice.members.now) c.in-Some.split) (marked_path s p q at choice refl here is) (rw c.in-Some.is at c.in_ok-split.ensures.split))
@@ -344,7 +344,7 @@ split_choice-returns-in-None-clause-met t c =
     let open_at = c.requires.is_open in
     let inside = slice_get_within p.choices.items at open_at.choice open_at.here in
     let here : slice_get p.choices.items at ≡ Some choice = slice_get-get_or p.choices.items at choice inside ∙ ap Some (sym c.index.ensures) in
-    let q : SearchPath = record { state = p.state; choices = c.set_done.new.choices; pairs = p.pairs } in
+    let q : SearchPath = record { state = p.state; choices = c.set_done.new.choices; pairs = p.pairs; order = c.split.new.self } in
     let is : q.choices.items ≡ set p.choices.items at (with_done choice true) = marks p.choices.items c.set_done.new.choices.items at choice here c.set_done.ensures in
     ends_at s c.args.givens.now.pairs.now (path_of s q) (path_of s p) c.refute_each.new.path (marked_path s p q at choice refl here is) (rw c.in-None.is at c.in_ok-split.ensures.met)
 
@@ -360,7 +360,7 @@ split_pair-refute_each-requires t c =
     let choice = open_at.choice in
     let here = open_at.here in
     let pair = c.index-givens-at.result in
-    let q : SearchPath = record { state = p.state; choices = p.choices; pairs = c.set_done.new.choices } in
+    let q : SearchPath = record { state = p.state; choices = p.choices; pairs = c.set_done.new.choices; order = p.order } in
     let is : q.pairs.items ≡ set p.pairs.items at (with_done choice true) = marks p.pairs.items c.set_done.new.choices.items at choice here c.set_done.ensures in
     let ways : nnfs_view choice.members.now ≡ nnfs_view pair.ways = ways_at pairs p.pairs.items at choice pair c.requires.ready.pairs_are here c.index-givens-at.is in
     let counted = total-marked p.pairs.items at choice here open_at.open_still in
@@ -431,7 +431,7 @@ search-returns-in_err-tree-clause-stop t c =
     let s = scope_of c.args.givens.now in
     let p = c.args.path.now in
     let e = c.in_ok-joints.ensures in
-    let q : SearchPath = record { state = c.equate_all.new.state; choices = p.choices; pairs = p.pairs } in
+    let q : SearchPath = record { state = c.equate_all.new.state; choices = p.choices; pairs = p.pairs; order = p.order } in
     let step = step_equated s c.args.givens.now.pairs.now p q (e.adds (name_in s.objects)) refl refl e.limits e.handed in
     rw (r.1, r.2) (stops_step s c.args.givens.now.pairs.now yes p yes q c.in_err-tree.field-0.0 step c.in_err-tree.ensures.stop)
 
@@ -440,7 +440,7 @@ search-returns-in-None-clause-reached t c =
     let s = scope_of c.args.givens.now in
     let p = c.args.path.now in
     let e = c.in_ok-joints.ensures in
-    let q : SearchPath = record { state = c.equate_all.new.state; choices = p.choices; pairs = p.pairs } in
+    let q : SearchPath = record { state = c.equate_all.new.state; choices = p.choices; pairs = p.pairs; order = p.order } in
     let step = step_equated s c.args.givens.now.pairs.now p q (e.adds (name_in s.objects)) refl refl e.limits e.handed in
     reached_step s c.args.givens.now.pairs.now yes p yes q c.search_on.new.path step (rw c.in-None.is at c.in_ok-tree.ensures.reached)
 
@@ -455,7 +455,7 @@ pub search_on-returns-in-None-clause-reached : goal.search_on-returns-in-None-cl
 search_on-returns-in-None-clause-reached t c =
     let s = scope_of c.args.givens.now in
     let p = c.args.path.now in
-    let q : SearchPath = record { state = c.check.new.self; choices = p.choices; pairs = p.pairs } in
+    let q : SearchPath = record { state = c.check.new.self; choices = p.choices; pairs = p.pairs; order = p.order } in
     checked_reaches s c.args.givens.now.pairs.now p q (c.in_ok-clash.ensures.facts (name_in s.objects)) (c.check.ensures.handed (name_in s.objects))
 
 pub refute_each-returns-in_err-refute_with-clause-stop : goal.refute_each-returns-in_err-refute_with-clause-stop
@@ -497,7 +497,7 @@ search_with-returns-clause-reached t c =
     let r = nnf_view c.args.reading.now in
     let p = c.args.path.now in
     let e = c.in_ok-leaf.ensures in
-    let q : SearchPath = record { state = c.take_parts.new.state; choices = c.add_parts.new.choices; pairs = c.args.path.now.pairs } in
+    let q : SearchPath = record { state = c.take_parts.new.state; choices = c.add_parts.new.choices; pairs = c.args.path.now.pairs; order = c.args.path.now.order } in
     let is : IsTakenFrom s r p q = record {
       parts = c.deref.result.now;
       facts = rw c.in_default-2.is at e.stands;
@@ -517,7 +517,7 @@ search_with-returns-clause-stop t c =
     let r = nnf_view c.args.reading.now in
     let p = c.args.path.now in
     let e = c.in_ok-leaf.ensures in
-    let q : SearchPath = record { state = c.take_parts.new.state; choices = c.add_parts.new.choices; pairs = c.args.path.now.pairs } in
+    let q : SearchPath = record { state = c.take_parts.new.state; choices = c.add_parts.new.choices; pairs = c.args.path.now.pairs; order = c.args.path.now.order } in
     let is : IsTakenFrom s r p q = record {
       parts = c.deref.result.now;
       facts = rw c.in_default-2.is at e.stands;
@@ -550,7 +550,7 @@ split_choice-returns-in_err-split-clause-stop t c =
     let inside = slice_get_within p.choices.items at open_at.choice open_at.here in
     let here : slice_get p.choices.items at ≡ Some choice = slice_get-get_or p.choices.items at choice inside ∙ ap Some (sym c.index.ensures) in
     let is_open : choice.is_done ≡ false = ap (λ (x : Choice). x.is_done) (same_item p.choices.items at choice open_at.choice here open_at.here) ∙ open_at.open_still in
-    let q : SearchPath = record { state = p.state; choices = c.set_done.new.choices; pairs = p.pairs } in
+    let q : SearchPath = record { state = p.state; choices = c.set_done.new.choices; pairs = p.pairs; order = c.split.new.self } in
     let is : q.choices.items ≡ set p.choices.items at (with_done choice true) = marks p.choices.items c.set_done.new.choices.items at choice here c.set_done.ensures in
     rw (r.1, r.2) (stops_step s pairs yes p (any_of (nnfs_view choice.members.now)) q c.in_err-split.field-0.0 (step_marked s pairs p q at choice refl here is_open is refl) c.in_err-split.ensures.stop)
 
@@ -565,7 +565,7 @@ split_choice-returns-in-None-clause-reached t c =
     let inside = slice_get_within p.choices.items at open_at.choice open_at.here in
     let here : slice_get p.choices.items at ≡ Some choice = slice_get-get_or p.choices.items at choice inside ∙ ap Some (sym c.index.ensures) in
     let is_open : choice.is_done ≡ false = ap (λ (x : Choice). x.is_done) (same_item p.choices.items at choice open_at.choice here open_at.here) ∙ open_at.open_still in
-    let q : SearchPath = record { state = p.state; choices = c.set_done.new.choices; pairs = p.pairs } in
+    let q : SearchPath = record { state = p.state; choices = c.set_done.new.choices; pairs = p.pairs; order = c.split.new.self } in
     let is : q.choices.items ≡ set p.choices.items at (with_done choice true) = marks p.choices.items c.set_done.new.choices.items at choice here c.set_done.ensures in
     reached_step s pairs yes p (any_of (nnfs_view choice.members.now)) q c.refute_each.new.path (step_marked s pairs p q at choice refl here is_open is refl) (rw c.in-None.is at c.in_ok-split.ensures.reached)
 
@@ -580,7 +580,7 @@ split_pair-returns-in_err-split-clause-stop t c =
     let choice = open_at.choice in
     let here = open_at.here in
     let pair = c.index-givens-at.result in
-    let q : SearchPath = record { state = p.state; choices = p.choices; pairs = c.set_done.new.choices } in
+    let q : SearchPath = record { state = p.state; choices = p.choices; pairs = c.set_done.new.choices; order = p.order } in
     let is : q.pairs.items ≡ set p.pairs.items at (with_done choice true) = marks p.pairs.items c.set_done.new.choices.items at choice here c.set_done.ensures in
     let members = nnfs_view (get_or pairs at pair).ways in
     let ways : nnfs_view choice.members.now ≡ members = ways_at pairs p.pairs.items at choice pair c.requires.ready.pairs_are here c.index-givens-at.is ∙ ap (λ (x : Pair). nnfs_view x.ways) c.index-givens-at.is in
@@ -597,7 +597,7 @@ split_pair-returns-in-None-clause-reached t c =
     let choice = open_at.choice in
     let here = open_at.here in
     let pair = c.index-givens-at.result in
-    let q : SearchPath = record { state = p.state; choices = p.choices; pairs = c.set_done.new.choices } in
+    let q : SearchPath = record { state = p.state; choices = p.choices; pairs = c.set_done.new.choices; order = p.order } in
     let is : q.pairs.items ≡ set p.pairs.items at (with_done choice true) = marks p.pairs.items c.set_done.new.choices.items at choice here c.set_done.ensures in
     let members = nnfs_view (get_or pairs at pair).ways in
     let ways : nnfs_view choice.members.now ≡ members = ways_at pairs p.pairs.items at choice pair c.requires.ready.pairs_are here c.index-givens-at.is ∙ ap (λ (x : Pair). nnfs_view x.ways) c.index-givens-at.is in
@@ -610,11 +610,11 @@ pub search-returns-in-Some-clause-handed : goal.search-returns-in-Some-clause-ha
 search-returns-in-Some-clause-handed t c =
     hands_same yes (scope_of c.args.givens.now) c.args.givens.now.pairs.now c.args.path.now c.back_to.new.self (λ ever h. c.back_to.ensures.handed ever (c.equate_all.ensures.handed ever h))
 
-pub search_on-returns-in-Some-clause-handed : goal.search_on-returns-in-Some-clause-handed
-search_on-returns-in-Some-clause-handed t c =
+pub search_on-returns-in-Some-2-clause-handed : goal.search_on-returns-in-Some-2-clause-handed
+search_on-returns-in-Some-2-clause-handed t c =
     let s = scope_of c.args.givens.now in
     let p = c.args.path.now in
-    let q : SearchPath = record { state = c.check.new.self; choices = p.choices; pairs = p.pairs } in
+    let q : SearchPath = record { state = c.check.new.self; choices = p.choices; pairs = p.pairs; order = p.order } in
     check_hands s c.args.givens.now.pairs.now p q (c.check.ensures.handed (name_in s.objects))
 
 pub refute_each-returns-in-Some-Whole-clause-handed : goal.refute_each-returns-in-Some-Whole-clause-handed
@@ -634,7 +634,7 @@ refute_with-returns-in_ok-branch_of-in-Some-clause-handed t c =
 
 pub search_with-returns-in-Some-clause-handed : goal.search_with-returns-in-Some-clause-handed
 search_with-returns-in-Some-clause-handed t c =
-    let q : SearchPath = record { state = c.take_parts.new.state; choices = c.add_parts.new.choices; pairs = c.args.path.now.pairs } in
+    let q : SearchPath = record { state = c.take_parts.new.state; choices = c.add_parts.new.choices; pairs = c.args.path.now.pairs; order = c.args.path.now.order } in
     hands_same (nnf_view c.args.reading.now) (scope_of c.args.givens.now) c.args.givens.now.pairs.now c.args.path.now q c.take_parts.ensures.handed
 
 pub search_with-returns-clause-handed : goal.search_with-returns-clause-handed
@@ -643,7 +643,7 @@ search_with-returns-clause-handed t c =
     let r = nnf_view c.args.reading.now in
     let p = c.args.path.now in
     let e = c.in_ok-leaf.ensures in
-    let q : SearchPath = record { state = c.take_parts.new.state; choices = c.add_parts.new.choices; pairs = c.args.path.now.pairs } in
+    let q : SearchPath = record { state = c.take_parts.new.state; choices = c.add_parts.new.choices; pairs = c.args.path.now.pairs; order = c.args.path.now.order } in
     let is : IsTakenFrom s r p q = record {
       parts = c.deref.result.now;
       facts = rw c.in_default-2.is at e.stands;
@@ -668,7 +668,7 @@ split_choice-returns-in-Some-clause-handed t c =
     let inside = slice_get_within p.choices.items at open_at.choice open_at.here in
     let here : slice_get p.choices.items at ≡ Some choice = slice_get-get_or p.choices.items at choice inside ∙ ap Some (sym c.index.ensures) in
     let is_open : choice.is_done ≡ false = ap (λ (x : Choice). x.is_done) (same_item p.choices.items at choice open_at.choice here open_at.here) ∙ open_at.open_still in
-    let q : SearchPath = record { state = p.state; choices = c.set_done.new.choices; pairs = p.pairs } in
+    let q : SearchPath = record { state = p.state; choices = c.set_done.new.choices; pairs = p.pairs; order = c.split.new.self } in
     let is : q.choices.items ≡ set p.choices.items at (with_done choice true) = marks p.choices.items c.set_done.new.choices.items at choice here c.set_done.ensures in
     hands_step s pairs yes p (any_of (nnfs_view choice.members.now)) q c.refute_each.new.path (step_marked s pairs p q at choice refl here is_open is refl) (rw c.in-Some.is at c.in_ok-split.ensures.handed)
 
@@ -682,7 +682,7 @@ split_pair-returns-in-Some-clause-handed t c =
     let choice = open_at.choice in
     let here = open_at.here in
     let pair = c.index-givens-at.result in
-    let q : SearchPath = record { state = p.state; choices = p.choices; pairs = c.set_done.new.choices } in
+    let q : SearchPath = record { state = p.state; choices = p.choices; pairs = c.set_done.new.choices; order = p.order } in
     let is : q.pairs.items ≡ set p.pairs.items at (with_done choice true) = marks p.pairs.items c.set_done.new.choices.items at choice here c.set_done.ensures in
     let members = nnfs_view (get_or pairs at pair).ways in
     let ways : nnfs_view choice.members.now ≡ members = ways_at pairs p.pairs.items at choice pair c.requires.ready.pairs_are here c.index-givens-at.is ∙ ap (λ (x : Pair). nnfs_view x.ways) c.index-givens-at.is in
@@ -695,7 +695,7 @@ search-returns-in_ok-tree_around-in-Some-2-clause-handed t c =
     let pairs = c.args.givens.now.pairs.now in
     let p = c.args.path.now in
     let e = c.in_ok-joints.ensures in
-    let q : SearchPath = record { state = c.equate_all.new.state; choices = p.choices; pairs = p.pairs } in
+    let q : SearchPath = record { state = c.equate_all.new.state; choices = p.choices; pairs = p.pairs; order = p.order } in
     let step = step_equated s pairs p q (e.adds (name_in s.objects)) refl refl e.limits c.equate_all.ensures.handed in
     hands_more yes s pairs p c.search_on.new.path c.back_to-in-Some-2.new.self
     (hands_step s pairs yes p yes q c.search_on.new.path step (rw c.in-Some-2.is at c.in_ok-tree.ensures.handed)) c.back_to-in-Some-2.ensures.handed
@@ -708,9 +708,9 @@ search_on-returns-in-Some-Choice-clause-handed t c =
     let pairs = c.args.givens.now.pairs.now in
     let p = c.args.path.now in
     let e = c.in_ok-clash.ensures in
-    let q : SearchPath = record { state = c.check.new.self; choices = p.choices; pairs = p.pairs } in
+    let q : SearchPath = record { state = c.check.new.self; choices = p.choices; pairs = p.pairs; order = p.order } in
     let back : IsBack p q = record { facts = e.facts; choices_are = refl; pairs_are = refl; limits = e.limits } in
-    if_ok_some c.split_choice.result (λ h. hands_step s pairs yes p yes q c.split_choice.new.path (step_checked s pairs p q back (c.check.ensures.handed (name_in s.objects))) h) c.split_choice.ensures.handed
+    if_ok_some c.split_choice-in-Some-Choice.result (λ h. hands_step s pairs yes p yes q c.split_choice-in-Some-Choice.new.path (step_checked s pairs p q back (c.check.ensures.handed (name_in s.objects))) h) c.split_choice-in-Some-Choice.ensures.handed
 
 pub search_on-returns-in-Some-Choice-clause-stop : goal.search_on-returns-in-Some-Choice-clause-stop
 search_on-returns-in-Some-Choice-clause-stop t c =
@@ -718,9 +718,9 @@ search_on-returns-in-Some-Choice-clause-stop t c =
     let pairs = c.args.givens.now.pairs.now in
     let p = c.args.path.now in
     let e = c.in_ok-clash.ensures in
-    let q : SearchPath = record { state = c.check.new.self; choices = p.choices; pairs = p.pairs } in
+    let q : SearchPath = record { state = c.check.new.self; choices = p.choices; pairs = p.pairs; order = p.order } in
     let back : IsBack p q = record { facts = e.facts; choices_are = refl; pairs_are = refl; limits = e.limits } in
-    if_err_more c.split_choice.result (λ stop h. stops_step s pairs yes p yes q stop (step_checked s pairs p q back (c.check.ensures.handed (name_in s.objects))) h) c.split_choice.ensures.stop
+    if_err_more c.split_choice-in-Some-Choice.result (λ stop h. stops_step s pairs yes p yes q stop (step_checked s pairs p q back (c.check.ensures.handed (name_in s.objects))) h) c.split_choice-in-Some-Choice.ensures.stop
 
 pub search_on-returns-in-Some-Pair-clause-handed : goal.search_on-returns-in-Some-Pair-clause-handed
 search_on-returns-in-Some-Pair-clause-handed t c =
@@ -728,7 +728,7 @@ search_on-returns-in-Some-Pair-clause-handed t c =
     let pairs = c.args.givens.now.pairs.now in
     let p = c.args.path.now in
     let e = c.in_ok-clash.ensures in
-    let q : SearchPath = record { state = c.check.new.self; choices = p.choices; pairs = p.pairs } in
+    let q : SearchPath = record { state = c.check.new.self; choices = p.choices; pairs = p.pairs; order = p.order } in
     let back : IsBack p q = record { facts = e.facts; choices_are = refl; pairs_are = refl; limits = e.limits } in
     if_ok_some c.split_pair.result (λ h. hands_step s pairs yes p yes q c.split_pair.new.path (step_checked s pairs p q back (c.check.ensures.handed (name_in s.objects))) h) c.split_pair.ensures.handed
 
@@ -738,7 +738,7 @@ search_on-returns-in-Some-Pair-clause-stop t c =
     let pairs = c.args.givens.now.pairs.now in
     let p = c.args.path.now in
     let e = c.in_ok-clash.ensures in
-    let q : SearchPath = record { state = c.check.new.self; choices = p.choices; pairs = p.pairs } in
+    let q : SearchPath = record { state = c.check.new.self; choices = p.choices; pairs = p.pairs; order = p.order } in
     let back : IsBack p q = record { facts = e.facts; choices_are = refl; pairs_are = refl; limits = e.limits } in
     if_err_more c.split_pair.result (λ stop h. stops_step s pairs yes p yes q stop (step_checked s pairs p q back (c.check.ensures.handed (name_in s.objects))) h) c.split_pair.ensures.stop
 
@@ -748,9 +748,9 @@ search_on-returns-in-Some-Choice-clause-reached t c =
     let pairs = c.args.givens.now.pairs.now in
     let p = c.args.path.now in
     let e = c.in_ok-clash.ensures in
-    let q : SearchPath = record { state = c.check.new.self; choices = p.choices; pairs = p.pairs } in
+    let q : SearchPath = record { state = c.check.new.self; choices = p.choices; pairs = p.pairs; order = p.order } in
     let back : IsBack p q = record { facts = e.facts; choices_are = refl; pairs_are = refl; limits = e.limits } in
-    if_ok_none c.split_choice.result (λ h. reached_step s pairs yes p yes q c.split_choice.new.path (step_checked s pairs p q back (c.check.ensures.handed (name_in s.objects))) h) c.split_choice.ensures.reached
+    if_ok_none c.split_choice-in-Some-Choice.result (λ h. reached_step s pairs yes p yes q c.split_choice-in-Some-Choice.new.path (step_checked s pairs p q back (c.check.ensures.handed (name_in s.objects))) h) c.split_choice-in-Some-Choice.ensures.reached
 
 pub search_on-returns-in-Some-Pair-clause-reached : goal.search_on-returns-in-Some-Pair-clause-reached
 search_on-returns-in-Some-Pair-clause-reached t c =
@@ -758,6 +758,6 @@ search_on-returns-in-Some-Pair-clause-reached t c =
     let pairs = c.args.givens.now.pairs.now in
     let p = c.args.path.now in
     let e = c.in_ok-clash.ensures in
-    let q : SearchPath = record { state = c.check.new.self; choices = p.choices; pairs = p.pairs } in
+    let q : SearchPath = record { state = c.check.new.self; choices = p.choices; pairs = p.pairs; order = p.order } in
     let back : IsBack p q = record { facts = e.facts; choices_are = refl; pairs_are = refl; limits = e.limits } in
     if_ok_none c.split_pair.result (λ h. reached_step s pairs yes p yes q c.split_pair.new.path (step_checked s pairs p q back (c.check.ensures.handed (name_in s.objects))) h) c.split_pair.ensures.reached

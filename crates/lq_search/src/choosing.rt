@@ -1,0 +1,190 @@
+// Which of the open choices is split.
+ghost use Rattle.std.specs.Prelude.{◌≡◌, ◌<◌, All, IfSome, IsTrue, map, length, true};
+ghost use Rattle.lq_case.specs.RowState.{is_solved, terms_of};
+ghost use Rattle.lq_path.specs.Readings.{AreOver};
+ghost use Rattle.lq_pred.specs.NnfView.{nnfs_view};
+ghost use Rattle.lq_pred.specs.TermView.{sum_of};
+ghost use Rattle.lq_search.specs.Splits.{IsOpen};
+
+use crate::order::Order;
+use indexmap::IndexSet;
+use lq_case::PathState;
+use lq_path::{Choice, meets_any};
+use lq_pred::{Nnf, Nnfs, Term};
+
+/// Whether a literal never holds, or says of a flag the opposite of what facts say.
+fn is_refuted(state: &PathState, literal: &Nnf) -> bool {
+    match literal {
+        Nnf::No => true,
+        Nnf::Flag(flag, value) => match state.flag(*flag) {
+            Some(given) => given.value != *value,
+            None => false,
+        },
+        Nnf::Yes | Nnf::Row(_) | Nnf::Same(_, _, _) | Nnf::All(_) | Nnf::Any(_) => false,
+    }
+}
+
+/// Whether one of some literals is refuted.
+fn has_refuted(state: &PathState, literals: &Nnfs) -> bool {
+    for literal in literals.as_slice() {
+        if is_refuted(state, literal) {
+            return true;
+        }
+    }
+    false
+}
+
+/// Whether a member, or a part of it, is refuted.
+fn is_dead(state: &PathState, member: &Nnf) -> bool {
+    match member {
+        Nnf::All(all) => has_refuted(state, all),
+        Nnf::Yes | Nnf::No | Nnf::Row(_) | Nnf::Flag(_, _) | Nnf::Same(_, _, _) | Nnf::Any(_) => {
+            is_refuted(state, member)
+        }
+    }
+}
+
+/// Whether a member is a flag as facts say it, or always holds.
+fn is_known(state: &PathState, member: &Nnf) -> bool {
+    match member {
+        Nnf::Yes => true,
+        Nnf::Flag(flag, value) => match state.flag(*flag) {
+            Some(given) => given.value == *value,
+            None => false,
+        },
+        Nnf::No | Nnf::Row(_) | Nnf::Same(_, _, _) | Nnf::All(_) | Nnf::Any(_) => false,
+    }
+}
+
+/// Whether at most one member isn't dead, and none is known.
+pub(crate) fn is_forced(state: &PathState, members: &Nnfs) -> bool {
+    let mut alive = false;
+    for member in members.as_slice() {
+        if is_known(state, member) {
+            return false;
+        }
+        if !is_dead(state, member) {
+            if alive {
+                return false;
+            }
+            alive = true;
+        }
+    }
+    true
+}
+
+/// How many members aren't dead.
+fn count_alive(state: &PathState, members: &Nnfs) -> usize {
+    let mut count: usize = 0;
+    for member in members.as_slice() {
+        if !is_dead(state, member) {
+            count = count.saturating_add(1);
+        }
+    }
+    count
+}
+
+/// Whether no member of a choice was taken.
+fn is_open(choices: &[Choice<'_>], at: usize) -> bool
+    requires { at < length choices.now }
+    ensures { IsTrue result → IsOpen choices.now at }
+{
+    !choices[at].is_done
+}
+
+/// A choice of which no member was taken and at most one isn't dead: the first one at or behind a place, or else before it.
+pub(crate) fn forced_choice(
+    state: &PathState,
+    choices: &[Choice<'_>],
+    start: usize,
+) -> Option<usize>
+    ensures { IfSome result (IsOpen choices.now) }
+{
+    for at in start..choices.len() {
+        if is_open(choices, at) && is_forced(state, choices[at].members) {
+            return Some(at);
+        }
+    }
+    for at in 0..start.min(choices.len()) {
+        if is_open(choices, at) && is_forced(state, choices[at].members) {
+            return Some(at);
+        }
+    }
+    None
+}
+
+/// An open choice with what speaks for it.
+#[derive(Clone, Copy)]
+struct Ranked {
+    at: usize,
+    alive: usize,
+    weight: u64,
+}
+
+/// How a choice ranks.
+fn rank_of(state: &PathState, choices: &[Choice<'_>], order: &Order, at: usize) -> Ranked
+    requires { at < length choices.now }
+    ensures { result.at ≡ at }
+{
+    Ranked {
+        at,
+        alive: count_alive(state, choices[at].members),
+        weight: order.weight(at),
+    }
+}
+
+/// Whether one comes before another: fewer of its members aren't dead, or as many and it is heavier.
+fn is_before(one: Ranked, other: Ranked) -> bool {
+    one.alive < other.alive || one.alive == other.alive && one.weight > other.weight
+}
+
+/// The choice at a place where it is neither done nor met and comes before another one, which is open.
+fn better(
+    state: &PathState,
+    objects: &IndexSet<Term>,
+    choices: &[Choice<'_>],
+    order: &Order,
+    best: Ranked,
+    at: usize,
+) -> Ranked
+    requires solved { is_solved state.now.rows ≡ true }
+    requires over { All (λ c. AreOver (terms_of state.now.rows) (map sum_of objects.now.keys) (nnfs_view c.members.now))
+        choices.now }
+    requires count { state.now.objects.count ≡ length objects.now.keys }
+    requires is_open { IsOpen choices.now best.at }
+    requires within { at < length choices.now }
+    ensures { IsOpen choices.now result.at }
+{
+    if !is_open(choices, at) {
+        return best;
+    }
+    let other = rank_of(state, choices, order, at);
+    if !is_before(other, best) || meets_any(state, objects, choices[at].members) {
+        return best;
+    }
+    other
+}
+
+/// Of an open choice and those behind it that aren't done or met: the first one of the heaviest of those with the fewest members that
+/// aren't dead.
+pub(crate) fn best_choice(
+    state: &PathState,
+    objects: &IndexSet<Term>,
+    choices: &[Choice<'_>],
+    order: &Order,
+    first: usize,
+) -> usize
+    requires solved { is_solved state.now.rows ≡ true }
+    requires over { All (λ c. AreOver (terms_of state.now.rows) (map sum_of objects.now.keys) (nnfs_view c.members.now))
+        choices.now }
+    requires count { state.now.objects.count ≡ length objects.now.keys }
+    requires is_open { IsOpen choices.now first }
+    requires within { first < length choices.now }
+    ensures { IsOpen choices.now result }
+{
+    let mut best = rank_of(state, choices, order, first);
+    for at in first + 1..choices.len() {
+        best = better(state, objects, choices, order, best, at);
+    }
+    best.at
+}
