@@ -7,4 +7,5 @@ pub mod Placing
 pub mod Rooms
 pub mod Rows
 pub mod Trails
+pub mod Fallen
 pub mod Graphing

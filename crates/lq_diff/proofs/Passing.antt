@@ -14,7 +14,7 @@ use Rattle.lq_diff.specs.declared.arc.Arc.{Arc}
 use Rattle.lq_diff.specs.declared.vertex.Vertex.{Vertex}
 use Rattle.lq_diff.specs.Arcs.{Potentials, ArcHolds, Meets}
 use Rattle.lq_diff.specs.Links.{IsLatest}
-use Rattle.lq_diff.specs.Passes.{blank, vertex_at, AtRest, IsListed, AreListed, values, nexts, IsCaused, IsPass, IsLeast, NoneFalls, Falls, IsSized, IsNext, order_at, IsNarrow, IsStuck, IsClosing}
+use Rattle.lq_diff.specs.Passes.{blank, vertex_at, AtRest, values, nexts, IsCaused, IsPass, IsLeast, NoneFalls, Falls, IsSized, IsNext, order_at, IsNarrow, IsStuck, IsClosing}
 use Rattle.std.proofs.Common.{FitsSigned, ◌^◌}
 use Rattle.std.specs.Int.{w128}
 use Rattle.lq_diff.proofs.Numbers.{large_offer}
@@ -585,124 +585,6 @@ next_before arcs p q s e h = record {
   fell = λ t. subst (λ x. s t ≤ℤ x) (e t) (h.fell t);
   most = λ r m l. h.most r m (λ t. subst (λ x. r t ≤ℤ x) (sym (e t)) (l t));
 }
-
--- ---- the list of those that fell
-
-pub listed_at : (fallen : List ℕ) (v : ℕ) → IsListed fallen v → (i : ℕ) × (i < length fallen) × (get_or fallen i 0 ≡ v)
-listed_at fallen v l = (l.0, slice_get_within fallen l.0 v l.1, get_or_from_slice_get fallen l.0 v 0 l.1)
-
--- what bounds the falls of those that are listed bounds all
-pub all_falls : (fallen : List ℕ) (s : ℕ → Vertex) (order : ℕ → ℕ) (low : ℤ) → AreListed fallen s order → low ≤ℤ pos 0
-    → ((i : ℕ) → i < length fallen → order (get_or fallen i 0) ≡ 0 → (low +ℤ values s (get_or fallen i 0)) ≤ℤ nexts s (get_or fallen i 0))
-    → (t : ℕ) → order t ≡ 0 → (low +ℤ values s t) ≤ℤ nexts s t
-all_falls fallen s order low listed h below t z = elim (listed t) [
-  | inl l ↦ let a = listed_at fallen t l in
-      subst (λ w. order w ≡ 0 → (low +ℤ values s w) ≤ℤ nexts s w) a.2 (below a.0 a.1) z
-  | inr r ↦ glue low (nexts s t) (values s t) r.0 h
-]
-  where
-    glue : (l n v : ℤ) → n ≡ v → l ≤ℤ pos 0 → (l +ℤ v) ≤ℤ n
-    glue l n v e h = omega (arith, ints)
-
-pub none_falls : (fallen : List ℕ) (s : ℕ → Vertex) (order : ℕ → ℕ) (low : ℤ) → AreListed fallen s order → low ≤ℤ pos 0 → pos 0 ≤ℤ low
-    → ((i : ℕ) → i < length fallen → order (get_or fallen i 0) ≡ 0 → (low +ℤ values s (get_or fallen i 0)) ≤ℤ nexts s (get_or fallen i 0))
-    → NoneFalls s order
-none_falls fallen s order low listed h g below t z = glue low (nexts s t) (values s t) g (all_falls fallen s order low listed h below t z)
-  where
-    glue : (l n v : ℤ) → pos 0 ≤ℤ l → (l +ℤ v) ≤ℤ n → v ≤ℤ n
-    glue l n v e h = omega (arith, ints)
-
-pub least_falls : (fallen : List ℕ) (s : ℕ → Vertex) (order : ℕ → ℕ) (low : ℤ) (v : ℕ) → AreListed fallen s order → low <ℤ pos 0
-    → ((i : ℕ) → i < length fallen → order (get_or fallen i 0) ≡ 0 → (low +ℤ values s (get_or fallen i 0)) ≤ℤ nexts s (get_or fallen i 0))
-    → order v ≡ 0 → low +ℤ values s v ≡ nexts s v → IsLeast s order v
-least_falls fallen s order low v listed neg below z e = record {
-  unsettled = z;
-  falls = falls low (nexts s v) (values s v) neg e;
-  least = λ t o. glue low (nexts s v) (values s v) (nexts s t) (values s t) e (all_falls fallen s order low listed (weak low neg) below t o);
-}
-  where
-    weak : (l : ℤ) → l <ℤ pos 0 → l ≤ℤ pos 0
-    weak l h = omega (arith, ints)
-
-    falls : (l n v : ℤ) → l <ℤ pos 0 → l +ℤ v ≡ n → n <ℤ v
-    falls l n v h e = omega (arith, ints)
-
-    glue : (l n v m w : ℤ) → l +ℤ v ≡ n → (l +ℤ w) ≤ℤ m → (n +ℤ w) ≤ℤ (m +ℤ v)
-    glue l n v m w e h = omega (arith, ints)
-
-listed_on : (fallen later : List ℕ) (s t : ℕ → Vertex) (order : ℕ → ℕ) (v : ℕ) → AreListed fallen s order → ((u : ℕ) → IsListed fallen u → IsListed later u) → IsListed later v
-    → ((u : ℕ) → u ≢ v → t u ≡ s u) → AreListed later t order
-listed_on fallen later s t order v listed more here others u =
-    same_or u v
-    (λ e. inl (subst (λ w. IsListed later w) (sym e) here))
-    (λ n. elim (listed u) [
-      | inl l ↦ inl (more u l)
-      | inr r ↦ inr (subst (λ (x : Vertex). x.next ≡ x.kept.value) (sym (others u n)) r.0, r.1)
-    ])
-
--- one that falls is put at the end of the list
-pub listed_pushed : (fallen later : List ℕ) (s t : ℕ → Vertex) (order : ℕ → ℕ) (v : ℕ) → AreListed fallen s order → later ≡ fallen ++ v ∷ []
-    → ((u : ℕ) → u ≢ v → t u ≡ s u) → AreListed later t order
-listed_pushed fallen later s t order v listed e others =
-    listed_on fallen later s t order v listed
-    (λ u l. (l.0, ap (λ xs. slice_get xs l.0) e ∙ at_front fallen v l.0 u l.1))
-    (length fallen, ap (λ xs. slice_get xs (length fallen)) e ∙ at_end fallen v) others
-
--- one that fell before is listed
-pub listed_kept : (fallen : List ℕ) (s t : ℕ → Vertex) (order : ℕ → ℕ) (v : ℕ) → AreListed fallen s order → nexts s v ≢ values s v
-    → ((u : ℕ) → u ≢ v → t u ≡ s u) → AreListed fallen t order
-listed_kept fallen s t order v listed apart others =
-    listed_on fallen fallen s t order v listed (λ u l. l) (elim (listed v) [ inl l ↦ l | inr r ↦ absurd (apart r.0) ]) others
-
-pub listed_settled : (fallen : List ℕ) (s : ℕ → Vertex) (order later : ℕ → ℕ) (v count : ℕ) → AreListed fallen s order → IsLeast s order v → Settles order later v count → AreListed fallen s later
-listed_settled fallen s order later v count listed least set t =
-    same_or t v
-    (λ e. elim (listed v) [ inl l ↦ inl (subst (λ w. IsListed fallen w) (sym e) l) | inr r ↦ absurd (glue (nexts s v) (values s v) r.0 least.falls) ])
-    (λ n. elim (listed t) [ inl l ↦ inl l | inr r ↦ inr (r.0, set.others t n ∙ r.1) ])
-  where
-    glue : (n v : ℤ) → n ≡ v → n <ℤ v → ⊥
-    glue n v e l = omega (arith, ints)
-
--- those that are at rest again, and those that are still listed
-abbrev pub RestsOrWaits : List ℕ → (ℕ → Vertex) → (ℕ → ℕ) → ℕ → Type 0
-RestsOrWaits fallen s order from = (v : ℕ) → AtRest s order v ⊎ ((i : ℕ) × (from ≤ i) × (slice_get fallen i ≡ Some v))
-
-pub rests_at_first : (fallen : List ℕ) (s : ℕ → Vertex) (order : ℕ → ℕ) → AreListed fallen s order → RestsOrWaits fallen s order 0
-rests_at_first fallen s order listed v = elim (listed v) [ inl l ↦ inr (l.0, omega arith, l.1) | inr r ↦ inl r ]
-
-pub rests_more : (fallen : List ℕ) (s t : ℕ → Vertex) (order later : ℕ → ℕ) (k x : ℕ) → k < length fallen → get_or fallen k 0 ≡ x → RestsOrWaits fallen s order k → AtRest t later x
-    → ((u : ℕ) → u ≢ x → t u ≡ s u) → ((u : ℕ) → u ≢ x → later u ≡ order u) → RestsOrWaits fallen t later (k + 1)
-rests_more fallen s t order later k x h is before here others orders v =
-    same_or v x
-    (λ e. inl (subst (λ w. AtRest t later w) (sym e) here))
-    (λ n. elim (before v) [
-      | inl r ↦ inl (subst (λ (y : Vertex). y.next ≡ y.kept.value) (sym (others v n)) r.0, orders v n ∙ r.1)
-      | inr w ↦ elim (cases_lt k w.0) [
-        | inl l ↦ inr (w.0, omega arith, w.2)
-        | inr l ↦ let e : w.0 ≡ k = (let m = w.1 in omega arith) in
-            absurd (n (sym (get_or_from_slice_get fallen w.0 v 0 w.2) ∙ ap (λ j. get_or fallen j 0) e ∙ is))
-      ]
-    ])
-
-pub rests_at_last : (fallen : List ℕ) (s : ℕ → Vertex) (order : ℕ → ℕ) (k : ℕ) → length fallen ≤ k → RestsOrWaits fallen s order k → (v : ℕ) → AtRest s order v
-rests_at_last fallen s order k h r v = elim (r v) [ inl a ↦ a | inr w ↦ absurd (let l = slice_get_within fallen w.0 v w.2 in let m = w.1 in omega arith) ]
-
--- the offers to those that are listed were accepted
-pub accepted : (fallen : List ℕ) (s t : ℕ → Vertex) (order : ℕ → ℕ) → AreListed fallen s order → ((v : ℕ) → IsListed fallen v → values t v ≡ nexts s v)
-    → ((v : ℕ) → IsListed fallen v ⊎ (t v ≡ s v)) → (v : ℕ) → values t v ≡ nexts s v
-accepted fallen s t order listed here others v = elim (listed v) [
-  | inl l ↦ here v l
-  | inr r ↦ elim (others v) [ inl l ↦ here v l | inr e ↦ ap (λ (x : Vertex). x.kept.value) e ∙ sym r.0 ]
-]
-
-pub accepted_listed : (fallen : List ℕ) (s t : ℕ → Vertex) (order : ℕ → ℕ) → AreListed fallen s order → ((v : ℕ) → IsListed fallen v ⊎ (t v ≡ s v)) → AreListed fallen t order
-accepted_listed fallen s t order listed others v = elim (listed v) [
-  | inl l ↦ inl l
-  | inr r ↦ elim (others v) [ inl l ↦ inl l | inr e ↦ inr (subst (λ (x : Vertex). x.next ≡ x.kept.value) (sym e) r.0, r.1) ]
-]
-
-pub listed_none : (fallen : List ℕ) (s : ℕ → Vertex) (order : ℕ → ℕ) → ((v : ℕ) → AtRest s order v) → AreListed fallen s order
-listed_none fallen s order h v = inr (h v)
 
 -- ---- one vertex is written
 

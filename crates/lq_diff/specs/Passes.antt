@@ -38,6 +38,16 @@ IsListed fallen v = (i : ℕ) × (slice_get fallen i ≡ Some v)
 abbrev pub AreListed : List ℕ → (ℕ → Vertex) → (ℕ → ℕ) → Type 0
 AreListed fallen s order = (v : ℕ) → IsListed fallen v ⊎ AtRest s order v
 
+-- listed at the place `from` or behind it
+abbrev pub IsListedFrom : ℕ → List ℕ → ℕ → Type 0
+IsListedFrom from fallen v = (i : ℕ) × (from ≤ i) × (slice_get fallen i ≡ Some v)
+
+-- each other vertex is at rest, and those that fell and aren't settled are listed behind the first `settled`
+pub record HasFront (fallen : List ℕ) (settled : ℕ) (s : ℕ → Vertex) (order : ℕ → ℕ) : Type 0 where
+  pub listed : AreListed fallen s order
+  pub within : settled ≤ length fallen
+  pub behind : (v : ℕ) → order v ≡ 0 → IsListedFrom settled fallen v ⊎ (nexts s v ≡ values s v)
+
 abbrev pub AllBelow : List ℕ → ℕ → Type 0
 AllBelow fallen n = (i : ℕ) → IfSome (slice_get fallen i) (λ v. v < n)
 

@@ -1,6 +1,6 @@
 // A pass: vertices fall to the offers that reach them.
-ghost use Rattle.std.specs.Prelude.{◌≡◌, ◌⊎◌, ℕ, List, [], ◌∷◌, ◌++◌, ◌<◌, ◌≤◌, ◌+◌, ◌^◌, length, vec_capacity, IfOk, IfErr, IfSome, IfNone, OnOk};
-ghost use Rattle.lq_diff.specs.Passes.{vertex_at, order_at, values, nexts, touched, AllInRange, AllBelow, IsListed, AreListed, AtRest, IsPass, IsSized, IsLeast, NoneFalls, IsNext, IsStuck, IsNarrow, Falls};
+ghost use Rattle.std.specs.Prelude.{◌≡◌, ◌⊎◌, ℕ, List, [], ◌∷◌, ◌++◌, ◌<◌, ◌≤◌, ◌+◌, ◌^◌, length, slice_index_or, vec_capacity, IfOk, IfErr, IfSome, IfNone, OnOk};
+ghost use Rattle.lq_diff.specs.Passes.{vertex_at, order_at, values, nexts, touched, AllInRange, AllBelow, IsListed, AreListed, HasFront, AtRest, IsPass, IsSized, IsLeast, NoneFalls, IsNext, IsStuck, IsNarrow, Falls};
 ghost use Rattle.std.specs.Int.Signed.{◌<ℤ◌};
 ghost use Rattle.lq_diff.specs.Arcs.{Meets};
 ghost use Rattle.lq_diff.specs.Room.{unfallen};
@@ -15,14 +15,19 @@ use crate::trail::{Note, note_all};
 use crate::vertex::Vertex;
 use lq_linear::LinearStop;
 
-/// The vertex that fell farthest of those that aren't settled, if one fell. Those that fell are listed.
-fn least(vertices: &[Vertex], order: &[u64], fallen: &[usize]) -> Result<Option<usize>, LinearStop>
+/// The place of the vertex that fell farthest of those that aren't settled, if one fell. Those that are settled come first in the list.
+fn least(
+    vertices: &[Vertex],
+    order: &[u64],
+    fallen: &[usize],
+    settled: usize,
+) -> Result<Option<usize>, LinearStop>
     requires same { length order.now ≡ length vertices.now }
     requires inside { AllBelow fallen.now (length vertices.now) }
-    requires listed { AreListed fallen.now (vertex_at vertices.now) (order_at order.now) }
-    ensures inside { IfOk result (λ found. IfSome found (λ v. v < length vertices.now)) }
+    requires front { HasFront fallen.now settled (vertex_at vertices.now) (order_at order.now) }
+    ensures place { IfOk result (λ found. IfSome found (λ place. (settled ≤ place) × (place < length fallen.now))) }
     ensures some { IfOk result (λ found. IfSome found
-        (λ v. IsLeast (vertex_at vertices.now) (order_at order.now) v)) }
+        (λ place. IsLeast (vertex_at vertices.now) (order_at order.now) (slice_index_or fallen.now place 0))) }
     ensures none { IfOk result (λ found. IfNone found
         (NoneFalls (vertex_at vertices.now) (order_at order.now))) }
     ensures stop { IfErr result (λ stop. (arcs : List Arc) (top gap count n : ℕ)
@@ -30,15 +35,15 @@ fn least(vertices: &[Vertex], order: &[u64], fallen: &[usize]) -> Result<Option<
         → PastBy n stop) }
 {
     let mut lowest = 0;
-    let mut found = 0;
-    for place in fallen {
-        let v = *place;
+    let mut found = settled;
+    for place in settled..fallen.len() {
+        let v = fallen[place];
         if order[v] == 0 {
             let vertex = vertices[v];
             let fall = difference(vertex.next, vertex.kept.value)?;
             if fall < lowest {
                 lowest = fall;
-                found = v;
+                found = place;
             }
         }
     }
@@ -57,8 +62,8 @@ fn fall(vertices: &mut [Vertex], fallen: &mut Vec<usize>, at: usize, offer: i128
     requires room { length fallen.old.items + unfallen vertices.old ≤ vec_capacity fallen.old }
     ensures inside { AllBelow fallen.new.items (length vertices.new) }
     ensures falls { Falls (vertex_at vertices.old) (vertex_at vertices.new) at parent offer }
-    ensures listed { (order : ℕ → ℕ) → AreListed fallen.old.items (vertex_at vertices.old) order
-        → AreListed fallen.new.items (vertex_at vertices.new) order }
+    ensures front { (order : ℕ → ℕ) (settled : ℕ) → HasFront fallen.old.items settled (vertex_at vertices.old) order
+        → HasFront fallen.new.items settled (vertex_at vertices.new) order }
     ensures kept { (v : ℕ) → kept (vertex_at vertices.new) v ≡ kept (vertex_at vertices.old) v }
     ensures room { length fallen.new.items + unfallen vertices.new ≤ vec_capacity fallen.new }
     ensures capacity { vec_capacity fallen.new ≡ vec_capacity fallen.old }
@@ -94,8 +99,9 @@ fn relax(
     ensures room { length fallen.new.items + unfallen vertices.new ≤ vec_capacity fallen.new }
     ensures capacity { vec_capacity fallen.new ≡ vec_capacity fallen.old }
     ensures inside { AllBelow fallen.new.items (length vertices.new) }
-    ensures listed { OnOk result (AreListed fallen.old.items (vertex_at vertices.old) (order_at order.now)
-        → AreListed fallen.new.items (vertex_at vertices.new) (order_at order.now)) }
+    ensures front { OnOk result ((settled : ℕ)
+        → HasFront fallen.old.items settled (vertex_at vertices.old) (order_at order.now)
+        → HasFront fallen.new.items settled (vertex_at vertices.new) (order_at order.now)) }
     ensures kept { (v : ℕ) → kept (vertex_at vertices.new) v ≡ kept (vertex_at vertices.old) v }
     ensures offered { IfOk result (λ closing. IfNone closing ((gap count : ℕ)
         → IsPass arcs.now top gap (vertex_at vertices.old) (order_at order.now) count at (length arcs.now)
@@ -125,7 +131,8 @@ fn relax(
     Ok(None)
 }
 
-/// Settles vertices in the order of their falls, until none falls or the vertex at the top would.
+/// Settles vertices in the order of their falls, until none falls or the vertex at the top would. Those that are settled come first in the
+/// list, so the next one is sought behind them.
 fn settle(
     arcs: &[Arc],
     links: &[usize],
@@ -161,11 +168,13 @@ fn settle(
 {
     let mut count = 0;
     loop {
-        let Some(at) = least(vertices, order, fallen)? else {
+        let Some(place) = least(vertices, order, fallen, count)? else {
             return Ok(None);
         };
+        let at = fallen[place];
+        fallen.swap(count, place);
         count += 1;
-        order[at] = count;
+        order[at] = count as u64;
         if let Some(closing) = relax(arcs, links, at, top, vertices, order, fallen)? {
             return Ok(Some(closing));
         }

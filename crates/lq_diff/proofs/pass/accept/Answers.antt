@@ -6,7 +6,8 @@ use Rattle.std.proofs.lemmas.Option.{slice_get-get_or}
 use Rattle.lq_diff.specs.declared.vertex.Vertex.{Vertex}
 use Rattle.lq_diff.specs.Passes.{blank, vertex_at, values, nexts}
 use Rattle.lq_diff.proofs.Numbers.{element}
-use Rattle.lq_diff.proofs.Passing.{set_same_by, done_more, same_or, listed_at}
+use Rattle.lq_diff.proofs.Passing.{set_same_by, done_more, same_or}
+use Rattle.lq_diff.proofs.Fallen.{listed_at}
 use Rattle.lq_diff.proofs.pass.accept.Goals as goal
 
 pub loop-place-preserved : goal.loop-place-preserved
@@ -33,7 +34,7 @@ loop-place-preserved c =
 
 pub returns-clause-listed : goal.returns-clause-listed
 returns-clause-listed c = λ v l.
-    let a = listed_at c.args.fallen.now v l in
+    let a = listed_at 0 c.args.fallen.now v (l.0, omega arith, l.1) in
     let end = c.loop-place-test.false in
-    let inside : a.0 < c.loop-place.place-index = (let m = a.1 in omega arith) in
-    subst (λ w. values (vertex_at c.loop-place.vertices) w ≡ nexts (vertex_at c.args.vertices.now) w) a.2 (c.loop-place.invariant.done a.0 inside)
+    let inside : a.0 < c.loop-place.place-index = (let m = a.2 in omega arith) in
+    subst (λ w. values (vertex_at c.loop-place.vertices) w ≡ nexts (vertex_at c.args.vertices.now) w) a.3 (c.loop-place.invariant.done a.0 inside)

@@ -4,7 +4,8 @@ use Rattle.std.proofs.Math.IntN.{ℤ}
 use Rattle.std.proofs.lemmas.Int.{ints, to_z-of_z}
 use borrow.Author.Differences.{up}
 use Rattle.lq_diff.proofs.Rooms.{room_most}
-use Rattle.lq_diff.proofs.Passing.{listed_none, accepted, accepted_listed, last_is, starts, holds_already, stuck_at_once, first_large, narrow_sized, next_cast, next_before}
+use Rattle.lq_diff.proofs.Passing.{last_is, starts, holds_already, stuck_at_once, first_large, narrow_sized, next_cast, next_before}
+use Rattle.lq_diff.proofs.Fallen.{listed_none, front_none, accepted, accepted_listed}
 use Rattle.lq_diff.proofs.Numbers.{element, sum_read}
 use Rattle.lq_diff.specs.declared.arc.Arc.{Arc}
 use Rattle.lq_diff.specs.declared.vertex.Kept.{Kept}
@@ -64,7 +65,11 @@ pub settle-requires-clause-unsettled : goal.settle-requires-clause-unsettled
 settle-requires-clause-unsettled c = λ v. (c.requires.rest v).1
 
 pub settle-requires-clause-listed : goal.settle-requires-clause-listed
-settle-requires-clause-listed c = c.fall.ensures.listed (order_at c.args.order.now) (listed_none c.args.fallen.now.items (vertex_at c.args.vertices.now) (order_at c.args.order.now) c.requires.rest)
+settle-requires-clause-listed c =
+    let fallen = c.args.fallen.now.items in
+    let s = vertex_at c.args.vertices.now in
+    let order = order_at c.args.order.now in
+    (c.fall.ensures.front order 0 (front_none fallen s order (listed_none fallen s order c.requires.rest))).listed
 
 pub settle-requires-clause-top_in : goal.settle-requires-clause-top_in
 settle-requires-clause-top_in c =

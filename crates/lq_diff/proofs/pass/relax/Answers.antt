@@ -23,7 +23,7 @@ loop-k-init c = record {
   room = c.requires.room;
   capacity = refl;
   inside = c.requires.inside;
-  listed = λ h. h;
+  front = λ n h. h;
   kept = λ v. refl;
   passes = λ gap count pass.
       offers_skip c.args.arcs.now c.args.top gap (vertex_at c.args.vertices.now) (order_at c.args.order.now) count c.args.at (length c.args.arcs.now) _ pass c.requires.last;
@@ -158,7 +158,7 @@ loop-k-preserved c =
             room = w.fall.ensures.room;
             capacity = w.fall.ensures.capacity ∙ c.loop-k.invariant.capacity;
             inside = w.fall.ensures.inside;
-            listed = λ h. w.fall.ensures.listed order (c.loop-k.invariant.listed h);
+            front = λ n h. w.fall.ensures.front order n (c.loop-k.invariant.front n h);
             kept = λ v. w.fall.ensures.kept v ∙ c.loop-k.invariant.kept v;
             passes = λ gap count pass. offers_skip arcs c.args.top gap (vertex_at w.fall.new.vertices) order count c.args.at k link
                 (offer_falls arcs c.args.top gap s _ order count c.args.at k a o (subst (λ n. IsPass arcs c.args.top gap s order count c.args.at n) e (c.loop-k.invariant.passes gap count pass))
@@ -170,7 +170,7 @@ loop-k-preserved c =
         room = c.loop-k.invariant.room;
         capacity = c.loop-k.invariant.capacity;
         inside = c.loop-k.invariant.inside;
-        listed = c.loop-k.invariant.listed;
+        front = c.loop-k.invariant.front;
         kept = c.loop-k.invariant.kept;
         passes = λ gap count pass. let now = subst (λ n. IsPass arcs c.args.top gap s order count c.args.at n) e (c.loop-k.invariant.passes gap count pass) in
             offers_skip arcs c.args.top gap s order count c.args.at k link
@@ -190,7 +190,7 @@ loop-k-preserved c =
             room = c.loop-k.invariant.room;
             capacity = c.loop-k.invariant.capacity;
             inside = c.loop-k.invariant.inside;
-            listed = c.loop-k.invariant.listed;
+            front = c.loop-k.invariant.front;
             kept = c.loop-k.invariant.kept;
             passes = λ gap count pass.
                 offers_skip arcs c.args.top gap s order count c.args.at k link

@@ -1,5 +1,5 @@
 use Rattle.std.proofs.Common.{◌≡◌, ℕ, suc, ◌≤◌, ◌+◌, length, slice_get, IfSome, vec_capacity}
-use Rattle.lq_diff.specs.Passes.{vertex_at, order_at, AllBelow, AreListed, IsPass}
+use Rattle.lq_diff.specs.Passes.{vertex_at, order_at, AllBelow, HasFront, IsPass}
 use Rattle.lq_diff.specs.Links.{kept}
 use Rattle.lq_diff.specs.Room.{unfallen}
 use Rattle.lq_diff.proofs.pass.relax.Given as goal
@@ -11,7 +11,7 @@ invariant-loop-k l = record {
   room : length l.fallen.items + unfallen l.vertices ≤ vec_capacity l.fallen;
   capacity : vec_capacity l.fallen ≡ vec_capacity l.fn.fallen;
   inside : AllBelow l.fallen.items (length l.vertices);
-  listed : AreListed l.fn.fallen.items (vertex_at l.fn.vertices) (order_at l.order) → AreListed l.fallen.items (vertex_at l.vertices) (order_at l.order);
+  front : (n : ℕ) → HasFront l.fn.fallen.items n (vertex_at l.fn.vertices) (order_at l.order) → HasFront l.fallen.items n (vertex_at l.vertices) (order_at l.order);
   kept : (v : ℕ) → kept (vertex_at l.vertices) v ≡ kept (vertex_at l.fn.vertices) v;
   passes : (gap count : ℕ) → IsPass l.arcs l.top gap (vertex_at l.fn.vertices) (order_at l.order) count l.at (length l.arcs)
       → IsPass l.arcs l.top gap (vertex_at l.vertices) (order_at l.order) count l.at l.k;

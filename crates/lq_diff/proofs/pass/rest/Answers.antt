@@ -6,7 +6,8 @@ use Rattle.std.proofs.Math.ListN.{set}
 use Rattle.lq_diff.specs.declared.vertex.Vertex.{Vertex}
 use Rattle.lq_diff.specs.Passes.{blank, vertex_at, order_at}
 use Rattle.lq_diff.proofs.Numbers.{element}
-use Rattle.lq_diff.proofs.Passing.{rests_at_first, rests_more, rests_at_last, set_same_by}
+use Rattle.lq_diff.proofs.Passing.{set_same_by}
+use Rattle.lq_diff.proofs.Fallen.{rests_at_first, rests_more, rests_at_last}
 use Rattle.lq_diff.proofs.pass.rest.Goals as goal
 
 pub loop-place-init : goal.loop-place-init

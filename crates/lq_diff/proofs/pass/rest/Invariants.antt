@@ -1,7 +1,7 @@
 use Rattle.std.proofs.Common.{◌≡◌, ℕ}
 use Rattle.lq_diff.specs.Passes.{vertex_at, order_at}
 use Rattle.lq_diff.specs.Links.{kept}
-use Rattle.lq_diff.proofs.Passing.{RestsOrWaits}
+use Rattle.lq_diff.proofs.Fallen.{RestsOrWaits}
 use Rattle.lq_diff.proofs.pass.rest.Given as goal
 
 abbrev pub invariant-loop-place : goal.invariant-loop-place
