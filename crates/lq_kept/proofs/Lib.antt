@@ -1,2 +1,4 @@
+pub mod Failing
 pub mod Levels
+pub mod Plain
 pub mod Ways

@@ -1,25 +1,35 @@
-// Facts that are kept from question to question.
+// Facts and readings that are kept from question to question.
 ghost use Rattle.lq_known.specs.Known.{Hold};
 ghost use Rattle.lq_pred.specs.Points.{Point};
 
+use crate::aiming::aim;
+use crate::answer::Answer;
 use crate::left::add_parts;
-use crate::level::Level;
+use crate::level::{Level, count_before, unknown_of};
 use crate::way::Step;
 use lq_implications::Implications;
 use lq_instances::Instances;
 use lq_known::Known;
-use lq_nearest::{add_part, proves_part};
+use lq_nearest::add_part;
 use lq_weakening::Chosen;
 use std::alloc::{AllocError, Global};
+
+/// Over how many terms facts are at first.
+const FEW_TERMS: u64 = 64;
 
 /// No more terms have facts.
 const TERMS: u64 = 65536;
 
-/// The facts of an environment, with those of the environments whose hypotheses it has before them.
+/// A check makes no more pivots.
+const PIVOTS: u64 = 1000;
+
+/// The facts and readings of an environment, with those of the environments whose hypotheses it has before them.
 #[derive(Drop)]
 pub struct Kept {
     alloc: Global,
     room: u64,
+    /// How many pivots a check makes at most.
+    limit: u64,
     known: Known,
     /// Environments that are kept, each behind its parent.
     levels: Vec<Level>,
@@ -27,25 +37,25 @@ pub struct Kept {
     places: Vec<usize>,
 }
 
-/// Over how many terms facts are needed: some for each environment.
-fn room_for(environments: u64) -> u64 {
-    environments
-        .saturating_mul(4)
-        .saturating_add(256)
-        .min(TERMS)
-}
-
 /// Makes what is known anew, without facts, where no more terms have any.
-fn renew(alloc: Global, room: u64, known: &mut Known)
+fn renew(alloc: Global, room: u64, limit: u64, known: &mut Known)
     ensures { ((p : Point) → Hold known.old p) → (p : Point) → Hold known.new p }
 {
     if !known.is_full() {
         return;
     }
-    match Known::without_checks(alloc, room) {
+    match Known::without_checks(alloc, room, limit) {
         Ok(made) => *known = made,
         Err(AllocError) => {}
     }
+}
+
+/// Another room, where no more terms have facts.
+fn room_after(known: &Known, room: u64, other: u64) -> u64 {
+    if known.is_full() {
+        return other;
+    }
+    room
 }
 
 /// Notes where an environment stands.
@@ -56,40 +66,79 @@ fn note_place(places: &mut [usize], env: u64, place: usize) {
 }
 
 impl Kept {
-    ghost use Rattle.std.specs.Prelude.{◌≡◌, ◌<◌, ℕ, List, [], ◌∷◌, ◌++◌, IfOk, IsTrue, OnOk, length};
+    ghost use Rattle.std.specs.Prelude.{◌≡◌, ◌<◌, ℕ, List, [], ◌∷◌, ◌++◌, ◌+◌, IfOk, IsTrue, OnOk, Some, length, slice_get, take};
     ghost use Rattle.lq_implications.specs.Views.{environment_in, environment_lists};
     ghost use Rattle.lq_parts.specs.Assignment.{Assignment};
     ghost use Rattle.lq_parts.specs.Part.{Parts};
     ghost use Rattle.lq_substitution.specs.Views.{part_view};
     ghost use Rattle.lq_questions.specs.Assigned.{assignment_of, constraints_of, instances_in};
     ghost use Rattle.lq_weakening.specs.Chosen.{chosen_in};
-    ghost use Rattle.lq_weakening.specs.Judging.{HoldsThere};
-    ghost use Rattle.lq_kept.specs.Kept.{IsKeptFor, Stands};
+    ghost use Rattle.lq_weakening.specs.Judging.{FlowFailsThere, HoldsThere};
+    ghost use Rattle.lq_kept.specs.Answer.{IfHolds, IfRefuted};
+    ghost use Rattle.lq_kept.specs.Kept.{AreAlike, IsKeptFor, Stands};
     ghost use Rattle.lq_kept.specs.Way.{IsUnderWay};
 
-    /// No facts, for questions about some implications.
-    pub fn new(alloc: Global, implications: &Implications) -> Result<Kept, AllocError>
+    /// No facts, for questions about some implications. A check makes at most `limit` pivots, and never many.
+    pub fn new(alloc: Global, implications: &Implications, limit: u64) -> Result<Kept, AllocError>
         ensures { IfOk result (λ kept. (A : Assignment) (es : List Parts) → IsKeptFor A es kept) }
     {
         let environments = implications.env_count();
-        let room = room_for(environments);
+        let limit = limit.min(PIVOTS);
         Ok(Kept {
             alloc,
-            room,
-            known: Known::without_checks(alloc, room)?,
+            room: FEW_TERMS,
+            limit,
+            known: Known::without_checks(alloc, FEW_TERMS, limit)?,
             levels: Vec::new(alloc),
             places: vec![in alloc; 0; environments as usize]?,
         })
     }
 
-    /// Forgets all facts.
-    pub fn forget(&mut self)
+    // Begins without facts, over so many terms where no more have any.
+    fn begin_anew(&mut self, room: u64)
         ensures kept { (A : Assignment) (es : List Parts) → IsKeptFor A es self.new }
-        ensures nothing { (A : Assignment) (es : List Parts) (env : ℕ) → Stands A es self.new env }
+        ensures nothing { (A : Assignment) (es : List Parts) (env : ℕ) → environment_in es env ≡ [] → Stands A es self.new env }
     {
+        self.room = room_after(&self.known, self.room, room);
         self.levels.clear();
-        self.known.back_to(0);
-        renew(self.alloc, self.room, &mut self.known);
+        self.known.back_to(0, 0);
+        renew(self.alloc, self.room, self.limit, &mut self.known);
+    }
+
+    /// Forgets all facts.
+    pub fn reset(&mut self)
+        ensures kept { (A : Assignment) (es : List Parts) → IsKeptFor A es self.new }
+        ensures nothing { (A : Assignment) (es : List Parts) (env : ℕ) → environment_in es env ≡ [] → Stands A es self.new env }
+    {
+        self.begin_anew(FEW_TERMS);
+    }
+
+    /// Forgets what speaks of an unknown: keeps the environments before the first one that ends in it.
+    pub fn forget(&mut self, unknown: u64)
+        ensures kept { (A B : Assignment) (es : List Parts) → AreAlike unknown A B → IsKeptFor A es self.old → IsKeptFor B es self.new }
+    {
+        let count = count_before(self.levels.as_slice(), unknown);
+        if count == self.levels.len() {
+            return;
+        }
+        if count == 0 {
+            self.reset();
+            return;
+        }
+        self.back_to_level(count - 1);
+    }
+
+    // Keeps the levels up to one of them.
+    fn back_to_level(&mut self, at: usize)
+        requires { at < length self.old.levels.items }
+        ensures levels { self.new.levels.items ≡ take (at + 1) self.old.levels.items }
+        ensures kept { (A : Assignment) (es : List Parts) → IsKeptFor A es self.old → IsKeptFor A es self.new }
+        ensures stands { (l : Level) → slice_get self.old.levels.items at ≡ Some l → (A : Assignment) (es : List Parts)
+            → IsKeptFor A es self.old → Stands A es self.new l.env }
+    {
+        let level = self.levels[at];
+        self.levels.truncate(at + 1);
+        self.known.back_to(level.mark, level.readings);
     }
 
     // Goes back to an environment, where it is kept. The answer is whether it is.
@@ -108,9 +157,7 @@ impl Kept {
         if level.env != env {
             return false;
         }
-        let mark = level.mark;
-        self.levels.truncate(at + 1);
-        self.known.back_to(mark);
+        self.back_to_level(at);
         true
     }
 
@@ -132,7 +179,7 @@ impl Kept {
         let mut found = self.back_to(at);
         while !found {
             let Some((parent, part)) = implications.environment(at) else {
-                self.forget();
+                self.reset();
                 return Ok(steps);
             };
             steps.push(Step { env: at, part })?;
@@ -159,13 +206,26 @@ impl Kept {
     {
         add_part(self.alloc, &mut self.known, step.part, instances, chosen)?;
         let place = self.levels.len();
+        let unknown = unknown_of(step.part);
         let mark = self.known.mark();
+        let readings = self.known.reading_count();
         self.levels.push(Level {
             env: step.env,
+            unknown,
             mark,
+            readings,
         })?;
         note_place(&mut self.places, step.env, place);
         Ok(())
+    }
+
+    // Makes room for twice as many terms, where no more have facts: then all facts are taken anew.
+    fn make_room(&mut self)
+        ensures { (A : Assignment) (es : List Parts) → IsKeptFor A es self.old → IsKeptFor A es self.new }
+    {
+        if self.known.is_full() && self.room < TERMS {
+            self.begin_anew(self.room.saturating_mul(2));
+        }
     }
 
     // Lets exactly the facts of an environment stand.
@@ -182,6 +242,7 @@ impl Kept {
         ensures stands { OnOk result (Stands (assignment_of instances.now chosen.now) (environment_lists implications.now)
             self.new env) }
     {
+        self.make_room();
         let mut steps = self.way_to(implications, env)?;
         while let Some(step) = steps.pop() {
             self.add_level(&step, instances, chosen)?;
@@ -189,26 +250,29 @@ impl Kept {
         Ok(())
     }
 
-    /// Whether an implication is known to follow from its hypotheses under the chosen instances, for which what is kept is right: by a clash
-    /// of facts that is seen as those of the negated goal are taken. The facts of its environment are kept.
-    pub fn follows(
+    /// What is known of an implication under the chosen instances, for which what is kept is right. It holds where facts of its hypotheses
+    /// refute the negation of its goal. It is refuted where its goal is an unknown, and values that solve the facts with those of the negation
+    /// of a chosen instance meet all hypotheses. The facts and readings of its environment are kept.
+    pub fn ask(
         &mut self,
         implications: &Implications,
         at: u64,
         instances: &Instances,
         chosen: &Chosen,
-    ) -> Result<bool, AllocError>
+    ) -> Result<Answer, AllocError>
         requires there { at < length (constraints_of implications.now) }
         requires kept { IsKeptFor (assignment_of instances.now chosen.now) (environment_lists implications.now) self.old }
-        ensures holds { IfOk result (λ b. IsTrue b → HoldsThere (instances_in instances.now)
-            (constraints_of implications.now) (chosen_in chosen.now) at) }
+        ensures holds { IfOk result (λ answer. IfHolds answer (HoldsThere (instances_in instances.now)
+            (constraints_of implications.now) (chosen_in chosen.now) at)) }
+        ensures refuted { IfOk result (λ answer. IfRefuted answer (FlowFailsThere (instances_in instances.now)
+            (constraints_of implications.now) (chosen_in chosen.now) at)) }
         ensures kept { IsKeptFor (assignment_of instances.now chosen.now) (environment_lists implications.now) self.new }
     {
         let Some(implication) = implications.get(at as usize) else {
-            return Ok(false);
+            return Ok(Answer::Open);
         };
         if implication.env >= implications.env_count() {
-            return Ok(false);
+            return Ok(Answer::Open);
         }
         self.stand_in(implications, implication.env, instances, chosen)?;
         add_parts(
@@ -218,7 +282,7 @@ impl Kept {
             instances,
             chosen,
         )?;
-        proves_part(
+        aim(
             self.alloc,
             &mut self.known,
             &implication.goal,

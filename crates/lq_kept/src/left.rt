@@ -1,6 +1,7 @@
 // The hypotheses of a left type.
 ghost use Rattle.std.specs.Prelude.{OnOk, map};
 ghost use Rattle.lq_known.specs.Known.{Hold, Keeps};
+ghost use Rattle.lq_nearest.specs.Reading.{AreRead};
 ghost use Rattle.lq_parts.specs.Assignment.{parts_under};
 ghost use Rattle.lq_pred.specs.ClosedImplication.{MeetsEach};
 ghost use Rattle.lq_pred.specs.Points.{Point};
@@ -24,6 +25,8 @@ pub(crate) fn add_parts(
 ) -> Result<(), AllocError>
     ensures held { OnOk result ((p : Point) → Hold known.old p
         → MeetsEach p (parts_under (assignment_of instances.now chosen.now) (map part_view parts.now)) → Hold known.new p) }
+    ensures read { OnOk result (AreRead known.old known.new
+        (parts_under (assignment_of instances.now chosen.now) (map part_view parts.now))) }
     ensures keeps { Keeps known.old known.new }
 {
     for part in parts {

@@ -1,9 +1,13 @@
-//! Whether implications follow from facts of their hypotheses that are kept from question to question.
+//! What is known of implications by facts and readings of their hypotheses that are kept from question to question.
 #![tactic(auto)]
 
+mod aiming;
+mod answer;
 mod kept;
 mod left;
 mod level;
+mod refuting;
 mod way;
 
+pub use answer::Answer;
 pub use kept::Kept;

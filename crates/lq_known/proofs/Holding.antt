@@ -1,15 +1,17 @@
 -- Facts that hold, more facts behind them, and facts that clash.
-use Rattle.std.proofs.Common.{◌≡◌, ◌∙◌, ◌≤◌, ℕ, zero, suc, arith, length, length-append, take, List, [], ◌∷◌, ◌++◌, Option, Some, slice_get, IsTrue, refl, sym, ap, subst, append_assoc}
+use Rattle.std.proofs.Common.{◌≡◌, ◌∙◌, ◌≤◌, ℕ, zero, suc, arith, length, length-append, take, List, [], ◌∷◌, ◌++◌, Bool, Option, Some, None, IfSome, slice_get, IsTrue, refl, sym, ap, subst, append_assoc}
 use Rattle.std.proofs.lemmas.List.{append-nil, take-append-le, take-take}
 use Rattle.lq_combine.specs.Met.{AllHold, EachAgree, FactHolds, MeetsPath}
 use Rattle.lq_combine.specs.Path.{Fact, Path}
 use Rattle.lq_combine.specs.Proves.{Clashes, Numbering, Proves, by_clash}
 use Rattle.lq_combine.specs.Tree.{Clash, Tree, leaf}
-use Rattle.lq_linear.specs.Row.{Valuation}
+use Rattle.lq_linear.specs.Row.{Row, Valuation}
 use Rattle.lq_pred.specs.Points.{Point}
+use Rattle.lq_pred.specs.Reading.{Reading}
 use Rattle.lq_pred.specs.RowMeaning.{AgreesOn}
 use Rattle.lq_pred.specs.Sum.{Sum}
 use Rattle.lq_pred.specs.Table.{Extends, all_differ}
+use Rattle.lq_pred.specs.TableView.{terms_of}
 use Rattle.lq_known.specs.Facts.{Grows}
 use Rattle.lq_known.specs.Known.{Keeps}
 use Rattle.lq_known.specs.declared.known.Known.{Known}
@@ -76,11 +78,37 @@ first_fewer v p old new n m e w h = subst (AllHold v p) (sym (ap (take n) e ∙ 
 pub count_same : (old new : List Fact) → new ≡ old → length old ≤ length new
 count_same old new e = let f = ap length e in omega (arith, f)
 
+-- ---- the first ones of readings and terms
+
+pub first_readings : (old new : List (Reading Row)) (r : Reading Row) (n : ℕ) → new ≡ old ++ r ∷ [] → n ≤ length old → take n new ≡ take n old
+first_readings old new r n e w = ap (take n) e ∙ take-append-le n old (r ∷ []) w
+
+pub more_readings : (old new : List (Reading Row)) (r : Reading Row) → new ≡ old ++ r ∷ [] → length old ≤ length new
+more_readings old new r e = let l = ap length e in let s = length-append old (r ∷ []) in omega (arith, l, s)
+
+pub as_many : (old new : List (Reading Row)) → new ≡ old → length old ≤ length new
+as_many old new e = let l = ap length e in omega (arith, l)
+
+pub extends_self : (a : List Sum) → Extends a a
+extends_self a = record { more = []; is = sym (append-nil a) }
+
+pub extends_then : (a b c : List Sum) → Extends a b → Extends b c → Extends a c
+extends_then a b c g h = record { more = g.more ++ h.more; is = h.is ∙ ap (λ l. l ++ h.more) g.is ∙ append_assoc a g.more h.more }
+
 pub keeps_self : (k : Known) → Keeps k k
-keeps_self k = record { count = omega arith; first = λ n p w h. h }
+keeps_self k = record { count = omega arith; first = λ n p w h. h; reading_count = omega arith; readings = λ n w. refl; terms = extends_self (terms_of k.table) }
 
 pub keeps_then : (a b c : Known) → Keeps a b → Keeps b c → Keeps a c
 keeps_then a b c g h = record {
   count = let m = g.count in let n = h.count in omega (arith, m, n);
   first = λ n p w k. h.first n p (let m = g.count in omega (arith, w, m)) (g.first n p w k);
+  reading_count = let m = g.reading_count in let n = h.reading_count in omega (arith, m, n);
+  readings = λ n w. h.readings n (let m = g.reading_count in omega (arith, w, m)) ∙ g.readings n w;
+  terms = extends_then (terms_of a.table) (terms_of b.table) (terms_of c.table) g.terms h.terms;
 }
+
+-- ---- what is said of an answer
+
+pub if_some_map : (o : Option Bool) (A B : Bool → Type 0) → ((b : Bool) → A b → B b) → IfSome o A → IfSome o B
+if_some_map None A B f h = tt
+if_some_map (Some b) A B f h = f b h

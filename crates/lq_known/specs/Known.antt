@@ -1,11 +1,19 @@
--- When what is known holds at a point.
-use Rattle.std.specs.Prelude.{ℕ, ◌≤◌, length, take}
+-- When what is known holds at a point, and what is read of hypotheses.
+use Rattle.std.specs.Prelude.{◌≡◌, ℕ, ◌≤◌, true, List, length, map, take}
+use Rattle.lq_case.specs.RowState.{is_solved, row_point}
 use Rattle.lq_combine.specs.Met.{AllHold}
-use Rattle.lq_linear.specs.Row.{Valuation}
-use Rattle.lq_pred.specs.Points.{Point}
+use Rattle.lq_linear.specs.Row.{Row, Valuation}
+use Rattle.lq_pred.specs.Formula.{Formula}
+use Rattle.lq_pred.specs.NnfView.{nnf_view}
+use Rattle.lq_pred.specs.Points.{Meets, Point}
+use Rattle.lq_pred.specs.Reading.{Reading, reading_of}
 use Rattle.lq_pred.specs.RowMeaning.{AgreesOn}
+use Rattle.lq_pred.specs.Sum.{Sum}
+use Rattle.lq_pred.specs.Table.{Extends}
 use Rattle.lq_pred.specs.TableView.{terms_of}
 use Rattle.lq_known.specs.Facts.{facts_of}
+use Rattle.lq_known.specs.Plain.{IsPlain}
+use Rattle.lq_known.specs.Values.{HasFlags, MeetsEachRow}
 use Rattle.lq_known.specs.declared.known.Known.{Known}
 
 -- the facts hold at the point, of whatever numbers gives each term its own there
@@ -20,7 +28,34 @@ HoldFirst n k p = (v : Valuation) → AgreesOn (terms_of k.table) v p → AllHol
 abbrev pub fact_count : Known → ℕ
 fact_count k = length (facts_of k.state)
 
--- the first facts hold where they held, and others may have come behind them
+-- the readings of the hypotheses in order
+abbrev pub readings_of : Known → List (Reading Row)
+readings_of k = map nnf_view k.readings.items
+
+-- The first facts hold where they held, and others may have come behind them. The first readings and terms are those that were there.
 pub record Keeps (old new : Known) : Type 0 where
   pub count : fact_count old ≤ fact_count new
   pub first : (n : ℕ) (p : Point) → n ≤ fact_count old → HoldFirst n old p → HoldFirst n new p
+  pub reading_count : length (readings_of old) ≤ length (readings_of new)
+  pub readings : (n : ℕ) → n ≤ length (readings_of old) → take n (readings_of new) ≡ take n (readings_of old)
+  pub terms : Extends (terms_of old.table) (terms_of new.table)
+
+-- where the readings are met now, those before are met, and the hypothesis is, which is plain
+abbrev pub IsRead : Known → Known → Formula → Type 0
+IsRead old new h =
+    (v : Valuation) (p : Point) → AgreesOn (terms_of new.table) v p → MeetsEachRow v p (readings_of new) → MeetsEachRow v p (readings_of old) × (Meets p (reading_of true h) × IsPlain h)
+
+-- values are known that solve the rows among the facts
+abbrev pub IsSettled : Known → Type 0
+IsSettled k = is_solved k.state.rows ≡ true
+
+-- the point has these values for its terms, and the flags that facts give, where one that none gives is false
+pub record IsAt (k : Known) (p : Point) : Type 0 where
+  pub terms : AgreesOn (terms_of k.table) (row_point k.state.rows) p
+  pub flags : HasFlags k.state p
+
+-- there is a point at the values, whose objects are of these classes
+pub record HasPoint (k : Known) (class_of : Sum → ℕ) : Type 0 where
+  pub point : Point
+  pub at : IsAt k point
+  pub classes : point.class_of ≡ class_of

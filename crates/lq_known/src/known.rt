@@ -2,31 +2,45 @@
 ghost use Rattle.std.specs.Prelude.{◌≡◌};
 ghost use Rattle.lq_case.specs.RowState.{terms_of as row_terms};
 
-use crate::reads::{refutes, take};
+use crate::plain::{is_plain, plain_or_never};
+use crate::reads::{refutes, take_unless};
+use crate::standing::{Stand, settle, settle_facts};
+use crate::values::{evaluate, meets_each};
 use lq_case::PathState;
 use lq_linear::Mark;
-use lq_pred::{Pred, TermTable, rows_say_what_comparisons_say, tighten};
+use lq_pred::{GatherError, Nnf, Pred, TermTable, rows_say_what_comparisons_say, tighten};
 use std::alloc::{AllocError, Global};
 
 /// Facts that hypotheses give, over terms that are numbered as they come: the literals that stand under no choice, but for those about objects
-/// and for rows with terms of large numbers.
+/// and for rows with terms of large numbers. The readings of the hypotheses are kept whole.
 #[derive(Drop)]
 pub struct Known {
     alloc: Global,
     room: u64,
     table: TermTable,
     state: PathState,
+    readings: Vec<Nnf>,
     /// Whether a goal is proved by a check of all facts too, and not only by a clash that is seen as its own are taken.
     checks: bool,
     ghost limits: { row_terms state.rows ≡ room },
 }
 
 impl Known {
-    ghost use Rattle.std.specs.Prelude.{◌≡◌, ◌≤◌, ℕ, min, true, false, IfOk, IsTrue};
+    ghost use Rattle.std.specs.Prelude.{◌≡◌, ◌↔◌, ◌≤◌, ℕ, Bool, length, min, take, true, false, IfOk, IfSome, IsTrue, OnOk};
+    ghost use Rattle.lq_case.specs.RowState.{row_point};
+    ghost use Rattle.lq_linear.specs.Row.{Valuation};
+    ghost use Rattle.lq_pred.specs.NnfView.{nnf_view};
     ghost use Rattle.lq_pred.specs.Points.{Meets, Point};
     ghost use Rattle.lq_pred.specs.PredView.{formula_of};
     ghost use Rattle.lq_pred.specs.Reading.{reading_of};
-    ghost use Rattle.lq_known.specs.Known.{Hold, HoldFirst, Keeps, fact_count};
+    ghost use Rattle.lq_pred.specs.RowMeaning.{AgreesOn, MeetsRows};
+    ghost use Rattle.lq_pred.specs.Sum.{Sum};
+    ghost use Rattle.lq_pred.specs.TableView.{terms_of};
+    ghost use Rattle.lq_known.specs.Facts.{facts_of};
+    ghost use Rattle.lq_known.specs.Known.{HasPoint, Hold, HoldFirst, IsAt, IsRead, IsSettled, Keeps, fact_count, readings_of};
+    ghost use Rattle.lq_known.specs.Plain.{IsPlain};
+    ghost use Rattle.lq_known.specs.Values.{MeetsEachRow};
+    ghost use Rattle.lq_known.specs.declared.standing.Stand.TheVariants.{Proved, Settled, Unknown};
 
     /// No facts. Those to come are over the first `room` terms, and a check makes at most `limit` pivots.
     pub fn new(alloc: Global, room: u64, limit: u64) -> Result<Known, AllocError>
@@ -35,12 +49,12 @@ impl Known {
         Known::made(alloc, room, limit, true)
     }
 
-    /// The same, where no check is made: what a goal costs doesn't grow with the room, and only what its own facts clash with at once is
-    /// proved.
-    pub fn without_checks(alloc: Global, room: u64) -> Result<Known, AllocError>
+    /// The same, where `proves` makes no check: what a goal costs there doesn't grow with the room, and only what its own facts clash with
+    /// at once is proved.
+    pub fn without_checks(alloc: Global, room: u64, limit: u64) -> Result<Known, AllocError>
         ensures { IfOk result (λ known. (p : Point) → Hold known p) }
     {
-        Known::made(alloc, room, 0, false)
+        Known::made(alloc, room, limit, false)
     }
 
     // No facts, and whether checks are made.
@@ -54,22 +68,65 @@ impl Known {
             room,
             table,
             state,
+            readings: Vec::new(alloc),
             checks,
         })
     }
 
-    /// Adds the facts of a hypothesis.
-    pub fn add(&mut self, hypothesis: &Pred)
+    /// Adds the facts of a hypothesis, and its reading. Where that can't be gathered, or the hypothesis has a quotient, a remainder or a
+    /// product of two unknown factors, a reading that is never met stands for it.
+    pub fn add(&mut self, hypothesis: &Pred) -> Result<(), AllocError>
         ensures held { (p : Point) → Hold self.old p → Meets p (reading_of true (formula_of hypothesis.now)) → Hold self.new p }
         ensures keeps { Keeps self.old self.new }
+        ensures read { OnOk result (IsRead self.old self.new (formula_of hypothesis.now)) }
+    {
+        let reading = self.take_facts(hypothesis);
+        self.readings.push(reading)?;
+        Ok(())
+    }
+
+    // Takes the facts of a hypothesis. The answer is its reading.
+    fn take_facts(&mut self, hypothesis: &Pred) -> Nnf
+        ensures held { (p : Point) → Hold self.old p → Meets p (reading_of true (formula_of hypothesis.now)) → Hold self.new p }
+        ensures keeps { Keeps self.old self.new }
+        ensures same { readings_of self.new ≡ readings_of self.old }
+        ensures read { (v : Valuation) (p : Point) → AgreesOn (terms_of self.new.table) v p
+            → MeetsRows v p (nnf_view result)
+            → Meets p (reading_of true (formula_of hypothesis.now)) × IsPlain (formula_of hypothesis.now) }
+    {
+        let is_known = self.is_known(hypothesis);
+        self.take_new(hypothesis, is_known)
+    }
+
+    // Whether a hypothesis would bring nothing new: where no checks are made, it is tried whether it follows from the facts.
+    fn is_known(&mut self, hypothesis: &Pred) -> bool
+        ensures kept { (p : Point) → Hold self.old p → Hold self.new p }
+        ensures keeps { Keeps self.old self.new }
+        ensures same { readings_of self.new ≡ readings_of self.old }
+    {
+        if self.checks {
+            return false;
+        }
+        self.proves(hypothesis)
+    }
+
+    // Takes the facts of a hypothesis, unless it is known already. The answer is its reading.
+    fn take_new(&mut self, hypothesis: &Pred, is_known: bool) -> Nnf
+        ensures held { (p : Point) → Hold self.old p → Meets p (reading_of true (formula_of hypothesis.now)) → Hold self.new p }
+        ensures keeps { Keeps self.old self.new }
+        ensures same { readings_of self.new ≡ readings_of self.old }
+        ensures read { (v : Valuation) (p : Point) → AgreesOn (terms_of self.new.table) v p
+            → MeetsRows v p (nnf_view result)
+            → Meets p (reading_of true (formula_of hypothesis.now)) × IsPlain (formula_of hypothesis.now) }
     {
         rows_say_what_comparisons_say();
         match tighten(self.alloc, hypothesis, true, &mut self.table) {
             Ok(reading) => {
                 let _count = self.table.len();
-                take(&mut self.state, self.room, &reading);
+                take_unless(is_known, &mut self.state, self.room, &reading);
+                plain_or_never(hypothesis, reading)
             }
-            Err(_) => {}
+            Err(_) => Nnf::No,
         }
     }
 
@@ -79,6 +136,7 @@ impl Known {
             → Meets p (reading_of false (formula_of goal.now)) → ⊥ }
         ensures kept { (p : Point) → Hold self.old p → Hold self.new p }
         ensures keeps { Keeps self.old self.new }
+        ensures same { readings_of self.new ≡ readings_of self.old }
     {
         rows_say_what_comparisons_say();
         match tighten(self.alloc, goal, false, &mut self.table) {
@@ -88,6 +146,82 @@ impl Known {
             }
             Err(_) => false,
         }
+    }
+
+    /// Whether the facts clash: anything is proved then; or whether values solve them all.
+    pub fn settle(&mut self) -> Stand
+        ensures clash { result ≡ Proved → (p : Point) → Hold self.old p → ⊥ }
+        ensures settled { result ≡ Settled → IsSettled self.new }
+        ensures kept { (p : Point) → Hold self.old p → Hold self.new p }
+        ensures keeps { Keeps self.old self.new }
+        ensures readings { readings_of self.new ≡ readings_of self.old }
+    {
+        rows_say_what_comparisons_say();
+        settle_facts(&mut self.state)
+    }
+
+    /// How a goal stands to the facts. Where its negation is refuted it is proved, and the facts stay. Where the literals of the negation, or
+    /// of a member of a choice, stand with the facts and values solve all, they stay with them, and the values too. Else the facts stay.
+    pub fn stand_against(&mut self, goal: &Pred) -> Stand
+        ensures proved { result ≡ Proved → (p : Point) → Hold self.old p
+            → Meets p (reading_of false (formula_of goal.now)) → ⊥ }
+        ensures kept { result ≡ Proved → (p : Point) → Hold self.old p → Hold self.new p }
+        ensures settled { result ≡ Settled → IsSettled self.new }
+        ensures unknown { result ≡ Unknown → (p : Point) → Hold self.old p → Hold self.new p }
+        ensures keeps { Keeps self.old self.new }
+        ensures readings { readings_of self.new ≡ readings_of self.old }
+    {
+        rows_say_what_comparisons_say();
+        match tighten(self.alloc, goal, false, &mut self.table) {
+            Ok(reading) => {
+                let _count = self.table.len();
+                settle(&mut self.state, self.room, &reading)
+            }
+            Err(_) => Stand::Unknown,
+        }
+    }
+
+    /// Whether each hypothesis is known to be met at the values.
+    pub fn meets_all(&self) -> bool
+        requires { IsSettled self.now }
+        ensures { IsTrue result → (p : Point) → IsAt self.now p
+            → MeetsEachRow (row_point self.now.state.rows) p (readings_of self.now) }
+    {
+        meets_each(&self.state, self.readings.as_slice())
+    }
+
+    /// Whether a predicate, or its negation, is met at the values. None where it has a quotient, a remainder, a product of two unknown
+    /// factors or a number past 128 bits, or where this hangs on two objects.
+    pub fn meets(&mut self, pred: &Pred, positive: bool) -> Result<Option<bool>, AllocError>
+        requires { IsSettled self.old }
+        ensures answer { IfOk result (λ o. IfSome o (λ b. IsPlain (formula_of pred.now) × ((p : Point) → IsAt self.new p
+            → IsTrue b ↔ Meets p (reading_of positive (formula_of pred.now))))) }
+        ensures settled { IsSettled self.new }
+        ensures at { (p : Point) → IsAt self.new p → IsAt self.old p }
+        ensures keeps { Keeps self.old self.new }
+        ensures readings { readings_of self.new ≡ readings_of self.old }
+        ensures facts { facts_of self.new.state ≡ facts_of self.old.state }
+    {
+        rows_say_what_comparisons_say();
+        if !is_plain(pred) {
+            return Ok(None);
+        }
+        match tighten(self.alloc, pred, positive, &mut self.table) {
+            Ok(reading) => {
+                let _count = self.table.len();
+                Ok(evaluate(&self.state, &reading))
+            }
+            Err(GatherError::Past) => Ok(None),
+            Err(GatherError::Memory) => Err(AllocError),
+        }
+    }
+
+    /// There is a point at the values, whatever the classes of its objects.
+    pub fn has_point(&self)
+        ensures { (class_of : Sum → ℕ) → HasPoint self.now class_of }
+    {
+        rows_say_what_comparisons_say();
+        let _count = self.table.len();
     }
 
     /// Whether terms that come now are past the room, so that rows over them are left out.
@@ -103,12 +237,22 @@ impl Known {
         self.state.mark().0
     }
 
-    /// Keeps this many of the first facts, or all where there are fewer. Terms that were numbered since stay so.
-    pub fn back_to(&mut self, count: u64)
+    /// How many readings there are, one for each hypothesis.
+    pub fn reading_count(&self) -> u64
+        ensures { result ≡ length (readings_of self.now) }
+    {
+        self.readings.len() as u64
+    }
+
+    /// Keeps this many of the first facts and readings, or all where there are fewer. Terms that were numbered since stay so.
+    pub fn back_to(&mut self, count: u64, readings: u64)
         ensures count { fact_count self.new ≡ min count (fact_count self.old) }
         ensures hold { (p : Point) → HoldFirst count self.old p → Hold self.new p }
         ensures first { (n : ℕ) (p : Point) → n ≤ count → HoldFirst n self.old p → HoldFirst n self.new p }
+        ensures readings { readings_of self.new ≡ take readings (readings_of self.old) }
+        ensures terms { terms_of self.new.table ≡ terms_of self.old.table }
     {
+        self.readings.truncate(readings as usize);
         let all = self.state.mark();
         if all.0 <= count {
             return;

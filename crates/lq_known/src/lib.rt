@@ -1,8 +1,12 @@
-//! What is known of hypotheses: their literals as facts, and what these prove.
+//! What is known of hypotheses: their literals as facts, what these prove, and whether values that solve them meet the hypotheses.
 #![tactic(auto)]
 
 mod clash;
 mod known;
+mod plain;
 mod reads;
+mod standing;
+mod values;
 
 pub use known::Known;
+pub use standing::Stand;

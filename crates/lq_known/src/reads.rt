@@ -53,6 +53,20 @@ fn take_all(state: &mut PathState, room: u64, readings: &Nnfs) -> bool
     false
 }
 
+/// Takes the literals of a reading that stand under no choice as facts, unless nothing is to be taken.
+pub(crate) fn take_unless(nothing: bool, state: &mut PathState, room: u64, reading: &Nnf)
+    requires { terms_of state.old.rows ≡ room }
+    ensures held { (v : Valuation) (p : Point) → AllHold v p (facts_of state.old)
+        → MeetsRows v p (nnf_view reading.now) → AllHold v p (facts_of state.new) }
+    ensures grows { Grows (facts_of state.old) (facts_of state.new) }
+    ensures limits { terms_of state.new.rows ≡ terms_of state.old.rows }
+{
+    if nothing {
+        return;
+    }
+    let _clashes = take(state, room, reading);
+}
+
 /// Takes the literals of a reading. The answer is whether the facts are known to clash then; a check is made only where it is asked for.
 fn take_and_check(state: &mut PathState, room: u64, checks: bool, reading: &Nnf) -> bool
     requires { terms_of state.old.rows ≡ room }

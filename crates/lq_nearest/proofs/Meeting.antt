@@ -8,6 +8,7 @@ use Rattle.lq_parts.specs.Constraint.{Constraint}
 use Rattle.lq_parts.specs.Flowing.{Selection, assigned, picked}
 use Rattle.lq_parts.specs.Part.{Part, Parts}
 use Rattle.lq_parts.specs.Substitution.{Subst, formula_by}
+use Rattle.lq_known.specs.Plain.{IsPlain}
 use Rattle.lq_pred.specs.ClosedImplication.{MeetsEach}
 use Rattle.lq_pred.specs.Formula.{Formula}
 use Rattle.lq_pred.specs.Points.{Meets, Point}
@@ -18,6 +19,7 @@ use Rattle.lq_substitution.specs.Views.{part_view, parts_view}
 use Rattle.lq_subtype.specs.Implication as Implication
 use Rattle.lq_subtype.specs.Implication.{constraint_of}
 use Rattle.lq_weakening.specs.Judging.{HoldsThere, Instances}
+use Rattle.lq_nearest.specs.Reading.{EachPlain}
 
 some_is : {X : Type 0} (x y : X) → Some x ≡ Some y → x ≡ y
 some_is x y e = cc
@@ -120,6 +122,51 @@ none_next p f σ n qs a e h g i q w c d m = by (below_next n i w)
     by (inr s) =
         let same : a ≡ q = some_is a q (e ∙ ap (slice_get qs) s ∙ sym d) in
         g (subst (λ j. f j ≡ true) (omega (arith, s)) c) (subst (λ x. Meets p (reading_of false (formula_by σ x))) (sym same) m)
+
+-- each of the first n instances that is chosen is so
+abbrev pub ChosenAre : (Formula → Type 0) → (ℕ → Bool) → ℕ → List Formula → Type 0
+ChosenAre P f n qs = (i : ℕ) (q : Formula) → i < n → f i ≡ true → Some q ≡ slice_get qs i → P q
+
+pub chosen_next : (P : Formula → Type 0) (f : ℕ → Bool) (n : ℕ) (qs : List Formula) (a : Formula) → Some a ≡ slice_get qs n → ChosenAre P f n qs → (f n ≡ true → P a) → ChosenAre P f (n + 1) qs
+chosen_next P f n qs a e h g i q w c d = by (below_next n i w)
+  where
+    by : (i < n) ⊎ (n ≡ i) → P q
+    by (inl v) = h i q v c d
+    by (inr s) = subst P (some_is a q (e ∙ ap (slice_get qs) s ∙ sym d)) (g (subst (λ j. f j ≡ true) (omega (arith, s)) c))
+
+-- the chosen ones from the n-th on
+abbrev pub ChosenFrom : (Formula → Type 0) → (ℕ → Bool) → ℕ → List Formula → Type 0
+ChosenFrom P f n qs = (i : ℕ) (q : Formula) → n ≤ i → f i ≡ true → Some q ≡ slice_get qs i → P q
+
+pub from_next : (P : Formula → Type 0) (f : ℕ → Bool) (m n : ℕ) (qs : List Formula) (a : Formula) → m ≤ n + 1 → Some a ≡ slice_get qs n → ChosenFrom P f m qs → (f n ≡ true → P a)
+    → ChosenFrom P f n qs
+from_next P f m n qs a w e h g i q v c d = by (below_next i n (omega (arith, v)))
+  where
+    by : (n < i) ⊎ (i ≡ n) → P q
+    by (inl x) = h i q (omega (arith, w, x)) c d
+    by (inr s) = subst P (some_is a q (e ∙ ap (slice_get qs) (sym s) ∙ sym d)) (g (subst (λ j. f j ≡ true) s c))
+
+pub from_first : (P : Formula → Type 0) (f : ℕ → Bool) (n : ℕ) (qs : List Formula) → ChosenFrom P f 0 qs → ChosenAre P f n qs
+from_first P f n qs h i q w c e = h i q (omega arith) c e
+
+-- a formula with something put for its names is met, and is plain
+abbrev pub IsMetBy : Point → Subst → Formula → Type 0
+IsMetBy p σ q = Meets p (reading_of true (formula_by σ q)) × IsPlain (formula_by σ q)
+
+chosen_from : (p : Point) (f : ℕ → Bool) (σ : Subst) (k : ℕ) (qs : List Formula)
+    → ((i : ℕ) (q : Formula) → i < length qs → f (k + i) ≡ true → Some q ≡ slice_get qs i → IsMetBy p σ q)
+    → MeetsEach p (map (formula_by σ) (picked f k qs)) × EachPlain (map (formula_by σ) (picked f k qs))
+chosen_from p f σ k [] h = (tt, tt)
+chosen_from p f σ k (a ∷ qs) h = by (f k) refl (chosen_from p f σ (suc k) qs (λ i q w c e. h (suc i) q (omega (arith, w)) (subst (λ j. f j ≡ true) (omega arith) c) e))
+  where
+    by : (b : Bool) → f k ≡ b → MeetsEach p (map (formula_by σ) (picked f (suc k) qs)) × EachPlain (map (formula_by σ) (picked f (suc k) qs))
+        → MeetsEach p (map (formula_by σ) (cond b (a ∷ picked f (suc k) qs) (picked f (suc k) qs))) × EachPlain (map (formula_by σ) (cond b (a ∷ picked f (suc k) qs) (picked f (suc k) qs)))
+    by true t rest = let here = h 0 a (omega arith) (subst (λ j. f j ≡ true) (omega arith) t) refl in ((here.0, rest.0), (here.1, rest.1))
+    by false t rest = rest
+
+pub all_chosen : (p : Point) (f : ℕ → Bool) (σ : Subst) (n : ℕ) (qs : List Formula) → length qs ≤ n → ChosenAre (IsMetBy p σ) f n qs
+    → MeetsEach p (map (formula_by σ) (picked f 0 qs)) × EachPlain (map (formula_by σ) (picked f 0 qs))
+all_chosen p f σ n qs w h = chosen_from p f σ 0 qs (λ i q v c e. h i q (omega (arith, v, w)) (subst (λ j. f j ≡ true) (omega arith) c) e)
 
 -- ---- an implication
 

@@ -2,7 +2,10 @@
 ghost use Rattle.std.specs.Prelude.{◌≡◌, IfOk, IsTrue, OnOk, map, true};
 ghost use Rattle.lq_implications.specs.Views.{hypotheses_left};
 ghost use Rattle.lq_instances.specs.Views.{list_view};
-ghost use Rattle.lq_known.specs.Known.{Hold, Keeps};
+ghost use Rattle.lq_known.specs.Known.{Hold, Keeps, readings_of};
+ghost use Rattle.lq_known.specs.Plain.{IsPlain};
+ghost use Rattle.lq_known.specs.Values.{MeetsEachRow};
+ghost use Rattle.lq_linear.specs.Row.{Valuation};
 ghost use Rattle.lq_parts.specs.Assignment.{part_under, parts_under};
 ghost use Rattle.lq_parts.specs.Flowing.{picked};
 ghost use Rattle.lq_parts.specs.Substitution.{formula_by};
@@ -10,9 +13,12 @@ ghost use Rattle.lq_pred.specs.ClosedImplication.{MeetsEach};
 ghost use Rattle.lq_pred.specs.PredView.{formula_of};
 ghost use Rattle.lq_pred.specs.Points.{Meets, Point};
 ghost use Rattle.lq_pred.specs.Reading.{reading_of};
+ghost use Rattle.lq_pred.specs.RowMeaning.{AgreesOn};
+ghost use Rattle.lq_pred.specs.TableView.{terms_of};
 ghost use Rattle.lq_questions.specs.Assigned.{assignment_of};
 ghost use Rattle.lq_substitution.specs.Views.{part_view, subst_view};
 ghost use Rattle.lq_weakening.specs.Chosen.{chosen_in};
+ghost use Rattle.lq_nearest.specs.Reading.{AreRead};
 
 use lq_implications::Hypotheses;
 use lq_instances::{InstanceList, Instances};
@@ -34,15 +40,21 @@ fn add_instance(
         → (is_chosen ≡ true → Meets p (reading_of true (formula_by (subst_view by.now) (formula_of instance.now))))
         → Hold known.new p) }
     ensures keeps { Keeps known.old known.new }
+    ensures read { OnOk result ((v : Valuation) (p : Point) → AgreesOn (terms_of known.new.table) v p
+        → MeetsEachRow v p (readings_of known.new) → MeetsEachRow v p (readings_of known.old)
+        × (is_chosen ≡ true → Meets p (reading_of true (formula_by (subst_view by.now) (formula_of instance.now)))
+        × IsPlain (formula_by (subst_view by.now) (formula_of instance.now)))) }
 {
-    if is_chosen {
-        let made = substitute(alloc, instance, by)?;
-        known.add(&made);
+    if !is_chosen {
+        return Ok(());
     }
+    let made = substitute(alloc, instance, by)?;
+    known.add(&made)?;
     Ok(())
 }
 
-/// Adds what is known of the chosen ones of some instances.
+/// Adds what is known of the chosen ones of some instances, the last one first: the last ones speak of the nearest names, by which much of
+/// the others follows.
 fn add_list(
     alloc: Global,
     known: &mut Known,
@@ -54,8 +66,10 @@ fn add_list(
     ensures held { OnOk result ((p : Point) → Hold known.old p → MeetsEach p (map (formula_by (subst_view by.now))
         (picked (chosen_in chosen.now unknown) 0 (list_view list.now))) → Hold known.new p) }
     ensures keeps { Keeps known.old known.new }
+    ensures read { OnOk result (AreRead known.old known.new (map (formula_by (subst_view by.now))
+        (picked (chosen_in chosen.now unknown) 0 (list_view list.now)))) }
 {
-    for at in 0..list.len() {
+    for at in (0..list.len()).rev() {
         let Some(instance) = list.get(at) else {
             unreachable!()
         };
@@ -75,10 +89,12 @@ pub fn add_part(
     ensures held { OnOk result ((p : Point) → Hold known.old p
         → MeetsEach p (part_under (assignment_of instances.now chosen.now) (part_view part.now)) → Hold known.new p) }
     ensures keeps { Keeps known.old known.new }
+    ensures read { OnOk result (AreRead known.old known.new
+        (part_under (assignment_of instances.now chosen.now) (part_view part.now))) }
 {
     match part {
         Part::Known(pred) => {
-            known.add(pred);
+            known.add(pred)?;
             Ok(())
         }
         Part::Unknown(unknown, by) => match instances.get(*unknown as usize) {

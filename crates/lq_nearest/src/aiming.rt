@@ -1,7 +1,7 @@
 // Whether what is known proves a goal.
 ghost use Rattle.std.specs.Prelude.{◌≡◌, IfOk, IsTrue, false, map, true};
 ghost use Rattle.lq_instances.specs.Views.{list_view};
-ghost use Rattle.lq_known.specs.Known.{Hold, Keeps};
+ghost use Rattle.lq_known.specs.Known.{Hold, Keeps, readings_of};
 ghost use Rattle.lq_parts.specs.Assignment.{all_joined, goal_under};
 ghost use Rattle.lq_parts.specs.Flowing.{picked};
 ghost use Rattle.lq_parts.specs.Substitution.{formula_by};
@@ -31,6 +31,7 @@ fn proves_instance(
         → Meets p (reading_of false (formula_by (subst_view by.now) (formula_of instance.now))) → ⊥) }
     ensures kept { (p : Point) → Hold known.old p → Hold known.new p }
     ensures keeps { Keeps known.old known.new }
+    ensures same { readings_of known.new ≡ readings_of known.old }
 {
     if is_chosen {
         let made = substitute(alloc, instance, by)?;
@@ -53,6 +54,7 @@ fn proves_list(
         (picked (chosen_in chosen.now unknown) 0 (list_view list.now))))) → ⊥) }
     ensures kept { (p : Point) → Hold known.old p → Hold known.new p }
     ensures keeps { Keeps known.old known.new }
+    ensures same { readings_of known.new ≡ readings_of known.old }
 {
     for at in 0..list.len() {
         let Some(instance) = list.get(at) else {
@@ -79,6 +81,7 @@ pub fn proves_part(
         → Meets p (reading_of false (goal_under (assignment_of instances.now chosen.now) (part_view part.now))) → ⊥) }
     ensures kept { (p : Point) → Hold known.old p → Hold known.new p }
     ensures keeps { Keeps known.old known.new }
+    ensures same { readings_of known.new ≡ readings_of known.old }
 {
     match part {
         Part::Known(pred) => Ok(known.proves(pred)),

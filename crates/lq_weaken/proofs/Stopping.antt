@@ -5,10 +5,13 @@ use Rattle.lq_literals.proofs.Fits.{sources_gathered}
 use Rattle.lq_literals.proofs.Leading.{first_not}
 use Rattle.lq_literals.specs.Gathered.{CanBeGathered, IsFirstPast}
 use Rattle.lq_literals.specs.Sources.{sources_of}
-use Rattle.lq_parts.specs.Constraint.{Constraint}
+use Rattle.lq_parts.specs.Constraint.{Constraint, IsDemand}
 use Rattle.lq_parts.specs.Flowing.{Selection, assigned}
 use Rattle.lq_parts.specs.Assignment.{goal_under}
-use Rattle.lq_parts.specs.Part.{Part}
+use Rattle.lq_parts.specs.Part.{Part, unknown}
+use Rattle.lq_parts.specs.Refuting.{FailsAt}
+use Rattle.lq_parts.specs.Substitution.{Subst}
+use Rattle.lq_point.specs.declared.point.Point as code
 use Rattle.lq_point.specs.Values.{as_point}
 use Rattle.lq_pred.specs.ClosedImplication.{ClosedImplication, IsValid}
 use Rattle.lq_pred.specs.Formula.{Formula}
@@ -20,8 +23,9 @@ use Rattle.lq_prove.specs.Answers.{IsCounterexample}
 use Rattle.lq_prove.specs.Small.{IsNoNumber, IsSmallImplication}
 use Rattle.lq_prove.specs.Stopping.{IsSmallDifference, StopsProving, StopsSmall}
 use Rattle.lq_questions.specs.Assigned.{closed_under}
-use Rattle.lq_weakening.specs.Judging.{AreRefuted, FailsThere, HoldsThere, IfUnknown, Instances}
-use Rattle.lq_weakening.specs.declared.judge.Failure.{Failure}
+use Rattle.lq_pred.specs.Points.{Point}
+use Rattle.lq_weakening.specs.Judging.{AreRefuted, FailsThere, FlowFailsThere, HoldsThere, Instances}
+use Rattle.lq_weakening.specs.declared.judge.Failure.TheVariants.{Demand}
 use Rattle.lq_fewer.specs.Fewer.{HasAll}
 use Rattle.lq_fewer.proofs.Fewer.{some_gather}
 use Rattle.lq_fewer.proofs.Whole.{closed_all}
@@ -126,12 +130,24 @@ goal_closed I c cs at i q w h g =
     let t = there cs at w in
     ap (λ (x : ClosedImplication). x.goal) (closed_as (assigned I c) cs at i t.constraint h t.here) ∙ ap (goal_under (assigned I c)) (g t.constraint t.here)
 
-pub failure_there : (I : Instances) (c : Selection) (cs : List Constraint) (at : ℕ) (i : ClosedImplication) (q : Part) (f : Failure) → IsClosedAs (assigned I c) cs at i
-    → IsCounterexample i (as_point f.point) → ((k : Constraint) → slice_get cs at ≡ Some k → k.goal ≡ q)
-    → IfUnknown q (λ u σ. AreRefuted (c u) (as_point f.point) σ (I u) f.refuted.items) → FailsThere I cs c at f
-failure_there I c cs at i q f h p g r k e =
-    let x : IsCounterexample (closed_under (assigned I c) k) (as_point f.point) = subst (λ j. IsCounterexample j (as_point f.point)) (closed_as (assigned I c) cs at i k h e) p in
-    record {
-      fails = record { point = x.is_point; meets = x.hypotheses; against = x.goal };
-      refuted = subst (λ j. IfUnknown j (λ u σ. AreRefuted (c u) (as_point f.point) σ (I u) f.refuted.items)) (sym (g k e)) r;
-    }
+pub fails_at : (I : Instances) (c : Selection) (cs : List Constraint) (at : ℕ) (i : ClosedImplication) (p : Point) → IsClosedAs (assigned I c) cs at i
+    → IsCounterexample i p → (k : Constraint) → slice_get cs at ≡ Some k → FailsAt (assigned I c) k p
+fails_at I c cs at i p h x k e =
+    let y : IsCounterexample (closed_under (assigned I c) k) p = subst (λ j. IsCounterexample j p) (closed_as (assigned I c) cs at i k h e) x in
+    record { point = y.is_point; meets = y.hypotheses; against = y.goal }
+
+pub demand_there : (I : Instances) (c : Selection) (cs : List Constraint) (at : ℕ) (i : ClosedImplication) (q : Part) (point : code.Point) → IsClosedAs (assigned I c) cs at i
+    → IsCounterexample i (as_point point) → ((k : Constraint) → slice_get cs at ≡ Some k → k.goal ≡ q) → IsDemand q → FailsThere I cs c at (Demand point)
+demand_there I c cs at i q point h x g d k e = (subst IsDemand (sym (g k e)) d, fails_at I c cs at i (as_point point) h x k e)
+
+pub flow_there : (I : Instances) (c : Selection) (cs : List Constraint) (at : ℕ) (i : ClosedImplication) (u : ℕ) (σ : Subst) (p : Point) (numbers : List ℕ)
+    → IsClosedAs (assigned I c) cs at i → IsCounterexample i p → ((k : Constraint) → slice_get cs at ≡ Some k → k.goal ≡ unknown u σ)
+    → AreRefuted (c u) p σ (I u) numbers → FlowFailsThere I cs c at numbers
+flow_there I c cs at i u σ p numbers h x g r k e = record {
+  point = p;
+  fails = fails_at I c cs at i p h x k e;
+  number = u;
+  by = σ;
+  goal = g k e;
+  refuted = r;
+}

@@ -9,49 +9,49 @@ ghost use Rattle.lq_point.specs.Values.{as_point};
 ghost use Rattle.lq_pred.specs.PredView.{implication_of};
 ghost use Rattle.lq_prove.specs.Answers.{IsCounterexample, IsReadable};
 ghost use Rattle.lq_questions.specs.Assigned.{assignment_of, closed_under, constraints_of, instances_in};
-ghost use Rattle.lq_substitution.specs.Views.{part_view};
+ghost use Rattle.lq_parts.specs.Part.{unknown as unknown_part};
+ghost use Rattle.lq_substitution.specs.Views.{subst_view};
 ghost use Rattle.lq_weakening.specs.Chosen.{chosen_in};
-ghost use Rattle.lq_weakening.specs.Judging.{AreRefuted, FailsThere, HoldsThere, IfFails, IfHolds, IfUnknown};
+ghost use Rattle.lq_weakening.specs.Judging.{AreRefuted, FailsThere, HoldsThere, IfFails, IfHolds};
 ghost use Rattle.lq_weaken.specs.Stops.{MayStop};
 
 use crate::laws::some_instances_gather;
 use crate::refuting::refuted;
 use lq_implications::Implications;
 use lq_instances::Instances;
-use lq_kept::Kept;
+use lq_kept::{Answer as Told, Kept};
 use lq_literals::sources_have_the_literals;
 use lq_nearest::follows;
 use lq_point::Point;
 use lq_pred::{Closed, Stop};
 use lq_prove::{Answer, valid};
 use lq_questions::closed_implication;
-use lq_substitution::Part;
+use lq_substitution::{Part, Subst};
 use lq_weakening::{Asked, Chosen, Failure, Judge};
 use std::alloc::{AllocError, Global};
 
-/// The chosen instances of a goal that are refuted at a point of its closed implication; of a demand none.
+/// The chosen instances of an unknown, with something put for their symbols, that are refuted at a point of the closed implication of which
+/// they are the goal.
 fn refuted_of(
     alloc: Global,
-    goal: &Part,
+    unknown: u64,
+    by: &Subst,
     instances: &Instances,
     chosen: &Chosen,
     closed: &Closed,
     point: &Point,
 ) -> Result<Vec<u64>, AllocError>
-    requires goal { (implication_of closed.now).goal
-        ≡ goal_under (assignment_of instances.now chosen.now) (part_view goal.now) }
+    requires goal { (implication_of closed.now).goal ≡ goal_under (assignment_of instances.now chosen.now)
+        (unknown_part unknown (subst_view by.now)) }
     requires gathers { CanBeGathered (implication_of closed.now) }
     requires readable { IsReadable (implication_of closed.now) point.now }
-    ensures { IfOk result (λ numbers. IfUnknown (part_view goal.now) (λ u σ. AreRefuted (chosen_in chosen.now u)
-        (as_point point.now) σ (instances_in instances.now u) numbers.items)) }
+    ensures { IfOk result (λ numbers. AreRefuted (chosen_in chosen.now unknown) (as_point point.now) (subst_view by.now)
+        (instances_in instances.now unknown) numbers.items) }
 {
-    let Part::Unknown(unknown, by) = goal else {
-        return Ok(Vec::new(alloc));
-    };
-    match instances.get(*unknown as usize) {
+    match instances.get(unknown as usize) {
         Some(list) => {
             let mut table = closed.terms(alloc)?;
-            refuted(alloc, *unknown, by, list, chosen, point, &mut table)
+            refuted(alloc, unknown, by, list, chosen, point, &mut table)
         }
         None => {
             let none = Vec::new(alloc);
@@ -112,15 +112,21 @@ impl Questions<'_> {
         let Some(implication) = self.implications.get(at as usize) else {
             unreachable!()
         };
-        let refuted = refuted_of(
-            self.alloc,
-            &implication.goal,
-            self.instances,
-            chosen,
-            closed,
-            &point,
-        )?;
-        Ok(Failure { point, refuted })
+        match &implication.goal {
+            Part::Known(_) => Ok(Failure::Demand(point)),
+            Part::Unknown(unknown, by) => {
+                let refuted = refuted_of(
+                    self.alloc,
+                    *unknown,
+                    by,
+                    self.instances,
+                    chosen,
+                    closed,
+                    &point,
+                )?;
+                Ok(Failure::Flow(refuted))
+            }
+        }
     }
 
     /// Whether an implication is known to follow from its nearest hypotheses.
@@ -172,26 +178,6 @@ impl Questions<'_> {
     }
 }
 
-/// Whether an implication is known to follow from the facts of its environment, which are kept.
-fn follows_by_kept(
-    kept: &mut Kept,
-    implications: &Implications,
-    at: u64,
-    instances: &Instances,
-    chosen: &Chosen,
-) -> bool
-    requires there { at < length (constraints_of implications.now) }
-    requires kept { IsKeptFor (assignment_of instances.now chosen.now) (environment_lists implications.now) kept.old }
-    ensures holds { IsTrue result → HoldsThere (instances_in instances.now) (constraints_of implications.now)
-        (chosen_in chosen.now) at }
-    ensures kept { IsKeptFor (assignment_of instances.now chosen.now) (environment_lists implications.now) kept.new }
-{
-    match kept.follows(implications, at, instances, chosen) {
-        Ok(found) => found,
-        Err(AllocError) => false,
-    }
-}
-
 impl Judge for Questions<'_> {
     ghost instances = { λ q. instances_in q.instances.now };
 
@@ -202,19 +188,18 @@ impl Judge for Questions<'_> {
     ghost keeps = { λ q chosen. IsKeptFor (assigned (instances_in q.instances.now) chosen) (environment_lists q.implications.now) q.kept };
 
     fn ask(&mut self, at: u64, chosen: &Chosen) -> Result<Asked, Stop> {
-        if follows_by_kept(
-            &mut self.kept,
-            self.implications,
-            at,
-            self.instances,
-            chosen,
-        ) {
-            return Ok(Asked::Holds);
+        match self.kept.ask(self.implications, at, self.instances, chosen) {
+            Ok(Told::Holds) => Ok(Asked::Holds),
+            Ok(Told::Refuted(numbers)) => Ok(Asked::Fails(Failure::Flow(numbers))),
+            Ok(Told::Open) | Err(AllocError) => self.judged(at, chosen),
         }
-        self.judged(at, chosen)
     }
 
-    fn forget(&mut self) {
-        self.kept.forget();
+    fn forget(&mut self, unknown: u64) {
+        self.kept.forget(unknown);
+    }
+
+    fn reset(&mut self) {
+        self.kept.reset();
     }
 }

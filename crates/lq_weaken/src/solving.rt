@@ -64,7 +64,7 @@ fn solve_gathered(
     let Ok(counts) = instance_counts(alloc, instances) else {
         return Err(SolveError::Memory);
     };
-    let Ok(kept) = Kept::new(alloc, implications) else {
+    let Ok(kept) = Kept::new(alloc, implications, limit) else {
         return Err(SolveError::Memory);
     };
     let mut questions = Questions {

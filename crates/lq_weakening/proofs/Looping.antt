@@ -16,9 +16,9 @@ use Rattle.lq_pred.specs.declared.pred.Stop.{Stop}
 use Rattle.lq_parts.specs.Refuting.{FailsAt}
 use Rattle.lq_point.specs.Values.{as_point}
 use Rattle.lq_point.specs.declared.point.Point.{Point}
-use Rattle.lq_weakening.specs.Judging.{FailsThere, HoldsThere, Instances, StopsAt}
+use Rattle.lq_weakening.specs.Judging.{FailsThere, FlowFailsThere, HoldsThere, Instances, IsFailingFlow, StopsAt}
 use Rattle.lq_weakening.specs.Solving.{DemandFails, DemandMet, DemandsMet, HasNoSolution, IsFailingDemand}
-use Rattle.lq_weakening.specs.declared.judge.Failure.{Failure}
+use Rattle.lq_weakening.specs.declared.judge.Failure.TheVariants.{Demand}
 use Rattle.lq_weakening.specs.declared.error.SolveError.{SolveError}
 use Rattle.lq_weakening.specs.declared.error.SolveError.TheVariants.{At, Memory}
 use Rattle.lq_weakening.specs.Waking.{IsFlowAt, Wakes}
@@ -131,10 +131,6 @@ pub weakens_last : (I : Instances) (cs : List Constraint) (goals : List (Option 
     → ks ≡ [] → IsWeakening I cs c0 ks0 → IsWeakening I cs c []
 weakens_last I cs goals c0 ks0 c ks w e h = subst (IsWeakening I cs c) e (w.kept h)
 
-is_demand : (q : Part) → (o : Option ℕ) → goal_unknown q ≡ o → ((u : ℕ) → o ≡ Some u → ⊥) → IsDemand q
-is_demand (known p) o e n = tt
-is_demand (unknown u σ) o e n = absurd (n u (sym e))
-
 no_demand : (q : Part) (u : ℕ) → goal_unknown q ≡ Some u → IsDemand q → ⊥
 no_demand (known p) u e d = absurd (cc)
 no_demand (unknown w σ) u e d = d
@@ -156,19 +152,29 @@ goal_in_range [] at h = absurd (omega (arith, h))
 goal_in_range (g ∷ gs) zero h = record { goal = g; here = refl }
 goal_in_range (g ∷ gs) (suc at) h = let r : HasGoal gs at = goal_in_range gs at (omega (arith, h)) in record { goal = r.goal; here = r.here }
 
-pub demand_fails : (I : Instances) (cs : List Constraint) (c : Selection) (goals : List (Option ℕ)) (at : ℕ) (f : Failure) → AreGoals cs goals → at < length goals
-    → (IsFlowAt goals at → ⊥) → FailsThere I cs c at f → DemandFails I cs c at f.point
-demand_fails I cs c goals at f ag r n fails =
-    record { constraint = there.constraint; here = there.here; demand = is_demand there.constraint.goal g.goal (goal_there cs goals at there.constraint g.goal ag there.here g.here) no_flow; fails = λ k e. (fails k e).fails }
-  where
-    g : HasGoal goals at
-    g = goal_in_range goals at r
+there_in_range : (cs : List Constraint) (goals : List (Option ℕ)) (at : ℕ) → AreGoals cs goals → at < length goals → IsThere cs at
+there_in_range cs goals at ag r = let g : HasGoal goals at = goal_in_range goals at r in constraint_there cs goals at g.goal ag g.here
 
-    there : IsThere cs at
-    there = constraint_there cs goals at g.goal ag g.here
+pub demand_fails : (I : Instances) (cs : List Constraint) (c : Selection) (goals : List (Option ℕ)) (at : ℕ) (p : Point) → AreGoals cs goals → at < length goals
+    → FailsThere I cs c at (Demand p) → DemandFails I cs c at p
+demand_fails I cs c goals at p ag r fails =
+    let there : IsThere cs at = there_in_range cs goals at ag r in
+    record { constraint = there.constraint; here = there.here; demand = (fails there.constraint there.here).0; fails = λ k e. (fails k e).1 }
 
-    no_flow : (u : ℕ) → g.goal ≡ Some u → ⊥
-    no_flow u e = n record { goal = u; here = subst (λ o. slice_get goals at ≡ Some o) e g.here }
+-- a flow doesn't fail as a demand
+pub flow_not_demand : (I : Instances) (cs : List Constraint) (c : Selection) (goals : List (Option ℕ)) (at : ℕ) (p : Point) → AreGoals cs goals → IsFlowAt goals at
+    → FailsThere I cs c at (Demand p) → ⊥
+flow_not_demand I cs c goals at p ag f fails =
+    let there : IsThere cs at = constraint_there cs goals at (Some f.goal) ag f.here in
+    no_demand there.constraint.goal f.goal (goal_there cs goals at there.constraint (Some f.goal) ag there.here f.here) (fails there.constraint there.here).0
+
+-- what fails as a flow is one
+pub failing_is_flow : (I : Instances) (cs : List Constraint) (c : Selection) (goals : List (Option ℕ)) (at : ℕ) (numbers : List ℕ) → AreGoals cs goals → at < length goals
+    → FlowFailsThere I cs c at numbers → IsFlowAt goals at
+failing_is_flow I cs c goals at numbers ag r fails =
+    let there : IsThere cs at = there_in_range cs goals at ag r in
+    let f : IsFailingFlow I c there.constraint numbers = fails there.constraint there.here in
+    record { goal = f.number; here = goal_here cs goals at there.constraint f.number ag there.here (ap goal_unknown f.goal) }
 
 -- the demands before a number are valid
 abbrev pub DemandsBefore : Instances → List Constraint → Selection → ℕ → Type 0

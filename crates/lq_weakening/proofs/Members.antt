@@ -2,7 +2,7 @@
 use Rattle.std.proofs.Common.{◌≡◌, ◌⊎◌, inl, inr, ℕ, zero, suc, ◌+◌, ◌<◌, ◌≤◌, length, get_or, take, arith, Bool, true, false, List, [], ◌∷◌, ◌++◌, refl, sym, ap, subst}
 use Rattle.std.proofs.Math.Seq.{take-suc}
 use Rattle.lq_weakening.specs.Among.{IsAmong}
-use Rattle.lq_weakening.specs.Chosen.{AreWithout, IsWithout}
+use Rattle.lq_weakening.specs.Chosen.{AgreeBut, AreWithout, IsWithout}
 
 pub same_or_not : (a b : ℕ) → (a ≡ b) ⊎ (a ≡ b → ⊥)
 same_or_not zero zero = inl refl
@@ -91,3 +91,7 @@ falls_next u ks n before mid x y z a le ge falls last k m c = by (among_split ks
         let f : mid u n ≡ before u n = a.others u n (λ _. h) in
         let g : before u n ≡ true = subst (λ j. before u j ≡ true) (sym e) c in
         late (last (cc))
+
+-- of every other unknown nothing is taken out
+pub agree_but : (u : ℕ) (ks : List ℕ) (before after : ℕ → ℕ → Bool) → AreWithout u ks before after → AgreeBut u before after
+agree_but u ks before after w = λ v n k. sym (w.others v k (λ e _. n e))

@@ -4,17 +4,16 @@ use Rattle.lq_parts.specs.Assignment.{Assignment}
 use Rattle.lq_parts.specs.Constraint.{Constraint, FlowsMet, IfFlow, IsMet}
 use Rattle.lq_parts.specs.Flowing.{Selection, IsWithin, assigned}
 use Rattle.lq_parts.specs.Part.{Part, known, unknown, Parts}
-use Rattle.lq_parts.specs.Refuting.{OneIsRefuted, OthersStay, RefutedGo, IsUnknown, Speak, SpeaksOf, HasRefuted}
+use Rattle.lq_parts.specs.Refuting.{FailsAt, OneIsRefuted, OthersStay, RefutedGo, IsUnknown, Speak, SpeaksOf, HasRefuted}
 use Rattle.lq_parts.specs.Substitution.{Subst}
-use Rattle.lq_point.specs.Values.{as_point}
+use Rattle.lq_pred.specs.Points.{Point}
 use Rattle.std.specs.Global.{Vec}
 use Rattle.lq_weakening.specs.Among.{IsAmong}
 use Rattle.lq_weakening.specs.Chosen.{AreWithout}
 use Rattle.lq_weakening.specs.Index.{AreCovered, AreGoals, IsWithinOne, goal_unknown, spans_at}
-use Rattle.lq_weakening.specs.Judging.{FailsThere, HoldsThere, Instances, IsFailure}
+use Rattle.lq_weakening.specs.Judging.{AreRefuted, FlowFailsThere, HoldsThere, Instances, IsFailingFlow}
 use Rattle.lq_weakening.specs.Waking.{IsFlowAt, Wakes}
 use Rattle.lq_weakening.specs.Weakening.{IsWeakening}
-use Rattle.lq_weakening.specs.declared.judge.Failure.{Failure}
 use Rattle.lq_weakening.specs.declared.span.Span.{Span}
 use Rattle.lq_weakening.proofs.Members.{among_or_not, same_or_not}
 
@@ -140,39 +139,63 @@ step_holds I cs c at ks h w = record { greatest = w.greatest; met = met }
         by (inl i) = if_flow k.goal (IsMet (assigned I c) k) (h k (subst (λ x. slice_get cs x ≡ Some k) (sym i) e))
         by (inr m) = w.met j k e (neither m)
 
--- the unknown that a goal is, and what is put for its names
-record IsUnknownGoal (q : Part) (u : ℕ) : Type 0 where
-  pub subst_of : Subst
-  pub is : q ≡ unknown u subst_of
+-- the flow of a number, its goal an unknown, fails at a point that refutes these instances
+record FailsOf (I : Instances) (cs : List Constraint) (c : Selection) (at u : ℕ) (numbers : List ℕ) : Type 0 where
+  pub hypotheses : Parts
+  pub by : Subst
+  pub point : Point
+  pub here : slice_get cs at ≡ Some record { hypotheses = hypotheses; goal = unknown u by }
+  pub fails : FailsAt (assigned I c) (record { hypotheses = hypotheses; goal = unknown u by }) point
+  pub refuted : AreRefuted (c u) point by (I u) numbers
 
-unknown_goal : (q : Part) (u : ℕ) → goal_unknown q ≡ Some u → IsUnknownGoal q u
-unknown_goal (known p) u e = absurd (cc)
-unknown_goal (unknown w σ) u e = let f : w ≡ u = some_is w u e in record { subst_of = σ; is = ap (λ x. unknown x σ) f }
+-- whichever unknown the goal is said to be, it is the flow's
+fails_of_goal : (I : Instances) (cs : List Constraint) (c : Selection) (at u w : ℕ) (hs : Parts) (q : Part) (σ : Subst) (p : Point) (numbers : List ℕ)
+    → slice_get cs at ≡ Some record { hypotheses = hs; goal = q } → goal_unknown q ≡ Some u → FailsAt (assigned I c) (record { hypotheses = hs; goal = q }) p
+    → q ≡ unknown w σ → AreRefuted (c w) p σ (I w) numbers → FailsOf I cs c at u numbers
+fails_of_goal I cs c at u w hs q σ p numbers e g f i r =
+    record {
+      hypotheses = hs;
+      by = σ;
+      point = p;
+      here = subst (λ x. slice_get cs at ≡ Some record { hypotheses = hs; goal = x }) is e;
+      fails = subst (λ x. FailsAt (assigned I c) (record { hypotheses = hs; goal = x }) p) is f;
+      refuted = subst (λ x. AreRefuted (c x) p σ (I x) numbers) same r;
+    }
+  where
+    same : w ≡ u
+    same = some_is w u (subst (λ x. goal_unknown x ≡ Some u) i g)
 
-speaks_of_goal : (q : Part) (u : ℕ) → goal_unknown q ≡ Some u → IsUnknown u q
-speaks_of_goal (known p) u e = absurd (cc)
-speaks_of_goal (unknown w σ) u e = sym (some_is w u e)
+    is : q ≡ unknown u σ
+    is = subst (λ x. q ≡ unknown x σ) same i
 
-module _ (one : OneIsRefuted) (go : RefutedGo) (others : OthersStay) (I : Instances) (cs : List Constraint) (goals : List (Option ℕ)) (spans : List (Vec Span)) where
+fails_of : (I : Instances) (cs : List Constraint) (goals : List (Option ℕ)) (c : Selection) (at u : ℕ) (numbers : List ℕ)
+    → AreGoals cs goals → slice_get goals at ≡ Some (Some u) → FlowFailsThere I cs c at numbers → FailsOf I cs c at u numbers
+fails_of I cs goals c at u numbers ag h fails =
+    let there : IsThere cs at = constraint_there cs goals at (Some u) ag h in
+    let k : Constraint = there.constraint in
+    let f : IsFailingFlow I c k numbers = fails k there.here in
+    fails_of_goal I cs c at u f.number k.hypotheses k.goal f.by f.point numbers there.here (goal_there cs goals at k (Some u) ag there.here h) f.fails f.goal f.refuted
+
+module _ (go : RefutedGo) (others : OthersStay) (I : Instances) (cs : List Constraint) (goals : List (Option ℕ)) (spans : List (Vec Span)) where
   -- a flow that fails at a point: what the point refutes is taken out, and what speaks of its unknown waits
-  step_fails : (at u : ℕ) (hs : Parts) (σ : Subst) (c d : Selection) (f : Failure) (ks ls : List ℕ)
+  step_fails : (at u : ℕ) (hs : Parts) (σ : Subst) (p : Point) (c d : Selection) (numbers ks ls : List ℕ)
       → AreGoals cs goals → AreCovered cs spans → slice_get cs at ≡ Some record { hypotheses = hs; goal = unknown u σ }
-      → IsFailure I c (record { hypotheses = hs; goal = unknown u σ }) f → AreWithout u f.refuted.items c d
+      → FailsAt (assigned I c) (record { hypotheses = hs; goal = unknown u σ }) p → AreRefuted (c u) p σ (I u) numbers → AreWithout u numbers c d
       → Wakes goals (IsWithinOne (spans_at spans u)) ks ls → IsWeakening I cs c (at ∷ ks) → IsWeakening I cs d ls
-  step_fails at u hs σ c d f ks ls ag ac e fail without wakes w = record { greatest = greatest; met = met }
+  step_fails at u hs σ p c d numbers ks ls ag ac e fails refuted without wakes w = record { greatest = greatest; met = met }
     where
       greatest : (s : Selection) → FlowsMet (assigned I s) cs → IsWithin I s d
-      greatest s m v n r t = by (same_or_not v u) (among_or_not f.refuted.items n)
+      greatest s m v n r t = by (same_or_not v u) (among_or_not numbers n)
         where
           chosen : c v n ≡ true
           chosen = w.greatest s m v n r t
 
-          stays : (v ≡ u → IsAmong f.refuted.items n → ⊥) → d v n ≡ true
+          stays : (v ≡ u → IsAmong numbers n → ⊥) → d v n ≡ true
           stays apart = let x : d v n ≡ c v n = without.others v n apart in let y : c v n ≡ true = chosen in cc
 
-          by : (v ≡ u) ⊎ (v ≡ u → ⊥) → IsAmong f.refuted.items n ⊎ (IsAmong f.refuted.items n → ⊥) → d v n ≡ true
+          by : (v ≡ u) ⊎ (v ≡ u → ⊥) → IsAmong numbers n ⊎ (IsAmong numbers n → ⊥) → d v n ≡ true
           by (inl i) (inl h) =
-              absurd (go I c s hs u σ (as_point f.point) n fail.fails (fail.refuted.each n h) (w.greatest s m) (flow_met (assigned I s) cs at (record { hypotheses = hs; goal = unknown u σ }) m e) (subst (λ x. s x n ≡ true) i t))
+              absurd (go I c s hs u σ p n fails (refuted.each n h) (w.greatest s m) (flow_met (assigned I s) cs at (record { hypotheses = hs; goal = unknown u σ }) m e) (subst (λ x. s x n ≡ true) i t))
           by (inl i) (inr h) = stays (λ _. h)
           by (inr i) h = stays (λ j _. i j)
 
@@ -198,27 +221,17 @@ module _ (one : OneIsRefuted) (go : RefutedGo) (others : OthersStay) (I : Instan
                   waits (inr h) = n (wakes.kept j h)
 
 -- what a point refutes of a flow's goal is something that was chosen
-pub one_chosen : (one : OneIsRefuted) (I : Instances) (cs : List Constraint) (goals : List (Option ℕ)) (c : Selection) (at u : ℕ) (f : Failure)
-    → AreGoals cs goals → slice_get goals at ≡ Some (Some u) → FailsThere I cs c at f → (x y : ℕ) → ((k : ℕ) → IsAmong f.refuted.items k → c u k ≡ true → x < y) → x < y
-one_chosen one I cs goals c at u f ag h fails x y falls =
-    let there : IsThere cs at = constraint_there cs goals at (Some u) ag h in
-    let k : Constraint = there.constraint in
-    let g : IsUnknownGoal k.goal u = unknown_goal k.goal u (goal_there cs goals at k (Some u) ag there.here h) in
-    let t : IsFailure I c (record { hypotheses = k.hypotheses; goal = unknown u g.subst_of }) f =
-    subst (λ r. IsFailure I c (record { hypotheses = k.hypotheses; goal = r }) f) g.is (fails k there.here) in
-    let r : HasRefuted (c u) (as_point f.point) g.subst_of (I u) = one I c k.hypotheses u g.subst_of (as_point f.point) t.fails in
-    falls r.number (t.refuted.all r.number r.is_chosen r.refuted) r.is_chosen
+pub one_chosen : (one : OneIsRefuted) (I : Instances) (cs : List Constraint) (goals : List (Option ℕ)) (c : Selection) (at u : ℕ) (numbers : List ℕ)
+    → AreGoals cs goals → slice_get goals at ≡ Some (Some u) → FlowFailsThere I cs c at numbers → (x y : ℕ) → ((k : ℕ) → IsAmong numbers k → c u k ≡ true → x < y) → x < y
+one_chosen one I cs goals c at u numbers ag h fails x y falls =
+    let f : FailsOf I cs c at u numbers = fails_of I cs goals c at u numbers ag h fails in
+    let r : HasRefuted (c u) f.point f.by (I u) = one I c f.hypotheses u f.by f.point f.fails in
+    falls r.number (f.refuted.all r.number r.is_chosen r.refuted) r.is_chosen
 
 -- the same step, of the flow of a number
-pub step_there : (one : OneIsRefuted) (go : RefutedGo) (others : OthersStay) (I : Instances) (cs : List Constraint) (goals : List (Option ℕ)) (spans : List (Vec Span))
-    (at u : ℕ) (c d : Selection) (f : Failure) (ks ls : List ℕ) → AreGoals cs goals → AreCovered cs spans → slice_get goals at ≡ Some (Some u) → FailsThere I cs c at f
-    → AreWithout u f.refuted.items c d → Wakes goals (IsWithinOne (spans_at spans u)) ks ls → IsWeakening I cs c (at ∷ ks) → IsWeakening I cs d ls
-step_there one go others I cs goals spans at u c d f ks ls ag ac h fails without wakes w =
-    let there : IsThere cs at = constraint_there cs goals at (Some u) ag h in
-    let k : Constraint = there.constraint in
-    let g : IsUnknownGoal k.goal u = unknown_goal k.goal u (goal_there cs goals at k (Some u) ag there.here h) in
-    let t : IsFailure I c (record { hypotheses = k.hypotheses; goal = unknown u g.subst_of }) f =
-    subst (λ r. IsFailure I c (record { hypotheses = k.hypotheses; goal = r }) f) g.is (fails k there.here) in
-    let e : slice_get cs at ≡ Some record { hypotheses = k.hypotheses; goal = unknown u g.subst_of } =
-    subst (λ r. slice_get cs at ≡ Some record { hypotheses = k.hypotheses; goal = r }) g.is there.here in
-    step_fails one go others I cs goals spans at u k.hypotheses g.subst_of c d f ks ls ag ac e t without wakes w
+pub step_there : (go : RefutedGo) (others : OthersStay) (I : Instances) (cs : List Constraint) (goals : List (Option ℕ)) (spans : List (Vec Span))
+    (at u : ℕ) (c d : Selection) (numbers ks ls : List ℕ) → AreGoals cs goals → AreCovered cs spans → slice_get goals at ≡ Some (Some u) → FlowFailsThere I cs c at numbers
+    → AreWithout u numbers c d → Wakes goals (IsWithinOne (spans_at spans u)) ks ls → IsWeakening I cs c (at ∷ ks) → IsWeakening I cs d ls
+step_there go others I cs goals spans at u c d numbers ks ls ag ac h fails without wakes w =
+    let f : FailsOf I cs c at u numbers = fails_of I cs goals c at u numbers ag h fails in
+    step_fails go others I cs goals spans at u f.hypotheses f.by f.point c d numbers ks ls ag ac f.here f.fails f.refuted without wakes w

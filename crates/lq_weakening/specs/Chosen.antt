@@ -28,6 +28,10 @@ pub record IsWithout (u k : ℕ) (before after : ℕ → ℕ → Bool) : Type 0 
   pub here : after u k ≡ false
   pub others : (v n : ℕ) → (v ≡ u → n ≡ k → ⊥) → after v n ≡ before v n
 
+-- the two choose alike of every other unknown
+abbrev pub AgreeBut : ℕ → (ℕ → ℕ → Bool) → (ℕ → ℕ → Bool) → Type 0
+AgreeBut u c d = (w : ℕ) → (w ≡ u → ⊥) → (k : ℕ) → c w k ≡ d w k
+
 -- how many are chosen
 abbrev pub count_set : List Bool → ℕ
 count_set [] = 0

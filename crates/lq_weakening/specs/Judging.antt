@@ -1,8 +1,8 @@
 -- What is answered of an implication whose unknowns stand for chosen instances.
 use Rattle.std.specs.Prelude.{◌≡◌, ℕ, Bool, true, List, Some, slice_get}
-use Rattle.lq_parts.specs.Constraint.{Constraint, IsMet}
+use Rattle.lq_parts.specs.Constraint.{Constraint, IsDemand, IsMet}
 use Rattle.lq_parts.specs.Flowing.{Selection, assigned}
-use Rattle.lq_parts.specs.Part.{Part, known, unknown}
+use Rattle.lq_parts.specs.Part.{unknown}
 use Rattle.lq_parts.specs.Refuting.{FailsAt, IsRefuted}
 use Rattle.lq_parts.specs.Substitution.{Subst}
 use Rattle.lq_point.specs.Values.{as_point}
@@ -15,6 +15,7 @@ use Rattle.lq_weakening.specs.declared.error.SolveError.TheVariants.{At, Memory}
 use Rattle.lq_weakening.specs.declared.judge.Asked.{Asked}
 use Rattle.lq_weakening.specs.declared.judge.Asked.TheVariants.{Holds, Fails}
 use Rattle.lq_weakening.specs.declared.judge.Failure.{Failure}
+use Rattle.lq_weakening.specs.declared.judge.Failure.TheVariants.{Demand, Flow}
 
 -- for each unknown its instances
 abbrev pub Instances : Type 0
@@ -26,14 +27,19 @@ pub record AreRefuted (chosen : ℕ → Bool) (p : Point) (σ : Subst) (instance
   pub each : (k : ℕ) → IsAmong numbers k → IsRefuted p σ instances k
   pub all : (k : ℕ) → chosen k ≡ true → IsRefuted p σ instances k → IsAmong numbers k
 
-abbrev pub IfUnknown : Part → (ℕ → Subst → Type 0) → Type 0
-IfUnknown (known p) R = Unit {0}
-IfUnknown (unknown u σ) R = R u σ
+-- the implication is a flow and fails at some point, which refutes these of the chosen instances of its goal
+pub record IsFailingFlow (I : Instances) (c : Selection) (k : Constraint) (numbers : List ℕ) : Type 0 where
+  pub point : Point
+  pub fails : FailsAt (assigned I c) k point
+  pub number : ℕ
+  pub by : Subst
+  pub goal : k.goal ≡ unknown number by
+  pub refuted : AreRefuted (c number) point by (I number) numbers
 
--- the implication fails at the point, which refutes these instances of its goal
-pub record IsFailure (I : Instances) (c : Selection) (k : Constraint) (f : Failure) : Type 0 where
-  pub fails : FailsAt (assigned I c) k (as_point f.point)
-  pub refuted : IfUnknown k.goal (λ u σ. AreRefuted (c u) (as_point f.point) σ (I u) f.refuted.items)
+-- a demand fails at the point, or a flow at some point that refutes the instances
+abbrev pub IsFailure : Instances → Selection → Constraint → Failure → Type 0
+IsFailure I c k (Demand point) = IsDemand k.goal × FailsAt (assigned I c) k (as_point point)
+IsFailure I c k (Flow numbers) = IsFailingFlow I c k numbers.items
 
 -- of the implication of this number
 abbrev pub HoldsThere : Instances → List Constraint → Selection → ℕ → Type 0
@@ -41,6 +47,9 @@ HoldsThere I cs c at = (k : Constraint) → slice_get cs at ≡ Some k → IsMet
 
 abbrev pub FailsThere : Instances → List Constraint → Selection → ℕ → Failure → Type 0
 FailsThere I cs c at f = (k : Constraint) → slice_get cs at ≡ Some k → IsFailure I c k f
+
+abbrev pub FlowFailsThere : Instances → List Constraint → Selection → ℕ → List ℕ → Type 0
+FlowFailsThere I cs c at numbers = (k : Constraint) → slice_get cs at ≡ Some k → IsFailingFlow I c k numbers
 
 abbrev pub IfHolds : Asked → Type 0 → Type 0
 IfHolds Holds X = X

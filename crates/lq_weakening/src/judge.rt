@@ -3,18 +3,20 @@ ghost use Rattle.std.specs.Prelude.{◌≡◌, ◌<◌, ℕ, Bool, List, length,
 ghost use Rattle.lq_parts.specs.Constraint.{Constraint};
 ghost use Rattle.lq_pred.specs.Formula.{Formula};
 ghost use Rattle.lq_pred.specs.declared.pred.Stop.{Stop};
-ghost use Rattle.lq_weakening.specs.Chosen.{chosen_in};
+ghost use Rattle.lq_weakening.specs.Chosen.{AgreeBut, chosen_in};
 ghost use Rattle.lq_weakening.specs.Judging.{FailsThere, HoldsThere, IfFails, IfHolds};
 
 use crate::chosen::Chosen;
 use lq_point::Point;
 use lq_pred::Stop;
 
-/// A point at which an implication fails, and which chosen instances of its goal it refutes; of a demand none.
+/// What an implication that isn't valid gives.
 #[derive(Drop)]
-pub struct Failure {
-    pub point: Point,
-    pub refuted: Vec<u64>,
+pub enum Failure {
+    /// Of a demand, a point at which it fails.
+    Demand(Point),
+    /// Of a flow, the chosen instances of its goal that are refuted at a point at which it fails.
+    Flow(Vec<u64>),
 }
 
 /// Whether an implication is valid.
@@ -53,8 +55,15 @@ pub trait Judge {
         ensures stops { (i : ℕ) (stop : Stop) → may_stop self.new i stop → may_stop self.old i stop };
 
     /// Forgets what is right for some chosen instances only.
-    fn forget(&mut self)
+    fn reset(&mut self)
         ensures forgotten { (chosen : ℕ → ℕ → Bool) → keeps self.new chosen }
+        ensures instances { instances self.new ≡ instances self.old }
+        ensures constraints { constraints self.new ≡ constraints self.old }
+        ensures stops { (i : ℕ) (stop : Stop) → may_stop self.new i stop → may_stop self.old i stop };
+
+    /// Instances of an unknown are about to be taken out: forgets what speaks of it.
+    fn forget(&mut self, unknown: u64)
+        ensures kept { (c d : ℕ → ℕ → Bool) → AgreeBut unknown c d → keeps self.old c → keeps self.new d }
         ensures instances { instances self.new ≡ instances self.old }
         ensures constraints { constraints self.new ≡ constraints self.old }
         ensures stops { (i : ℕ) (stop : Stop) → may_stop self.new i stop → may_stop self.old i stop };

@@ -10,7 +10,7 @@ ghost use Rattle.lq_weakening.specs.Weakening.{IsWeakening};
 
 use crate::chosen::Chosen;
 use crate::error::SolveError;
-use crate::judge::{Asked, Judge};
+use crate::judge::{Asked, Failure, Judge};
 use crate::span::Span;
 use crate::stepping::{step, stopped};
 use crate::waking::{is_flow, wake_all};
@@ -95,7 +95,8 @@ fn failing_point<J: Judge>(
     }
     match judge.ask(at, chosen) {
         Ok(Asked::Holds) => Ok(None),
-        Ok(Asked::Fails(failure)) => Ok(Some(failure.point)),
+        Ok(Asked::Fails(Failure::Demand(point))) => Ok(Some(point)),
+        Ok(Asked::Fails(Failure::Flow(_))) => unreachable!(),
         Err(stop) => Err(stopped(at, stop)),
     }
 }
@@ -182,7 +183,7 @@ pub fn solve<J: Judge>(
     ensures constraints { J.constraints judge.new ≡ J.constraints judge.old }
     ensures stops { (i : ℕ) (stop : Stop) → J.may_stop judge.new i stop → J.may_stop judge.old i stop }
 {
-    judge.forget();
+    judge.reset();
     solve_from_nothing(alloc, judge, goals, spans, counts)
 }
 
@@ -215,7 +216,9 @@ mod tests {
             Err(Stop::Memory)
         }
 
-        fn forget(&mut self) {}
+        fn reset(&mut self) {}
+
+        fn forget(&mut self, _unknown: u64) {}
     }
 
     #[test]

@@ -3,9 +3,9 @@ ghost use Rattle.std.specs.Prelude.{◌≡◌, ◌<◌, ◌⊎◌, ◌∷◌, �
 ghost use Rattle.std.specs.List.Sorted.{IsStrictlySortedBy};
 ghost use Rattle.std.specs.Ordering.{nat_cmp};
 ghost use Rattle.lq_parts.specs.Constraint.{Constraint};
-ghost use Rattle.lq_weakening.specs.Chosen.{chosen_in, total};
+ghost use Rattle.lq_weakening.specs.Chosen.{AgreeBut, chosen_in, total};
 ghost use Rattle.lq_weakening.specs.Index.{AreCovered, AreGoals, spans_at};
-ghost use Rattle.lq_weakening.specs.Judging.{FailsThere, Instances, StopsAt};
+ghost use Rattle.lq_weakening.specs.Judging.{FlowFailsThere, Instances, StopsAt};
 ghost use Rattle.lq_weakening.specs.Waking.{IsFlowAt};
 ghost use Rattle.lq_weakening.specs.Weakening.{IsWeakening};
 ghost use Rattle.lq_pred.specs.declared.pred.Stop.{Stop};
@@ -54,33 +54,33 @@ fn spans_of(spans: &[Vec<Span>], unknown: u64) -> &[Span]
     }
 }
 
-/// Takes the instances of a flow's goal that a point refutes out, and lets the flows that speak of its unknown wait.
+/// Takes instances of an unknown out that are refuted at a point, and lets the flows that speak of it wait.
 fn weaken(
     goals: &[Option<u64>],
     spans: &[Vec<Span>],
-    at: u64,
-    failure: &Failure,
+    unknown: u64,
+    refuted: &[u64],
     chosen: &mut Chosen,
     waiting: &mut BTreeSet<u64>,
 ) -> Result<(), AllocError>
-    requires { IsFlowAt goals.now at }
-    ensures weakening { OnOk result ((I : Instances) (cs : List Constraint) → AreGoals cs goals.now → AreCovered cs spans.now
-        → FailsThere I cs (chosen_in chosen.old) at failure.now
+    ensures weakening { OnOk result ((I : Instances) (cs : List Constraint) (at : ℕ) → AreGoals cs goals.now → AreCovered cs spans.now
+        → slice_get goals.now at ≡ Some (Some unknown) → FlowFailsThere I cs (chosen_in chosen.old) at refuted.now
         → IsWeakening I cs (chosen_in chosen.old) (at ∷ waiting.old.keys)
         → IsWeakening I cs (chosen_in chosen.new) waiting.new.keys) }
-    ensures falls { OnOk result ((I : Instances) (cs : List Constraint) → AreGoals cs goals.now
-        → FailsThere I cs (chosen_in chosen.old) at failure.now → total chosen.new < total chosen.old) }
+    ensures falls { OnOk result ((I : Instances) (cs : List Constraint) (at : ℕ) → AreGoals cs goals.now
+        → slice_get goals.now at ≡ Some (Some unknown) → FlowFailsThere I cs (chosen_in chosen.old) at refuted.now
+        → total chosen.new < total chosen.old) }
+    ensures agree { OnOk result (AgreeBut unknown (chosen_in chosen.old) (chosen_in chosen.new)) }
     ensures flows { OnOk result (All (IsFlowAt goals.now) waiting.old.keys → All (IsFlowAt goals.now) waiting.new.keys) }
     ensures sorted { OnOk result (IsStrictlySortedBy nat_cmp waiting.old.keys → IsStrictlySortedBy nat_cmp waiting.new.keys) }
 {
     refuted_instances();
-    let unknown = unknown_of(goals, at);
-    remove_all(chosen, unknown, &failure.refuted);
+    remove_all(chosen, unknown, refuted);
     wake_all(goals, spans_of(spans, unknown), waiting)?;
     Ok(())
 }
 
-/// Asks a flow. Where it fails, fewer instances are chosen, and the judge forgets what it kept; else nothing changes.
+/// Asks a flow. Where it fails, fewer instances of its goal's unknown are chosen, and the judge forgets what speaks of it; else nothing changes.
 pub(crate) fn step<J: Judge>(
     judge: &mut J,
     goals: &[Option<u64>],
@@ -108,13 +108,15 @@ pub(crate) fn step<J: Judge>(
 {
     match judge.ask(at, chosen) {
         Ok(Asked::Holds) => Ok(()),
-        Ok(Asked::Fails(failure)) => match weaken(goals, spans, at, &failure, chosen, waiting) {
-            Ok(()) => {
-                judge.forget();
-                Ok(())
+        Ok(Asked::Fails(Failure::Flow(refuted))) => {
+            let unknown = unknown_of(goals, at);
+            judge.forget(unknown);
+            match weaken(goals, spans, unknown, &refuted, chosen, waiting) {
+                Ok(()) => Ok(()),
+                Err(AllocError) => Err(SolveError::Memory),
             }
-            Err(AllocError) => Err(SolveError::Memory),
-        },
+        }
+        Ok(Asked::Fails(Failure::Demand(_))) => unreachable!(),
         Err(stop) => Err(stopped(at, stop)),
     }
 }

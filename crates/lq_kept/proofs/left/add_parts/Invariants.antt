@@ -1,6 +1,7 @@
--- What is known holds where the hypotheses are met.
-use Rattle.std.proofs.Common.{map}
+-- What is known holds where the hypotheses are met, and those so far are read.
+use Rattle.std.proofs.Common.{map, take}
 use Rattle.lq_known.specs.Known.{Hold, Keeps}
+use Rattle.lq_nearest.specs.Reading.{AreRead}
 use Rattle.lq_parts.specs.Assignment.{parts_under}
 use Rattle.lq_pred.specs.ClosedImplication.{MeetsEach}
 use Rattle.lq_pred.specs.Points.{Point}
@@ -12,4 +13,5 @@ abbrev pub invariant-loop-part : goal.invariant-loop-part
 invariant-loop-part l = record {
   held : (p : Point) → Hold l.fn.known p → MeetsEach p (parts_under (assignment_of l.instances l.chosen) (map part_view l.parts)) → Hold l.known p;
   keeps : Keeps l.fn.known l.known;
+  read : AreRead l.fn.known l.known (parts_under (assignment_of l.instances l.chosen) (map part_view (take l.part-index l.parts)));
 }

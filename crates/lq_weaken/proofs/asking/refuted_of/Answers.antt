@@ -1,15 +1,14 @@
-use Rattle.std.proofs.Common.{◌∙◌, [], IfOk, map, sym, ap, subst}
+use Rattle.std.proofs.Common.{[], IfOk, map, sym, ap, subst, ◌∙◌}
 use Rattle.lq_instances.specs.Views.{instances_view, list_view}
-use Rattle.lq_parts.specs.Assignment.{all_joined, goal_under}
+use Rattle.lq_parts.specs.Assignment.{all_joined}
 use Rattle.lq_parts.specs.Flowing.{picked}
 use Rattle.lq_parts.specs.Substitution.{formula_by}
 use Rattle.lq_point.specs.Values.{as_point}
 use Rattle.lq_pred.specs.PredView.{implication_of}
-use Rattle.lq_questions.specs.Assigned.{assignment_of, instances_in}
-use Rattle.lq_substitution.specs.Views.{part_view, subst_view}
-use Rattle.lq_substitution.specs.declared.parts.Part.{Part}
+use Rattle.lq_questions.specs.Assigned.{instances_in}
+use Rattle.lq_substitution.specs.Views.{subst_view}
 use Rattle.lq_weakening.specs.Chosen.{chosen_in}
-use Rattle.lq_weakening.specs.Judging.{AreRefuted, IfUnknown}
+use Rattle.lq_weakening.specs.Judging.{AreRefuted}
 use Rattle.lq_weaken.proofs.Conjuncts.{instances_askable}
 use Rattle.lq_weaken.proofs.Counting.{list_is, none_is}
 use Rattle.lq_weaken.proofs.Those.{none_refuted}
@@ -17,32 +16,27 @@ use Rattle.lq_weaken.proofs.asking.refuted_of.Goals as goal
 
 pub refuted-requires-clause-askable : goal.refuted-requires-clause-askable
 refuted-requires-clause-askable c =
-    let σ = subst_view c.in-Unknown.by in
-    let u = c.in-Unknown.unknown in
+    let σ = subst_view c.args.by.now in
+    let u = c.args.unknown in
     let chosen = chosen_in c.args.chosen.now u in
     let l = list_view c.in-Some.list.now in
     instances_askable (implication_of c.args.closed.now) c.args.point.now chosen σ l
-    (c.requires.goal ∙ ap (λ (g : Part). goal_under (assignment_of c.args.instances.now c.args.chosen.now) (part_view g)) c.in-Unknown.is
-    ∙ ap (λ x. all_joined (map (formula_by σ) (picked chosen 0 x))) (list_is (instances_view c.args.instances.now) u l c.in-Some.ensures))
+    (c.requires.goal ∙ ap (λ x. all_joined (map (formula_by σ) (picked chosen 0 x))) (list_is (instances_view c.args.instances.now) u l c.in-Some.ensures))
     c.requires.gathers c.requires.readable.table c.requires.readable.evaluates
 
 pub returns-in-None : goal.returns-in-None
 returns-in-None c =
-    let I = instances_in c.args.instances.now in
-    let σ = subst_view c.in-Unknown.by in
-    let u = c.in-Unknown.unknown in
-    let chosen = chosen_in c.args.chosen.now in
+    let σ = subst_view c.args.by.now in
+    let u = c.args.unknown in
+    let chosen = chosen_in c.args.chosen.now u in
     let p = as_point c.args.point.now in
-    subst (λ (g : Part). IfUnknown (part_view g) (λ u σ. AreRefuted (chosen u) p σ (I u) c.new-none.result.items)) (sym c.in-Unknown.is)
-    (subst (λ ns. AreRefuted (chosen u) p σ (I u) ns) (sym c.new-none.ensures.items)
-    (subst (λ l. AreRefuted (chosen u) p σ l []) (sym (none_is (instances_view c.args.instances.now) u c.in-None.ensures)) (none_refuted (chosen u) p σ)))
+    subst (λ ns. AreRefuted chosen p σ (instances_in c.args.instances.now u) ns) (sym c.new-none.ensures.items)
+    (subst (λ l. AreRefuted chosen p σ l []) (sym (none_is (instances_view c.args.instances.now) u c.in-None.ensures)) (none_refuted chosen p σ))
 
 pub returns-in_ok-table-in-Some : goal.returns-in_ok-table-in-Some
 returns-in_ok-table-in-Some c =
-    let I = instances_in c.args.instances.now in
-    let σ = subst_view c.in-Unknown.by in
-    let u = c.in-Unknown.unknown in
-    let chosen = chosen_in c.args.chosen.now in
+    let σ = subst_view c.args.by.now in
+    let u = c.args.unknown in
+    let chosen = chosen_in c.args.chosen.now u in
     let p = as_point c.args.point.now in
-    subst (λ (g : Part). IfOk c.refuted.result (λ ns. IfUnknown (part_view g) (λ u σ. AreRefuted (chosen u) p σ (I u) ns.items))) (sym c.in-Unknown.is)
-    (subst (λ l. IfOk c.refuted.result (λ ns. AreRefuted (chosen u) p σ l ns.items)) (sym (list_is (instances_view c.args.instances.now) u (list_view c.in-Some.list.now) c.in-Some.ensures)) c.refuted.ensures)
+    subst (λ l. IfOk c.refuted.result (λ ns. AreRefuted chosen p σ l ns.items)) (sym (list_is (instances_view c.args.instances.now) u (list_view c.in-Some.list.now) c.in-Some.ensures)) c.refuted.ensures

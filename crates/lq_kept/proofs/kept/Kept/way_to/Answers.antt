@@ -18,7 +18,7 @@ loop-found-init c =
 pub returns-in_default-clause-way : goal.returns-in_default-clause-way
 returns-in_default-clause-way c = λ A k.
     let es = environment_lists c.args.implications.now in
-    record { at = c.loop-found.at; kept = c.forget.ensures.kept A es; stands = c.forget.ensures.nothing A es c.loop-found.at; way = c.loop-found.invariant.way }
+    record { at = c.loop-found.at; kept = c.reset.ensures.kept A es; stands = c.reset.ensures.nothing A es c.loop-found.at c.in_default.ensures.hypotheses; way = c.loop-found.invariant.way }
 
 pub loop-found-preserved : goal.loop-found-preserved
 loop-found-preserved c =

@@ -1,31 +1,24 @@
-use Rattle.std.proofs.Common.{true, arith}
+use Rattle.std.proofs.Common.{subst}
 use Rattle.lq_pred.specs.NnfView.{nnf_view}
-use Rattle.lq_pred.specs.PredView.{formula_of}
-use Rattle.lq_pred.specs.Reading.{reading_of}
-use Rattle.lq_pred.specs.TableView.{terms_of}
-use Rattle.lq_known.specs.Facts.{facts_of}
-use Rattle.lq_known.proofs.Holding.{agrees_before, first_more, grows_length}
+use Rattle.lq_known.specs.Known.{readings_of}
+use Rattle.lq_known.specs.Values.{MeetsEachRow}
+use Rattle.lq_known.proofs.Holding.{first_readings, more_readings}
+use Rattle.lq_known.proofs.Members.{each_split, with_reading}
 use Rattle.lq_known.proofs.known.Known.add.Goals as goal
 
-pub returns-in-Ok-clause-held : goal.returns-in-Ok-clause-held
-returns-in-Ok-clause-held c = λ p h m v a.
-    let ts = terms_of c.tighten.new.table in
-    c.take.ensures.held v p (h v (agrees_before (terms_of c.args.self.now.table) ts v p c.in-Ok.ensures.grows a))
-    ((c.rows_say_what_comparisons_say.ensures.reading ts v p (reading_of true (formula_of c.args.hypothesis.now)) (nnf_view c.in-Ok.reading) c.len-count.ensures.distinct a c.in-Ok.ensures.reading).1 m)
+pub returns-clause-read : goal.returns-clause-read
+returns-clause-read c = λ v p a m.
+    let old = readings_of c.args.self.now in let r = c.take_facts-reading.result in
+    let e = with_reading c.take_facts-reading.new.self.readings.items c.push.new.self.items r old c.take_facts-reading.ensures.same c.in_ok-push.ensures.items in
+    let both = each_split v p old (nnf_view r) (subst (MeetsEachRow v p) e m) in (both.0, c.take_facts-reading.ensures.read v p a both.1)
 
-pub returns-in-Err-clause-held : goal.returns-in-Err-clause-held
-returns-in-Err-clause-held c = λ p h m v a. h v (agrees_before (terms_of c.args.self.now.table) (terms_of c.tighten.new.table) v p c.in-Err.ensures.grows a)
-
-pub returns-in-Ok-clause-keeps : goal.returns-in-Ok-clause-keeps
-returns-in-Ok-clause-keeps c =
-    let old = facts_of c.args.self.now.state in let new = facts_of c.take.new.state in record {
-      count = grows_length old new c.take.ensures.grows;
-      first = λ n p w h v a.
-          first_more v p old new n c.take.ensures.grows w (h v (agrees_before (terms_of c.args.self.now.table) (terms_of c.tighten.new.table) v p c.in-Ok.ensures.grows a));
+pub returns-clause-keeps : goal.returns-clause-keeps
+returns-clause-keeps c =
+    let old = readings_of c.args.self.now in let r = c.take_facts-reading.result in let before = c.take_facts-reading.ensures.keeps in
+    let e = with_reading c.take_facts-reading.new.self.readings.items c.push.new.self.items r old c.take_facts-reading.ensures.same c.in_ok-push.ensures.items in record {
+      count = before.count;
+      first = before.first;
+      reading_count = more_readings old _ (nnf_view r) e;
+      readings = λ n w. first_readings old _ (nnf_view r) n e w;
+      terms = before.terms;
     }
-
-pub returns-in-Err-clause-keeps : goal.returns-in-Err-clause-keeps
-returns-in-Err-clause-keeps c = record {
-  count = omega arith;
-  first = λ n p w h v a. h v (agrees_before (terms_of c.args.self.now.table) (terms_of c.tighten.new.table) v p c.in-Err.ensures.grows a);
-}

@@ -1,4 +1,4 @@
-use Rattle.std.proofs.Common.{false, arith}
+use Rattle.std.proofs.Common.{false, arith, refl}
 use Rattle.lq_pred.specs.NnfView.{nnf_view}
 use Rattle.lq_pred.specs.PredView.{formula_of}
 use Rattle.lq_pred.specs.Reading.{reading_of}
@@ -29,10 +29,16 @@ returns-in-Ok-clause-keeps c =
       count = count_same old new c.refutes.ensures.same;
       first = λ n p w h v a.
           first_same v p old new n c.refutes.ensures.same (h v (agrees_before (terms_of c.args.self.now.table) (terms_of c.tighten.new.table) v p c.in-Ok.ensures.grows a));
+      reading_count = omega arith;
+      readings = λ n w. refl;
+      terms = c.tighten.ensures.grows;
     }
 
 pub returns-in-Err-clause-keeps : goal.returns-in-Err-clause-keeps
 returns-in-Err-clause-keeps c = record {
   count = omega arith;
   first = λ n p w h v a. h v (agrees_before (terms_of c.args.self.now.table) (terms_of c.tighten.new.table) v p c.in-Err.ensures.grows a);
+  reading_count = omega arith;
+  readings = λ n w. refl;
+  terms = c.tighten.ensures.grows;
 }

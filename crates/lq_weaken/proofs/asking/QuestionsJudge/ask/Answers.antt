@@ -1,4 +1,11 @@
+use Rattle.std.proofs.Common.{subst}
+use Rattle.lq_kept.specs.Answer.{IfRefuted}
+use Rattle.lq_questions.specs.Assigned.{constraints_of, instances_in}
+use Rattle.lq_weakening.specs.Chosen.{chosen_in}
+use Rattle.lq_weakening.specs.Judging.{FlowFailsThere}
 use Rattle.lq_weaken.proofs.asking.QuestionsJudge.ask.Goals as goal
 
-pub returns-then-follows_by_kept-clause-holds : goal.returns-then-follows_by_kept-clause-holds
-returns-then-follows_by_kept-clause-holds c = c.follows_by_kept.ensures.holds c.if-follows_by_kept.true
+pub returns-in-Ok-Refuted-clause-fails : goal.returns-in-Ok-Refuted-clause-fails
+returns-in-Ok-Refuted-clause-fails c =
+    subst (λ a. IfRefuted a (FlowFailsThere (instances_in c.args.self.now.instances.now) (constraints_of c.args.self.now.implications.now) (chosen_in c.args.chosen.now) c.args.at)) c.in-Ok-Refuted.field-0-is
+    c.in-Ok-Refuted.ensures.refuted

@@ -1,14 +1,16 @@
 use Rattle.std.proofs.Common.{map, sym, subst}
 use Rattle.lq_implications.specs.Views.{environment_in, environment_lists, implication_items}
+use Rattle.lq_nearest.specs.Reading.{AreRead}
 use Rattle.lq_parts.specs.Assignment.{parts_under}
 use Rattle.lq_pred.specs.ClosedImplication.{MeetsEach}
 use Rattle.lq_questions.specs.Assigned.{assignment_of, instances_in}
 use Rattle.lq_substitution.specs.Views.{part_view, parts_view}
 use Rattle.lq_weakening.specs.Chosen.{chosen_in}
-use Rattle.lq_nearest.proofs.Meeting.{follows_here, if_true}
+use Rattle.lq_nearest.proofs.Meeting.{follows_here}
 use Rattle.lq_kept.proofs.Levels.{right_grown}
-use Rattle.lq_kept.proofs.Ways.{parts_apart}
-use Rattle.lq_kept.proofs.kept.Kept.follows.Goals as goal
+use Rattle.lq_kept.proofs.Failing.{fails_here, holds_by, refuted_by}
+use Rattle.lq_kept.proofs.Ways.{parts_apart, told_parts}
+use Rattle.lq_kept.proofs.kept.Kept.ask.Goals as goal
 
 pub returns-in_err-add_parts-clause-kept : goal.returns-in_err-add_parts-clause-kept
 returns-in_err-add_parts-clause-kept c =
@@ -20,7 +22,7 @@ returns-clause-kept c =
     let A = assignment_of c.args.instances.now c.args.chosen.now in
     let es = environment_lists c.args.implications.now in
     let levels = c.stand_in.new.self.levels.items in
-    right_grown A es c.add_parts.new.known c.proves_part.new.known levels c.proves_part.ensures.keeps
+    right_grown A es c.add_parts.new.known c.aim.new.known levels c.aim.ensures.keeps
     (right_grown A es c.stand_in.new.self.known c.add_parts.new.known levels c.add_parts.ensures.keeps c.stand_in.ensures.kept)
 
 pub returns-clause-holds : goal.returns-clause-holds
@@ -28,8 +30,22 @@ returns-clause-holds c =
     let A = assignment_of c.args.instances.now c.args.chosen.now in
     let es = environment_lists c.args.implications.now in
     let item = c.in-Some.implication.now in
-    if_true c.proves_part.result _ _
+    holds_by c.aim.result _ _
     (λ f. follows_here (instances_in c.args.instances.now) (chosen_in c.args.chosen.now) es (implication_items c.args.implications.now) c.args.at item c.in-Some.ensures
     (λ p m. let r = parts_apart A p (environment_in es item.env) (parts_view item.left) m in
-    f p (c.in_ok-add_parts.ensures.held p (c.in_ok-stand_in.ensures.stands p r.0) (subst (λ l. MeetsEach p (parts_under A (map part_view l))) (sym c.as_slice.ensures) r.1))))
-    c.proves_part.ensures.proved
+    f p (c.in_ok-add_parts.ensures.held p (c.in_ok-stand_in.ensures.stands.holds p r.0) (subst (λ l. MeetsEach p (parts_under A (map part_view l))) (sym c.as_slice.ensures) r.1))))
+    c.aim.ensures.holds
+
+pub returns-clause-refuted : goal.returns-clause-refuted
+returns-clause-refuted c =
+    let A = assignment_of c.args.instances.now c.args.chosen.now in
+    let es = environment_lists c.args.implications.now in
+    let item = c.in-Some.implication.now in
+    let before = c.stand_in.new.self.known in
+    let after = c.add_parts.new.known in
+    refuted_by c.aim.result _ _
+    (λ numbers f. fails_here after (instances_in c.args.instances.now) (chosen_in c.args.chosen.now) es (implication_items c.args.implications.now) c.args.at item numbers c.in-Some.ensures
+    (told_parts A before after (environment_in es item.env) (parts_view item.left) c.add_parts.ensures.keeps c.in_ok-stand_in.ensures.stands.reads
+    (subst (λ l. AreRead before after (parts_under A (map part_view l))) c.as_slice.ensures c.in_ok-add_parts.ensures.read))
+    f)
+    c.aim.ensures.refuted

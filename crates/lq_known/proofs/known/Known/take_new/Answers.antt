@@ -1,0 +1,50 @@
+use Rattle.std.proofs.Common.{true, arith, refl, subst}
+use Rattle.lq_pred.specs.NnfView.{nnf_view}
+use Rattle.lq_pred.specs.PredView.{formula_of}
+use Rattle.lq_pred.specs.Reading.{reading_of}
+use Rattle.lq_pred.specs.TableView.{terms_of}
+use Rattle.lq_pred.specs.RowMeaning.{MeetsRows}
+use Rattle.lq_known.specs.Facts.{facts_of}
+use Rattle.lq_known.proofs.Holding.{agrees_before, first_more, grows_length}
+use Rattle.lq_known.proofs.Members.{no_seen}
+use Rattle.lq_known.proofs.known.Known.take_new.Goals as goal
+
+pub returns-in-Ok-clause-held : goal.returns-in-Ok-clause-held
+returns-in-Ok-clause-held c = λ p h m v a.
+    let ts = terms_of c.tighten.new.table in
+    c.take_unless.ensures.held v p (h v (agrees_before (terms_of c.args.self.now.table) ts v p c.in-Ok.ensures.grows a))
+    ((c.rows_say_what_comparisons_say.ensures.reading ts v p (reading_of true (formula_of c.args.hypothesis.now)) (nnf_view c.in-Ok.reading) c.len-count.ensures.distinct a c.in-Ok.ensures.reading).1 m)
+
+pub returns-in-Err-clause-held : goal.returns-in-Err-clause-held
+returns-in-Err-clause-held c = λ p h m v a. h v (agrees_before (terms_of c.args.self.now.table) (terms_of c.tighten.new.table) v p c.in-Err.ensures.grows a)
+
+pub returns-in-Ok-clause-keeps : goal.returns-in-Ok-clause-keeps
+returns-in-Ok-clause-keeps c =
+    let old = facts_of c.args.self.now.state in let new = facts_of c.take_unless.new.state in record {
+      count = grows_length old new c.take_unless.ensures.grows;
+      first = λ n p w h v a.
+          first_more v p old new n c.take_unless.ensures.grows w (h v (agrees_before (terms_of c.args.self.now.table) (terms_of c.tighten.new.table) v p c.in-Ok.ensures.grows a));
+      reading_count = omega arith;
+      readings = λ n w. refl;
+      terms = c.tighten.ensures.grows;
+    }
+
+pub returns-in-Err-clause-keeps : goal.returns-in-Err-clause-keeps
+returns-in-Err-clause-keeps c = record {
+  count = omega arith;
+  first = λ n p w h v a. h v (agrees_before (terms_of c.args.self.now.table) (terms_of c.tighten.new.table) v p c.in-Err.ensures.grows a);
+  reading_count = omega arith;
+  readings = λ n w. refl;
+  terms = c.tighten.ensures.grows;
+}
+
+pub returns-in-Ok-clause-read : goal.returns-in-Ok-clause-read
+returns-in-Ok-clause-read c = λ v p a m.
+    let both = c.plain_or_never.ensures v p m in (
+      (c.rows_say_what_comparisons_say.ensures.reading (terms_of c.tighten.new.table) v p (reading_of true (formula_of c.args.hypothesis.now)) (nnf_view c.in-Ok.reading) c.len-count.ensures.distinct a
+          c.in-Ok.ensures.reading).0 both.0,
+      both.1,
+    )
+
+pub returns-in-Err-clause-read : goal.returns-in-Err-clause-read
+returns-in-Err-clause-read c = λ v p a m. absurd (subst (MeetsRows v p) no_seen m)
