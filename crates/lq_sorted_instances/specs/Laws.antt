@@ -10,6 +10,7 @@ use Rattle.lq_sorts.specs.Qualifiers.{of_qualifiers}
 use Rattle.lq_templates.specs.Scopes.{Unknown}
 use Rattle.lq_tree.specs.MeasureTrees.{MeasureTree}
 use Rattle.lq_tree.specs.Qualifiers.{QualifierTree}
+use Rattle.lq_sorted_scope.specs.Sorts.{AreInstancesSorted}
 use Rattle.lq_sorted_instances.specs.Sorts.{AreSortedQualifiers}
 
 -- qualifiers of a text, without complaints
@@ -23,3 +24,9 @@ abbrev pub InstancesAreSorted : Type 0
 InstancesAreSorted =
     (us : List Unknown) (ms : List ℕ) (qs : List Qualifier) (c : Selection) → AreSortedQualifiers qs
     → AreSorted (unknown_in us) (assigned (λ u. slice_index_or (all_instances_of ms qs us) u []) c)
+
+-- It is well sorted too: objects stand in it as arguments of lengths and measures alone, and each is a variable.
+abbrev pub InstancesAreWellSorted : Type 0
+InstancesAreWellSorted =
+    (us : List Unknown) (ms : List ℕ) (qs : List Qualifier) (c : Selection) → AreSortedQualifiers qs
+    → AreInstancesSorted (unknown_in us) (assigned (λ u. slice_index_or (all_instances_of ms qs us) u []) c)

@@ -3,4 +3,4 @@
 
 mod laws;
 
-pub use laws::{instances_are_sorted, qualifiers_are_sorted};
+pub use laws::{instances_are_sorted, instances_are_well_sorted, qualifiers_are_sorted};

@@ -1,0 +1,8 @@
+-- Lemmas.
+mod Types
+mod Parts
+mod Forms
+mod Entries
+mod Splits
+mod Implications
+mod Predicates

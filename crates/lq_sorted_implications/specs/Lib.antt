@@ -1,0 +1,3 @@
+-- Implications that are well sorted: definitions and laws.
+pub mod Sorted
+pub mod Laws

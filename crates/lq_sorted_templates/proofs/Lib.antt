@@ -1,0 +1,4 @@
+-- Lemmas.
+mod Made
+mod Points
+mod Reading

@@ -1,0 +1,16 @@
+// Laws of the definitions. Nothing is run.
+ghost use Rattle.lq_sorted_templates.specs.Laws.{PointsAreSorted, TemplatesAreSorted};
+
+use lq_templates::templates_are_of_their_types;
+
+/// The templates of points whose scopes have their sorts among names are well sorted over these.
+pub fn templates_are_sorted()
+    ensures { TemplatesAreSorted }
+{
+    templates_are_of_their_types();
+}
+
+/// The points of a block in normal form that obeys the rules of types are sorted among its names.
+pub fn points_are_sorted()
+    ensures { PointsAreSorted }
+{}
