@@ -1,3 +1,4 @@
 -- Lemmas.
 mod Formed
+pub mod Conditions
 mod Texts

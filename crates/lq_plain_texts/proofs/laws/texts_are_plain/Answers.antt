@@ -4,7 +4,6 @@ use Rattle.lq_plain_texts.proofs.laws.texts_are_plain.Goals as goal
 pub returns : goal.returns
 returns c =
     texts_plain (record {
-      typed = c.noted_texts_are_typed.ensures;
       ready = c.noted_texts_are_ready.ensures;
       parsed = c.parsed_programs_are_written.ensures;
       plain = c.scoped_programs_are_plain.ensures;
@@ -14,6 +13,5 @@ returns c =
       settled = c.typed_texts_are_settled.ensures;
       arms = c.typed_texts_have_arms.ensures;
       before = c.noted_texts_use_before.ensures;
-      scalar = c.scalar_normal_forms_are_plain.ensures;
       fit = c.text_measures_fit.ensures;
-    })
+    }) c.noted_texts_are_typed.ensures c.scalar_normal_forms_are_plain.ensures

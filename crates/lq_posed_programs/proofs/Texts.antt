@@ -1,0 +1,40 @@
+-- Typed texts are posed, and what they are asked for speaks of bound names.
+use Rattle.std.proofs.Common.{[], ap, refl}
+use Rattle.std.proofs.Math.Logic.{∥∥₁_map}
+use Rattle.lq_annotated.specs.Whole.{program_of}
+use Rattle.lq_bound_subtypings.specs.Laws.{EnvironmentsDiffer, ImplicationsAreBound, NormalFormsArePosed, ObligationsAreBound}
+use Rattle.lq_declared.specs.Equations.{place_in}
+use Rattle.lq_few_names.specs.Laws.{ShortTextsHaveTwins}
+use Rattle.lq_obligations.specs.Laws.{ObligationsAreImplications}
+use Rattle.lq_problem.specs.Posed.{datatypes_of, read_of}
+use Rattle.lq_scenes.specs.Scenes.{equations_at}
+use Rattle.lq_text_ready.specs.Laws.{NotedTextsAreReady, NotedTextsAreTyped}
+use Rattle.lq_text_safe.specs.Safety.{basis_in, normal_in}
+use Rattle.lq_plain_texts.proofs.Conditions.{Laws, scalar_text}
+use Rattle.lq_posed_programs.specs.Laws.{points_in, unknowns_in, TextEnvironmentsDiffer, TextImplicationsAreBound, TextObligationsAreBound, TextsArePosed}
+
+pub texts_posed : Laws → NotedTextsAreTyped → NormalFormsArePosed → TextsArePosed
+texts_posed L typed posed i n ms short knows measures =
+    let s = program_of i.annotated in
+    ∥∥₁_map (typed i n short.of_text knows) (λ r.
+    let t = scalar_text L i n short ms knows measures r.normal in
+    posed (datatypes_of s.datatypes ms) n r.by (normal_in s) r.same r.normal r.obeys r.uses t.scalar t.equations
+    (λ c none. ap (equations_at ms (place_in s.datatypes) c) none) t.ready t.differ t.twins t.before)
+
+pub obligations_bound : TextsArePosed → ObligationsAreBound → TextObligationsAreBound
+obligations_bound posed bound i n ms short knows measures =
+    let s = program_of i.annotated in
+    ∥∥₁_map (posed i n ms short knows measures) (bound (basis_in s ms n) (unknowns_in s ms n) (points_in s n) (read_of n (normal_in s)))
+
+pub implications_bound : TextsArePosed → ImplicationsAreBound → ObligationsAreImplications → TextImplicationsAreBound
+implications_bound posed bound are i n ms short knows measures =
+    let s = program_of i.annotated in
+    let P = basis_in s ms n in
+    let p = read_of n (normal_in s) in
+    (are P [] p, ∥∥₁_map (posed i n ms short knows measures) (λ h. (bound P (unknowns_in s ms n) (points_in s n) p h).1))
+
+pub names_differ : NotedTextsAreReady → ShortTextsHaveTwins → EnvironmentsDiffer → TextEnvironmentsDiffer
+names_differ ready twins differ i n ms short knows =
+    let s = program_of i.annotated in
+    let is_ready = ready i n (datatypes_of s.datatypes ms) short.of_text refl knows in
+    differ (basis_in s ms n) (read_of n (normal_in s)) is_ready (twins i n short knows)
