@@ -1,5 +1,5 @@
 -- Typed texts are posed, and what they are asked for speaks of bound names.
-use Rattle.std.proofs.Common.{[], ap, refl}
+use Rattle.std.proofs.Common.{◌≡◌, ℕ, None, [], ap, refl}
 use Rattle.std.proofs.Math.Logic.{∥∥₁_map}
 use Rattle.lq_annotated.specs.Whole.{program_of}
 use Rattle.lq_bound_subtypings.specs.Laws.{EnvironmentsDiffer, ImplicationsAreBound, NormalFormsArePosed, ObligationsAreBound}
@@ -10,8 +10,12 @@ use Rattle.lq_problem.specs.Posed.{datatypes_of, read_of}
 use Rattle.lq_scenes.specs.Scenes.{equations_at}
 use Rattle.lq_text_ready.specs.Laws.{NotedTextsAreReady, NotedTextsAreTyped}
 use Rattle.lq_text_safe.specs.Safety.{basis_in, normal_in}
-use Rattle.lq_plain_texts.proofs.Conditions.{Laws, scalar_text}
-use Rattle.lq_posed_programs.specs.Laws.{points_in, unknowns_in, TextEnvironmentsDiffer, TextImplicationsAreBound, TextObligationsAreBound, TextsArePosed}
+use Rattle.lq_sorted_implications.specs.Laws.{ImplicationsAreSorted}
+use Rattle.lq_sorted_programs.specs.Kinds.{kinds_by}
+use Rattle.lq_sorted_programs.specs.Laws.{NormalFormsAreSorted}
+use Rattle.lq_text_measures.specs.Laws.{TextMeasuresAreSorted}
+use Rattle.lq_plain_texts.proofs.Conditions.{Laws, is_over, scalar_text}
+use Rattle.lq_posed_programs.specs.Laws.{points_in, unknowns_in, TextEnvironmentsDiffer, TextImplicationsAreBound, TextImplicationsAreSorted, TextObligationsAreBound, TextsArePosed}
 
 pub texts_posed : Laws → NotedTextsAreTyped → NormalFormsArePosed → TextsArePosed
 texts_posed L typed posed i n ms short knows measures =
@@ -32,6 +36,19 @@ implications_bound posed bound are i n ms short knows measures =
     let P = basis_in s ms n in
     let p = read_of n (normal_in s) in
     (are P [] p, ∥∥₁_map (posed i n ms short knows measures) (λ h. (bound P (unknowns_in s ms n) (points_in s n) p h).1))
+
+pub implications_sorted : Laws → NotedTextsAreTyped → NormalFormsArePosed → NormalFormsAreSorted → TextMeasuresAreSorted → ImplicationsAreSorted → TextImplicationsAreSorted
+implications_sorted L typed posed sorted equations laws i n ms short knows measures =
+    let s = program_of i.annotated in
+    let P = basis_in s ms n in
+    let D = datatypes_of s.datatypes ms in
+    ∥∥₁_map (typed i n short.of_text knows) (λ r.
+    let t = scalar_text L i n short ms knows measures r.normal in
+    let others = λ (c : ℕ) (none : P.setting.constructors c ≡ None). ap (equations_at ms (place_in s.datatypes) c) none in
+    let is_posed = posed D n r.by (normal_in s) r.same r.normal r.obeys r.uses t.scalar t.equations others t.ready t.differ t.twins t.before in
+    let well = equations P s.datatypes ms (is_over s ms n) measures in
+    let is_sorted = sorted D n r.by (normal_in s) r.same r.normal r.obeys r.uses t.scalar t.equations others t.ready t.differ t.twins t.before well in
+    (laws P (unknowns_in s ms n) (points_in s n) (read_of n (normal_in s)) is_posed (kinds_by r.by) is_sorted).1)
 
 pub names_differ : NotedTextsAreReady → ShortTextsHaveTwins → EnvironmentsDiffer → TextEnvironmentsDiffer
 names_differ ready twins differ i n ms short knows =

@@ -1,4 +1,4 @@
--- What is read of a typed text is posed, so that its obligations and implications speak of names that their environments bind.
+-- What is read of a typed text is posed, so that its obligations and implications speak of names that their environments bind, at their sorts.
 use Rattle.std.specs.Prelude.{◌≡◌, ℕ, List, [], All}
 use Rattle.lq_annotated.specs.Whole.{program_of}
 use Rattle.lq_bound_subtypings.specs.Bound.{AreBound, IsBoundObligation, NamesDiffer}
@@ -17,6 +17,7 @@ use Rattle.lq_points.specs.Templates.{points_of}
 use Rattle.lq_problem.specs.Posed.{read_of, unknowns_for}
 use Rattle.lq_scoped.specs.Scoping.{Scoping}
 use Rattle.lq_sorted.specs.Sorted.{Measure}
+use Rattle.lq_sorted_implications.specs.Sorted.{AreImplicationsSorted}
 use Rattle.lq_templates.specs.Scopes.{Unknown}
 use Rattle.lq_text_measures.specs.Laws.{AreMeasuresOf}
 use Rattle.lq_text_safe.specs.Safety.{basis_in, normal_in}
@@ -55,3 +56,9 @@ TextImplicationsAreBound = (i : Instantiated) (n : Annotation) (ms : List Measur
 abbrev pub TextEnvironmentsDiffer : Type 0
 TextEnvironmentsDiffer = (i : Instantiated) (n : Annotation) (ms : List Measure) → let s = program_of i.annotated in IsOfShortText s → Knows i n
     → All (λ (o : Obligation). NamesDiffer o.context) (obligations_in s ms n)
+
+-- Each of its implications is merely well sorted in its environment: it speaks of names that this binds, each at the kind of its type, and of v at one
+-- kind, and an object is a variable that is measured or compared as a whole.
+abbrev pub TextImplicationsAreSorted : Type 0
+TextImplicationsAreSorted = (i : Instantiated) (n : Annotation) (ms : List Measure) → let s = program_of i.annotated in IsOfShortText s → Knows i n
+    → AreMeasuresOf s.datatypes ms → ∥ All (AreImplicationsSorted (basis_in s ms n) (unknowns_in s ms n)) (obligations_in s ms n) ∥₁

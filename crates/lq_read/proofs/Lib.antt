@@ -1,6 +1,6 @@
 mod Pures
 mod Blocks
-mod Numbered
-mod Named
-mod Typing
-mod Typed
+pub mod Numbered
+pub mod Named
+pub mod Typing
+pub mod Typed

@@ -44,21 +44,21 @@ built_type Γ a no_trees = refl
 built_type Γ a (more_trees e es) = refl
 
 module _ (D : Datatypes) (n : Annotation) (used : Uses) (all : List Point) where
-  abbrev typed : Tree → Typed
+  abbrev pub typed : Tree → Typed
   typed = pures.typed D n used all
 
-  abbrev Operates : Types → t.Operation → MlType → Type 0
+  abbrev pub Operates : Types → t.Operation → MlType → Type 0
   Operates = HasOperation (basis_of D all) (points_of all)
 
-  abbrev Blocks : Types → t.Block → MlType → Type 0
+  abbrev pub Blocks : Types → t.Block → MlType → Type 0
   Blocks = HasBlock (basis_of D all) (points_of all)
 
   -- an operation, and the block that it is alone
-  record OperationTyped (Δ : Types) (B : t.Block) (a : MlType) : Type 0 where
-    has : Operates Δ (last_operation B) a
-    pointed : IsPointed (points_of all) (last_operation B) a
-    alone : Blocks Δ B a
-    ends : HasEnd (basis_of D all) (points_of all) Δ B Δ a
+  pub record OperationTyped (Δ : Types) (B : t.Block) (a : MlType) : Type 0 where
+    pub has : Operates Δ (last_operation B) a
+    pub pointed : IsPointed (points_of all) (last_operation B) a
+    pub alone : Blocks Δ B a
+    pub ends : HasEnd (basis_of D all) (points_of all) Δ B Δ a
 
   alone_typed : (Δ : Types) (l : Place) (o : t.Operation) (a : MlType) → Operates Δ o a → IsPointed (points_of all) o a → OperationTyped Δ (t.last l o) a
   alone_typed Δ l o a h q = record { has = h; pointed = q; alone = has_last h; ends = end_last h q }
@@ -67,18 +67,18 @@ module _ (D : Datatypes) (n : Annotation) (used : Uses) (all : List Point) where
   at_equal Δ B e h = subst (OperationTyped Δ B) e h
 
   -- a block, and the names at its end
-  record BlockTyped (Δ : Types) (B : t.Block) (a : MlType) : Type 0 where
-    block : Blocks Δ B a
-    behind : Types
-    ends : HasEnd (basis_of D all) (points_of all) Δ B behind a
-    named : AreNamed n behind
-    kept : (x : ℕ) → HasName Δ x → HasName behind x
+  pub record BlockTyped (Δ : Types) (B : t.Block) (a : MlType) : Type 0 where
+    pub block : Blocks Δ B a
+    pub behind : Types
+    pub ends : HasEnd (basis_of D all) (points_of all) Δ B behind a
+    pub named : AreNamed n behind
+    pub kept : (x : ℕ) → HasName Δ x → HasName behind x
 
   -- of a name's pattern
-  name_type : {q : p.Pattern} → IsName q → (a : MlType) → PatternIs D.constructors (types_of n) q a → n.names (reading.parameter_of q) ≡ a
+  pub name_type : {q : p.Pattern} → IsName q → (a : MlType) → PatternIs D.constructors (types_of n) q a → n.names (reading.parameter_of q) ≡ a
   name_type is_name a h = h
 
-  holds_name : {q : p.Pattern} → IsName q → (xs : List ℕ) (Δ : Types) (a : MlType) → Holds n xs Δ → Holds n (bound_in q ++ xs) ((reading.parameter_of q, a) ∷ Δ)
+  pub holds_name : {q : p.Pattern} → IsName q → (xs : List ℕ) (Δ : Types) (a : MlType) → Holds n xs Δ → Holds n (bound_in q ++ xs) ((reading.parameter_of q, a) ∷ Δ)
   holds_name (is_name {x = x}) xs Δ a h = holds_one n xs Δ x a h
 
   pure_block : (g : Bool) (k : ℕ) (S : List Seen) (xs : List ℕ) (Δ : Types) (d : AreNamed n Δ) (w : Holds n xs Δ) {e : Tree} → IsPure e → UsesFit n xs e → (typed e).obeys
@@ -100,11 +100,11 @@ module _ (D : Datatypes) (n : Annotation) (used : Uses) (all : List Point) where
   pure_block g k S xs Δ d w (pure_or {i = i} {l = l} q r) u o h = alone_typed Δ l _ _ (has_pure (pures.pure_typed D n used all S xs Δ d w k (pure_or {i = i} {l = l} q r) u o h)) tt
   pure_block g k S xs Δ d w (pure_length {i = i} {l = l} q) u o h = alone_typed Δ l _ _ (has_pure (pures.pure_typed D n used all S xs Δ d w k (pure_length {i = i} {l = l} q) u o h)) tt
 
-  use_own : {e : Tree} → IsUse e → (typed e).type ≡ n.types (id_of e)
+  pub use_own : {e : Tree} → IsUse e → (typed e).type ≡ n.types (id_of e)
   use_own is_use = refl
 
   -- an operation has the type of its node
-  own_type : {e : Tree} → IsOperation e → (typed e).type ≡ n.types (id_of e)
+  pub own_type : {e : Tree} → IsOperation e → (typed e).type ≡ n.types (id_of e)
   own_type (is_pure h) = pures.own_type D n used all h
   own_type (is_fun h w) = refl
   own_type (is_if h w u) = refl
@@ -123,7 +123,7 @@ module _ (D : Datatypes) (n : Annotation) (used : Uses) (all : List Point) where
   own_type (is_read h) = refl
 
   mutual
-    block_typed : (g : Bool) (k : ℕ) (S : List Seen) (xs : List ℕ) (Δ : Types) (d : AreNamed n Δ) (w : Holds n xs Δ) {e : Tree} → IsBlock e → UsesFit n xs e → (typed e).obeys
+    pub block_typed : (g : Bool) (k : ℕ) (S : List Seen) (xs : List ℕ) (Δ : Types) (d : AreNamed n Δ) (w : Holds n xs Δ) {e : Tree} → IsBlock e → UsesFit n xs e → (typed e).obeys
         → HasAt all k (block_of n g k S e).points → BlockTyped Δ (block_of n g k S e).read (typed e).type
     block_typed g k S xs Δ d w (block_let {i = i} {l = l} {q = q} {e = e} {b = b} m f r) u o h =
         let E : Read t.Block = block_of n false k S e in
@@ -163,7 +163,7 @@ module _ (D : Datatypes) (n : Annotation) (used : Uses) (all : List Point) where
         let E : OperationTyped Δ (block_of n g k S e).read (typed e).type = at_equal Δ _ (sym (own_type f)) (operation_typed g k S xs Δ d w f u o h) in
         record { block = E.alone; behind = Δ; ends = E.ends; named = d; kept = λ y z. z }
 
-    operation_typed : (g : Bool) (k : ℕ) (S : List Seen) (xs : List ℕ) (Δ : Types) (d : AreNamed n Δ) (w : Holds n xs Δ) {e : Tree} → IsOperation e → UsesFit n xs e → (typed e).obeys
+    pub operation_typed : (g : Bool) (k : ℕ) (S : List Seen) (xs : List ℕ) (Δ : Types) (d : AreNamed n Δ) (w : Holds n xs Δ) {e : Tree} → IsOperation e → UsesFit n xs e → (typed e).obeys
         → HasAt all k (block_of n g k S e).points → OperationTyped Δ (block_of n g k S e).read (n.types (id_of e))
     operation_typed g k S xs Δ d w (is_pure f) u o h = pure_block g k S xs Δ d w f u o h
     operation_typed g k S xs Δ d w (is_fun {i = i} {l = l} {q = q} {b = b} m r) u ((from, is, c), o) h =

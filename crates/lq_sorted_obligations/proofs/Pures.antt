@@ -47,7 +47,7 @@ kind_same k j h = by (is_one k j) (is_other k) (is_other j) h (kind_is k j) (bot
     by false true false h f g = cc
     by false false c h f g = cc
 
-kind_own : (k : Kind) → is_kind k k ≡ true
+pub kind_own : (k : Kind) → is_kind k k ≡ true
 kind_own number = refl
 kind_own truth_value = refl
 kind_own object = refl

@@ -1,4 +1,4 @@
 -- Lemmas.
 mod Made
 mod Points
-mod Reading
+pub mod Reading

@@ -1,16 +1,19 @@
 -- The templates of points are well sorted.
-use Rattle.std.specs.Prelude.{◌≡◌, ℕ, Bool, true, List}
+use Rattle.std.specs.Prelude.{◌≡◌, ℕ, Bool, true, List, [], ◌∷◌}
+use Rattle.lq_checks.specs.Binders.{binders, block_binders}
 use Rattle.lq_in_scope.specs.Over.{kind_of, unknown_in}
+use Rattle.lq_normal_types.specs.Programs.{NormalItemsAre}
 use Rattle.lq_normal_types.specs.Typing.{typing_of, used_by}
 use Rattle.lq_points.specs.Annotation.{Annotation}
 use Rattle.lq_points.specs.Point.{Point}
-use Rattle.lq_points.specs.Reading.{block_of}
+use Rattle.lq_points.specs.Reading.{block_of, program_of}
 use Rattle.lq_points.specs.Seen.{Seen}
 use Rattle.lq_points.specs.Templates.{Datatypes, basis_of, unknowns_of}
 use Rattle.lq_read.specs.Laws.{types_of}
-use Rattle.lq_read.specs.Normal.{IsBlock}
+use Rattle.lq_read.specs.Normal.{AreNormal, IsBlock}
 use Rattle.lq_refined.specs.Operations.{symbol_of}
 use Rattle.lq_sorts.specs.Shapes.{shape_of}
+use Rattle.lq_tree.specs.Items.{ItemTree}
 use Rattle.lq_tree.specs.Tree.{Tree}
 use Rattle.lq_tree.specs.Types.{Names}
 use Rattle.lq_sorted_scope.specs.Sorts.{Sorts}
@@ -25,13 +28,30 @@ TemplatesAreSorted =
     → let P = basis_of D ps in
     TypeSorted D.constructors (unknown_in (unknowns_of D ps)) N (P.template k) × TypesSorted D.constructors (unknown_in (unknowns_of D ps)) N (P.type_arguments k)
 
--- each name stands for values of the kind of its type
-abbrev pub HaveNameKinds : Annotation → Sorts → Type 0
-HaveNameKinds n N = (x : ℕ) → N (kind_of (shape_of (n.names x))) (symbol_of x) ≡ true
+-- each of these names is so
+abbrev pub EachName : (ℕ → Bool) → List ℕ → Type 0
+EachName M [] = Unit {0}
+EachName M (x ∷ xs) = (M x ≡ true) × EachName M xs
 
--- The points of a block in normal form that obeys the rules of types are sorted among its names, at the kinds of their types.
+-- and so is each name that is visible
+abbrev pub EachSeen : (ℕ → Bool) → List Seen → Type 0
+EachSeen M [] = Unit {0}
+EachSeen M (s ∷ Δ) = (M s.name ≡ true) × EachSeen M Δ
+
+-- each name that is so stands for values of the kind of its type
+abbrev pub HaveNameKinds : Annotation → (ℕ → Bool) → Sorts → Type 0
+HaveNameKinds n M N = (x : ℕ) → M x ≡ true → N (kind_of (shape_of (n.names x))) (symbol_of x) ≡ true
+
+-- The points of a block in normal form that obeys the rules of types are sorted among the names, where those that it binds, and those that are visible,
+-- stand for values of the kinds of their types.
 abbrev pub PointsAreSorted : Type 0
 PointsAreSorted =
-    (D : Datatypes) (n : Annotation) (N : Sorts) → HaveNameKinds n N → (ns : Names) (e : Tree) → IsBlock e
+    (D : Datatypes) (n : Annotation) (M : ℕ → Bool) (N : Sorts) → HaveNameKinds n M N → (ns : Names) (e : Tree) → IsBlock e
     → (typing_of D.constructors (types_of n) (used_by (types_of n) ns) e).obeys
-    → (g : Bool) (k : ℕ) (Δ : List Seen) → PointsSorted N (block_of n g k Δ e).points
+    → (g : Bool) (k : ℕ) (Δ : List Seen) → EachSeen M Δ → EachName M (block_binders (block_of n g k Δ e).read) → PointsSorted N (block_of n g k Δ e).points
+
+-- So are the points of a program in normal form, where the names that it binds do.
+abbrev pub ProgramPointsAreSorted : Type 0
+ProgramPointsAreSorted =
+    (D : Datatypes) (n : Annotation) (M : ℕ → Bool) (N : Sorts) → HaveNameKinds n M N → (is : List ItemTree) → AreNormal is
+    → NormalItemsAre D.constructors (types_of n) [] is → EachName M (binders (program_of n is).read) → PointsSorted N (program_of n is).points

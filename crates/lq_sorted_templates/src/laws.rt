@@ -1,5 +1,5 @@
 // Laws of the definitions. Nothing is run.
-ghost use Rattle.lq_sorted_templates.specs.Laws.{PointsAreSorted, TemplatesAreSorted};
+ghost use Rattle.lq_sorted_templates.specs.Laws.{PointsAreSorted, ProgramPointsAreSorted, TemplatesAreSorted};
 
 use lq_templates::templates_are_of_their_types;
 
@@ -13,4 +13,9 @@ pub fn templates_are_sorted()
 /// The points of a block in normal form that obeys the rules of types are sorted among its names.
 pub fn points_are_sorted()
     ensures { PointsAreSorted }
+{}
+
+/// The points of a program in normal form that obeys the rules of types are sorted among its names.
+pub fn program_points_are_sorted()
+    ensures { ProgramPointsAreSorted }
 {}

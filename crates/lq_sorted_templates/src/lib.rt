@@ -3,4 +3,4 @@
 
 mod laws;
 
-pub use laws::{points_are_sorted, templates_are_sorted};
+pub use laws::{points_are_sorted, program_points_are_sorted, templates_are_sorted};

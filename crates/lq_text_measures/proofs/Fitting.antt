@@ -101,11 +101,11 @@ equations_of texts ds known n (m ∷ ts) h (suc i) t e =
 -- ---- measures at constructors
 
 -- each term that a measure has for the constructor suits it
-abbrev AllSuit : List DataTree → List Measure → ℕ → Constructor → Type 0
+abbrev pub AllSuit : List DataTree → List Measure → ℕ → Constructor → Type 0
 AllSuit ds ms c k =
     (i : ℕ) (m : Measure) (t : Term) → slice_get ms i ≡ Some m → m.datatype ≡ k.datatype → slice_get m.terms (place_in ds c) ≡ Some t → Suits k.fields t
 
-all_suit : MeasuresBecome → (ds : List DataTree) (ts : List MeasureTree) (texts : List (List ℕ)) → equations.of_measures texts ds ts ≡ [] → (c : ℕ)
+pub all_suit : MeasuresBecome → (ds : List DataTree) (ts : List MeasureTree) (texts : List (List ℕ)) → equations.of_measures texts ds ts ≡ [] → (c : ℕ)
     (k : Constructor) → signature_in ds c ≡ Some k → AllSuit ds (measures_made ds ts) c k
 all_suit become ds ts texts none c k there i m t e d f = one (got_map (measure_made ds (measures_in ts)) ts i m e)
   where

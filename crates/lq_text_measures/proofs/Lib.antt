@@ -4,3 +4,4 @@ mod Names
 mod Places
 mod Terms
 mod Fitting
+mod Sorts

@@ -11,6 +11,7 @@ use Rattle.lq_sorted.specs.Making.{measures_made}
 use Rattle.lq_sorted.specs.Sorted.{Measure}
 use Rattle.lq_sorts.specs.Equations.{of_measures}
 use Rattle.lq_tree.specs.MeasureTrees.{MeasureTree}
+use Rattle.lq_sorted_scope.specs.Equations.{AreEquationsWellSorted}
 
 -- what is made of the measures of a text of which nothing is complained, where these datatypes are defined
 pub record AreMeasuresOf (ds : List DataTree) (ms : List Measure) : Type 0 where
@@ -31,3 +32,7 @@ abbrev pub TextMeasuresFit : Type 0
 TextMeasuresFit =
     (P : Basis) (ds : List DataTree) (ms : List Measure) → IsOver P ds ms → AreMeasuresOf ds ms
     → HasMeasures P ms (place_in ds) × AreEquationsSorted P × ListsConstructors P
+
+-- Its equations are well sorted: they measure v, an object, and speak of each field at its kind.
+abbrev pub TextMeasuresAreSorted : Type 0
+TextMeasuresAreSorted = (P : Basis) (ds : List DataTree) (ms : List Measure) → IsOver P ds ms → AreMeasuresOf ds ms → AreEquationsWellSorted P

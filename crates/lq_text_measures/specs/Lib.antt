@@ -1,2 +1,2 @@
--- The measures of a text: definitions and a law.
+-- The measures of a text: definitions and laws.
 pub mod Laws

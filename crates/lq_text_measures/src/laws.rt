@@ -1,5 +1,5 @@
 // What holds of the definitions. Nothing is run.
-ghost use Rattle.lq_text_measures.specs.Laws.{TextMeasuresFit};
+ghost use Rattle.lq_text_measures.specs.Laws.{TextMeasuresAreSorted, TextMeasuresFit};
 
 use lq_sorted::measures_become;
 
@@ -7,6 +7,13 @@ use lq_sorted::measures_become;
 /// speak of `v` and of fields at their sorts, and all constructors are listed.
 pub fn text_measures_fit()
     ensures { TextMeasuresFit }
+{
+    measures_become();
+}
+
+/// Then their equations are well sorted: they measure `v`, an object, and speak of each field at its kind.
+pub fn text_measures_are_sorted()
+    ensures { TextMeasuresAreSorted }
 {
     measures_become();
 }

@@ -3,4 +3,4 @@
 
 mod laws;
 
-pub use laws::text_measures_fit;
+pub use laws::{text_measures_are_sorted, text_measures_fit};

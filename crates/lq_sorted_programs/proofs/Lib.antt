@@ -1,0 +1,6 @@
+-- Lemmas.
+mod Erasing
+mod Names
+mod Fixed
+mod Twins
+mod Programs
