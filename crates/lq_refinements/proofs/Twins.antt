@@ -10,7 +10,7 @@ use Rattle.lq_refinements.specs.Changes.{changed}
 use Rattle.lq_refinements.specs.declared.changes.Change.{Change}
 use Rattle.lq_refinements.specs.declared.changes.Change.TheVariants.{Put, Twin, Twinned}
 use Rattle.lq_substitution.specs.Views.{subst_view}
-use Rattle.lq_substitution.specs.declared.swaps.Subst.{Subst as Swaps}
+use Rattle.lq_substitution.specs.declared.substs.Subst.{Subst as Swaps}
 use Rattle.lq_refined.specs.Refined.{Kind, Refined, int_with, bool_with, unit_type, function, tuple_of, array_with, data_with, map_with, type_variable, Refineds, none, more, kind}
 
 -- ---- names

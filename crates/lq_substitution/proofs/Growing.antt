@@ -1,13 +1,13 @@
 -- Scopes that grow, and what is in them.
-use Rattle.std.proofs.Common.{◌≡◌, ℕ, zero, suc, ◌+◌, ◌-◌, ◌<◌, ◌≤◌, List, [], ◌∷◌, ◌++◌, length, slice_get, Option, Some, None, MatchOption, IfSome, Bool, true, false, not, ◌||◌, if◌then◌else◌, ◌⊎◌, inl, inr, refl, sym, ap, ap₂, subst, ◌∙◌, arith}
+use Rattle.std.proofs.Common.{◌≡◌, ℕ, zero, suc, ◌+◌, ◌-◌, ◌<◌, ◌≤◌, List, [], ◌∷◌, ◌++◌, length, slice_get, Option, Some, None, MatchOption, IfSome, reverse, Bool, true, false, not, ◌||◌, if◌then◌else◌, ◌⊎◌, inl, inr, refl, sym, ap, ap₂, subst, ◌∙◌, arith}
 use Rattle.std.proofs.lemmas.Bool.{eqb-true, eq-eqb}
-use Rattle.std.proofs.lemmas.List.{get_or_append_left, get_or_past, get_or_push, length-append}
+use Rattle.std.proofs.lemmas.List.{get_or_append_left, get_or_past, get_or_push, length-append, reverse-append}
 use Rattle.std.proofs.lemmas.List.Elements.{All-filter, All-head, All-push, All-tail}
 use Rattle.lq_parts.specs.Substitution.{is_in}
 use Rattle.lq_pred.specs.Sum.{same_symbol}
 use Rattle.lq_pred.specs.declared.symbol.Symbol.{Symbol}
 use Rattle.lq_pred.specs.declared.symbol.Symbol.TheVariants.{Value, Bound, Position}
-use Rattle.lq_substitution.specs.Scopes.{grown, left, list_at, rank, shown, without, AreBelow, AreWithin, IsWithin}
+use Rattle.lq_substitution.specs.Scopes.{grown, left, list_at, rank, shown, without, AreBelow, AreBetween, AreWithin, IsWithin}
 use Rattle.lq_substitution.specs.declared.scopes.Entry.{Entry}
 
 abbrev Lists : Type 0
@@ -183,7 +183,22 @@ above n (y ∷ xs) x h less =
         let same : rank y ≡ rank x = ap rank (same_symbol-is y x e) in
         let low = All-head (λ z. rank z ≤ n) y xs h in absurd (omega arith)
 
-in-last : (xs : List Symbol) (y x : Symbol) → is_in (xs ++ y ∷ []) x ≡ is_in xs x || same_symbol y x
+-- nor does one that ranks below all
+pub outside : (low high : ℕ) (xs : List Symbol) (x : Symbol) → AreBetween low high xs → (rank x < low) ⊎ (high < rank x) → is_in xs x ≡ false
+outside low high [] x h o = refl
+outside low high (y ∷ xs) x h o =
+    ap₂ (λ a b. a || b) (differs (same_symbol y x) refl)
+    (outside low high xs x (All-tail (λ z. (low ≤ rank z) × (rank z ≤ high)) y xs h) o)
+  where
+    apart : (low ≤ rank y) × (rank y ≤ high) → rank y ≡ rank x → (rank x < low) ⊎ (high < rank x) → ⊥
+    apart b e (inl l) = let m = b.0 in omega (arith, e, l, m)
+    apart b e (inr l) = let m = b.1 in omega (arith, e, l, m)
+
+    differs : (b : Bool) → same_symbol y x ≡ b → same_symbol y x ≡ false
+    differs false e = e
+    differs true e = absurd (apart (All-head (λ z. (low ≤ rank z) × (rank z ≤ high)) y xs h) (ap rank (same_symbol-is y x e)) o)
+
+pub in-last : (xs : List Symbol) (y x : Symbol) → is_in (xs ++ y ∷ []) x ≡ is_in xs x || same_symbol y x
 in-last [] y x = last (same_symbol y x)
   where
     last : (b : Bool) → b || false ≡ b
@@ -248,3 +263,15 @@ other-in e h x is other differs up = left-in e x other up ∙ (ap (λ o. is_in (
 pub none-in : (e : Entry) (x : Symbol) → e.hidden ≡ None → same_symbol e.symbol x ≡ false
     → (up : List Symbol) → is_in (shown e up) x ≡ is_in up x
 none-in e x is other up = left-in e x other up ∙ ap (λ o. is_in (left o up) x) is
+
+pub in-reverse : (xs : List Symbol) (x : Symbol) → is_in (reverse xs) x ≡ is_in xs x
+in-reverse [] x = refl
+in-reverse (y ∷ xs) x =
+    ap (λ l. is_in l x) (reverse-append (y ∷ []) xs) ∙ in-last (reverse xs) y x ∙ ap (λ b. b || same_symbol y x) (in-reverse xs x)
+    ∙ swapped (is_in xs x) (same_symbol y x)
+  where
+    swapped : (a b : Bool) → a || b ≡ b || a
+    swapped true true = refl
+    swapped true false = refl
+    swapped false true = refl
+    swapped false false = refl

@@ -1,2 +1,5 @@
 pub mod Growing
+pub mod Sharing
+pub mod Finding
+pub mod Picking
 pub mod Jumps

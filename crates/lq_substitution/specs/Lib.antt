@@ -3,4 +3,7 @@ pub mod Extending
 pub mod Numbered
 pub mod Composing
 pub mod Scopes
+pub mod Restricting
+pub mod Runs
+pub mod Listed
 pub mod Views

@@ -54,3 +54,7 @@ AgreeBelow n xs ys = (x : Symbol) → rank x < n → is_in xs x ≡ is_in ys x
 abbrev pub AreJumps : List Entry → Type 0
 AreJumps es = (k : ℕ) (e : Entry) → slice_get es k ≡ Some e
     → (e.jump.to ≤ k) × AgreeBelow e.jump.lowest (shown e (list_at (grown ([] ∷ []) es) e.parent)) (list_at (grown ([] ∷ []) es) e.jump.to)
+
+-- each ranks between these
+abbrev pub AreBetween : ℕ → ℕ → List Symbol → Type 0
+AreBetween low high xs = All (λ x. (low ≤ rank x) × (rank x ≤ high)) xs

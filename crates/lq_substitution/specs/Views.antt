@@ -1,42 +1,28 @@
 -- What replacements, parts and scopes of the code stand for.
-use Rattle.std.specs.Prelude.{ℕ, List, [], ◌∷◌, ◌++◌, map, slice_index_or}
+use Rattle.std.specs.Prelude.{ℕ, List, [], ◌∷◌, map, slice_index_or}
 use Rattle.lq_parts.specs.Part as parts
 use Rattle.lq_parts.specs.Part.{known, unknown}
 use Rattle.lq_parts.specs.Substitution as swaps
-use Rattle.lq_parts.specs.Substitution.{of_sum, of_formula, swap, kept}
 use Rattle.lq_pred.specs.PredView.{formula_of}
-use Rattle.lq_pred.specs.TermView.{sum_of}
 use Rattle.lq_pred.specs.declared.symbol.Symbol.{Symbol}
 use Rattle.lq_pred.specs.declared.symbol.Symbol.TheVariants.{Value}
+pub use Rattle.lq_substitution.specs.Runs.{atom_view, swap_view, run_swaps, run_list, runs_view, swaps_view}
+use Rattle.lq_substitution.specs.Listed.{listed_items}
 use Rattle.lq_substitution.specs.Scopes.{grown, list_at}
-use Rattle.lq_substitution.specs.declared.atoms.Atom.{Atom}
-use Rattle.lq_substitution.specs.declared.atoms.Atom.TheVariants as of
-use Rattle.lq_substitution.specs.declared.composing.Kept.{Kept}
 use Rattle.lq_substitution.specs.declared.parts.Part.{Part}
 use Rattle.lq_substitution.specs.declared.parts.Part.TheVariants as part
 use Rattle.lq_substitution.specs.declared.parts.Parts.{Parts}
 use Rattle.lq_substitution.specs.declared.scopes.Scopes.{Scopes}
 use Rattle.lq_substitution.specs.declared.swaps.Swap.{Swap}
-use Rattle.lq_substitution.specs.declared.swaps.Subst.{Subst}
+use Rattle.lq_substitution.specs.declared.substs.Subst.{Subst}
 
 -- ---- replacements
 
-abbrev pub atom_view : Atom → swaps.Atom
-atom_view (of.Term t) = of_sum (sum_of t)
-atom_view (of.Pred p) = of_formula (formula_of p)
-
-abbrev pub swap_view : Swap → swaps.Swap
-swap_view s = swap s.symbol (atom_view s.atom)
-
 abbrev pub swap_items : Subst → List Swap
-swap_items by = by.items.items
+swap_items by = listed_items by.list
 
 abbrev pub subst_view : Subst → swaps.Subst
-subst_view by = map swap_view (swap_items by)
-
--- what is kept in all, where these replacements are still to come
-abbrev pub rest_kept : List Symbol → Kept → swaps.Subst → swaps.Subst
-rest_kept scope k σ = map swap_view k.items.items ++ kept scope k.terms.items k.flags.items σ
+subst_view by = swaps_view (swap_items by)
 
 -- ---- scopes
 

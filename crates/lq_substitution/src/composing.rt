@@ -1,101 +1,103 @@
-// Replacements one after another, and for the names of a scope alone.
-ghost use Rattle.std.specs.Prelude.{◌≡◌, ◌∷◌, IfOk, OnOk};
-ghost use Rattle.lq_parts.specs.Substitution.{Subst as Swaps, after, is_in, is_new, restricted};
-ghost use Rattle.lq_substitution.specs.Views.{rest_kept, scopes_view, subst_view, swap_view};
+// Replacements one after another.
+ghost use Rattle.std.specs.Prelude.{◌≡◌, ◌++◌, map, IfOk, OnOk};
+ghost use Rattle.lq_parts.specs.Substitution.{after};
+ghost use Rattle.lq_substitution.specs.Composing.{put_in};
+ghost use Rattle.lq_substitution.specs.Listed.{listed_items, rows_items};
+ghost use Rattle.lq_substitution.specs.Views.{run_swaps, runs_view, subst_view, swaps_view};
 
-use crate::atoms::Atom;
-use crate::scopes::Scopes;
+use crate::leaving::leaves_each;
+use crate::listed::Listed;
+use crate::rows::{FEW, Rows};
+use crate::runs::Run;
 use crate::substituting::substitute_atom;
-use crate::swaps::{Subst, Swap, is_same_symbol};
-use lq_pred::Symbol;
+use crate::substs::Subst;
+use crate::swaps::Swap;
 use std::alloc::{AllocError, Global};
+
+// Adds replacements behind others, with something put into what they put for symbols.
+fn add_put_into(
+    alloc: Global,
+    by: &Subst,
+    made: &mut Vec<Swap>,
+    swaps: &[Swap],
+) -> Result<(), AllocError>
+    ensures { OnOk result (swaps_view made.new.items ≡ swaps_view made.old.items
+        ++ map (put_in (subst_view by.now)) (swaps_view swaps.now)) }
+{
+    for swap in swaps {
+        let atom = substitute_atom(alloc, &swap.atom, by)?;
+        made.push(Swap {
+            symbol: swap.symbol,
+            atom,
+        })?;
+    }
+    Ok(())
+}
+
+// A row with something put into what it puts for symbols. Where nothing changes it is shared.
+fn put_into_row(alloc: Global, by: &Subst, run: &Run) -> Result<Run, AllocError>
+    ensures { IfOk result (λ made. swaps_view (run_swaps made) ≡ map (put_in (subst_view by.now)) (swaps_view (run_swaps run.now))) }
+{
+    let swaps = run.as_slice();
+    if leaves_each(swaps, by) {
+        return run.share();
+    }
+    let mut made = Vec::with_capacity(alloc, swaps.len())?;
+    add_put_into(alloc, by, &mut made, swaps)?;
+    Run::of(alloc, made)
+}
+
+// The same of rows.
+fn put_into_rows(alloc: Global, by: &Subst, runs: &[Run]) -> Result<Vec<Run>, AllocError>
+    ensures { IfOk result (λ made. runs_view made.items ≡ map (put_in (subst_view by.now)) (runs_view runs.now)) }
+{
+    let mut made = Vec::with_capacity(alloc, runs.len())?;
+    for run in runs {
+        made.push(put_into_row(alloc, by, run)?)?;
+    }
+    Ok(made)
+}
+
+// Few replacements with something put into what they put for symbols, and that behind them.
+fn few_then(alloc: Global, by: &Subst, swaps: &[Swap]) -> Result<Listed, AllocError>
+    ensures { IfOk result (λ made. swaps_view (listed_items made)
+        ≡ map (put_in (subst_view by.now)) (swaps_view swaps.now) ++ subst_view by.now) }
+{
+    let total = by.len().saturating_add(swaps.len());
+    if total <= FEW {
+        let mut made = Vec::with_capacity(alloc, total)?;
+        add_put_into(alloc, by, &mut made, swaps)?;
+        by.list.add_to(alloc, &mut made)?;
+        return Ok(Listed::Few(made));
+    }
+    let mut made = Vec::with_capacity(alloc, swaps.len())?;
+    add_put_into(alloc, by, &mut made, swaps)?;
+    Listed::Few(made).then(alloc, &by.list)
+}
+
+// The same of many.
+fn many_then(alloc: Global, by: &Subst, rows: &Rows) -> Result<Listed, AllocError>
+    ensures { IfOk result (λ made. swaps_view (listed_items made)
+        ≡ map (put_in (subst_view by.now)) (swaps_view (rows_items rows.now)) ++ subst_view by.now) }
+{
+    let front = put_into_rows(alloc, by, &rows.front)?;
+    let back = put_into_rows(alloc, by, &rows.back)?;
+    let rows = Rows::of(front, back)?;
+    Listed::of(alloc, rows)?.then(alloc, &by.list)
+}
 
 /// First the second replacements, then the first ones, as one.
 pub fn after(alloc: Global, first: &Subst, second: &Subst) -> Result<Subst, AllocError>
     ensures { IfOk result (λ both. subst_view both ≡ after (subst_view first.now) (subst_view second.now)) }
 {
-    let mut items = Vec::with_capacity(alloc, first.items.len() + second.items.len())?;
-    for swap in &second.items {
-        let atom = substitute_atom(alloc, &swap.atom, first)?;
-        items.push(Swap {
-            symbol: swap.symbol,
-            atom,
-        })?;
-    }
-    for swap in &first.items {
-        items.push(swap.copy(alloc)?)?;
-    }
-    Ok(Subst { items })
-}
-
-// Whether a symbol is one of these.
-fn is_in(symbols: &[Symbol], symbol: Symbol) -> bool
-    ensures { result ≡ is_in symbols.now symbol }
-{
-    symbols.iter().any(|other| is_same_symbol(*other, symbol))
-}
-
-// Whether a symbol is in the scope of an unknown, and nothing was put for it yet.
-fn is_new(scopes: &Scopes, unknown: u64, done: &[Symbol], symbol: Symbol) -> bool
-    ensures { result ≡ is_new (scopes_view scopes.now unknown) done.now symbol }
-{
-    scopes.has(unknown, symbol) && !is_in(done, symbol)
-}
-
-// What was kept of replacements, and the names for which there is a term, or a predicate, already, the last one first.
-#[derive(Drop)]
-struct Kept {
-    terms: Vec<Symbol>,
-    flags: Vec<Symbol>,
-    items: Vec<Swap>,
-}
-
-// Takes one replacement more, where it counts for a name of the scope of an unknown.
-fn take(
-    alloc: Global,
-    kept: &mut Kept,
-    scopes: &Scopes,
-    unknown: u64,
-    swap: &Swap,
-) -> Result<(), AllocError>
-    ensures { OnOk result ((σ : Swaps) → rest_kept (scopes_view scopes.now unknown) kept.old (swap_view swap.now ∷ σ)
-        ≡ rest_kept (scopes_view scopes.now unknown) kept.new σ) }
-{
-    match &swap.atom {
-        Atom::Term(_) => {
-            if is_new(scopes, unknown, &kept.terms, swap.symbol) {
-                kept.items.push(swap.copy(alloc)?)?;
-                kept.terms.insert(0, swap.symbol)?;
-            }
+    match &second.list {
+        Listed::Few(swaps) => {
+            let list = few_then(alloc, first, swaps)?;
+            Ok(Subst { list })
         }
-        Atom::Pred(_) => {
-            if is_new(scopes, unknown, &kept.flags, swap.symbol) {
-                kept.items.push(swap.copy(alloc)?)?;
-                kept.flags.insert(0, swap.symbol)?;
-            }
+        Listed::Many(rows) => {
+            let list = many_then(alloc, first, rows)?;
+            Ok(Subst { list })
         }
     }
-    Ok(())
-}
-
-/// Of replacements, what counts for the names of an unknown's scope: for each the first term and the first predicate.
-pub fn restricted(
-    alloc: Global,
-    scopes: &Scopes,
-    unknown: u64,
-    by: &Subst,
-) -> Result<Subst, AllocError>
-    ensures { IfOk result (λ made. subst_view made
-        ≡ restricted (scopes_view scopes.now unknown) (subst_view by.now)) }
-{
-    let mut kept = Kept {
-        terms: Vec::new(alloc),
-        flags: Vec::new(alloc),
-        items: Vec::with_capacity(alloc, by.items.len())?,
-    };
-    for swap in &by.items {
-        take(alloc, &mut kept, scopes, unknown, swap)?;
-    }
-    kept.items.shrink_to_fit();
-    Ok(Subst { items: kept.items })
 }

@@ -3,14 +3,24 @@
 
 mod atoms;
 mod composing;
+mod joining;
+mod leaving;
+mod listed;
 mod parts;
+mod restricting;
+mod rows;
+mod runs;
 mod scopes;
+mod seen;
 mod substituting;
+mod substs;
 mod swaps;
 
 pub use atoms::Atom;
-pub use composing::{after, restricted};
+pub use composing::after;
 pub use parts::{Part, Parts};
+pub use restricting::restricted;
 pub use scopes::Scopes;
 pub use substituting::{substitute, substitute_atom, substitute_term};
-pub use swaps::{Subst, Swap};
+pub use substs::Subst;
+pub use swaps::Swap;

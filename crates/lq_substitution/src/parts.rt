@@ -5,10 +5,11 @@ ghost use Rattle.lq_parts.specs.Part.{is_truth, part_by, parts_by};
 ghost use Rattle.lq_substitution.specs.Extending.{HasFirst};
 ghost use Rattle.lq_substitution.specs.Views.{part_view, part_items, parts_view, scopes_view, subst_view};
 
-use crate::composing::{after, restricted};
+use crate::composing::after;
+use crate::restricting::restricted;
 use crate::scopes::Scopes;
 use crate::substituting::substitute;
-use crate::swaps::Subst;
+use crate::substs::Subst;
 use lq_pred::Pred;
 use std::alloc::{AllocError, Global};
 

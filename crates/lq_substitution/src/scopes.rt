@@ -66,7 +66,7 @@ impl Entry {
 const POSITIONS: u64 = 1 << 32;
 
 // A binder that stands later in a text mostly ranks higher.
-fn rank(symbol: Symbol) -> u64
+pub(crate) fn rank(symbol: Symbol) -> u64
     ensures { result ≡ rank symbol }
 {
     match symbol {

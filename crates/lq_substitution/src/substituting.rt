@@ -6,7 +6,7 @@ ghost use Rattle.lq_pred.specs.TermView.{sum_of};
 ghost use Rattle.lq_substitution.specs.Views.{atom_view, subst_view};
 
 use crate::atoms::Atom;
-use crate::swaps::Subst;
+use crate::substs::Subst;
 use lq_pred::{Pred, Term};
 use std::alloc::{AllocError, Global};
 

@@ -1,14 +1,20 @@
 use Rattle.std.proofs.Common.{◌++◌, map, sym, ap, ◌∙◌}
-use Rattle.std.proofs.lemmas.List.{take_all}
 use Rattle.lq_substitution.specs.Composing.{put_in, after-map}
-use Rattle.lq_substitution.specs.Views.{subst_view, swap_view}
+use Rattle.lq_substitution.specs.Listed.{listed_items, rows_items}
+use Rattle.lq_substitution.specs.Views.{subst_view, swaps_view}
 use Rattle.lq_substitution.proofs.composing.after.Goals as goal
 
-pub returns : goal.returns
-returns c =
+pub returns-in_ok-list-in-Few : goal.returns-in_ok-list-in-Few
+returns-in_ok-list-in-Few c =
     let θ = subst_view c.args.first.now in
-    let σ = subst_view c.args.second.now in
-    let items = c.deref-swap-items-2.result.now in
-    c.loop-swap-2.invariant
-    ∙ ap (λ l. map (put_in θ) σ ++ map swap_view l) (take_all c.loop-swap-2.swap-index items c.loop-swap-2-test.false ∙ c.deref-swap-items-2.ensures.value)
-    ∙ sym (after-map θ σ)
+    let σ = c.args.second.now in
+    c.in_ok-list-in-Few.ensures ∙ ap (λ l. map (put_in θ) (swaps_view l) ++ θ) (c.deref.ensures.value ∙ sym (ap listed_items c.in-Few.is))
+    ∙ sym (after-map θ (subst_view σ))
+
+pub returns-in_ok-list-in-Many : goal.returns-in_ok-list-in-Many
+returns-in_ok-list-in-Many c =
+    let θ = subst_view c.args.first.now in
+    let σ = c.args.second.now in
+    c.in_ok-list-in-Many.ensures
+    ∙ ap (λ l. map (put_in θ) (swaps_view l) ++ θ) (ap rows_items c.deref-in-Many.ensures ∙ sym (ap listed_items c.in-Many.is))
+    ∙ sym (after-map θ (subst_view σ))

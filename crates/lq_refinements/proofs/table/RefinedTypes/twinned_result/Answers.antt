@@ -8,7 +8,7 @@ use Rattle.lq_refined.specs.Refined.{Refined}
 use Rattle.lq_refinements.specs.Forms.{binder_view, kind_view}
 use Rattle.lq_refinements.specs.Whole.{refined_at}
 use Rattle.lq_substitution.specs.Views.{subst_view}
-use Rattle.lq_substitution.specs.declared.swaps.Subst.{Subst}
+use Rattle.lq_substitution.specs.declared.substs.Subst.{Subst}
 use Rattle.lq_refinements.proofs.table.RefinedTypes.twinned_result.Goals as goal
 
 pub returns-in_ok-both-in-Some-clause-refined : goal.returns-in_ok-both-in-Some-clause-refined

@@ -1,0 +1,20 @@
+-- What is kept of a row, replacement by replacement.
+use Rattle.std.proofs.Common.{◌≡◌, ℕ, ◌+◌, List, [], ◌∷◌, ◌++◌, take, slice_get, Some, Bool, true, false, if◌then◌else◌, ap, ◌∙◌}
+use Rattle.lq_parts.specs.Substitution.{Subst}
+use Rattle.lq_substitution.specs.Restricting.{picked_view}
+use Rattle.lq_substitution.specs.Runs.{swap_view, swaps_view}
+use Rattle.lq_substitution.specs.declared.restricting.Picked.{Picked}
+use Rattle.lq_substitution.specs.declared.restricting.Picked.TheVariants.{Whole, Copies}
+use Rattle.lq_substitution.specs.declared.swaps.Swap.{Swap}
+use Rattle.lq_substitution.proofs.Sharing.{swaps_view-append, take-at}
+
+pub whole-kept : (b : Bool) (p : Picked) (ss : List Swap) (k : ℕ) (s : Swap) → b ≡ true → p ≡ Whole → slice_get ss k ≡ Some s
+    → swaps_view (take (k + 1) ss) ≡ (if b then picked_view p ss k ++ swap_view s ∷ [] else picked_view p ss k)
+whole-kept true Whole ss k s e f g = ap swaps_view (take-at ss k s g) ∙ swaps_view-append (take k ss) (s ∷ [])
+whole-kept true (Copies v) ss k s e f g = absurd (cc)
+whole-kept false p ss k s e f g = absurd (cc)
+
+pub copies-kept : (b : Bool) (p : Picked) (v : Subst) (ss : List Swap) (k : ℕ) (s : Swap) → b ≡ true → v ≡ picked_view p ss k ++ swap_view s ∷ []
+    → v ≡ (if b then picked_view p ss k ++ swap_view s ∷ [] else picked_view p ss k)
+copies-kept true p v ss k s e f = f
+copies-kept false p v ss k s e f = absurd (cc)
