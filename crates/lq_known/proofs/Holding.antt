@@ -1,5 +1,5 @@
 -- Facts that hold, more facts behind them, and facts that clash.
-use Rattle.std.proofs.Common.{◌≡◌, ◌∙◌, ◌≤◌, ℕ, zero, suc, arith, length, length-append, take, List, [], ◌∷◌, ◌++◌, Bool, Option, Some, None, IfSome, slice_get, IsTrue, refl, sym, ap, subst, append_assoc}
+use Rattle.std.proofs.Common.{◌≡◌, ◌∙◌, ◌≤◌, ℕ, zero, suc, arith, length, length-append, take, List, [], ◌∷◌, ◌++◌, Bool, true, false, Option, Some, None, IfSome, slice_get, IsTrue, refl, sym, ap, subst, append_assoc}
 use Rattle.std.proofs.lemmas.List.{append-nil, take-append-le, take-take}
 use Rattle.lq_combine.specs.Met.{AllHold, EachAgree, FactHolds, MeetsPath}
 use Rattle.lq_combine.specs.Path.{Fact, Path}
@@ -12,9 +12,13 @@ use Rattle.lq_pred.specs.RowMeaning.{AgreesOn}
 use Rattle.lq_pred.specs.Sum.{Sum}
 use Rattle.lq_pred.specs.Table.{Extends, all_differ}
 use Rattle.lq_pred.specs.TableView.{terms_of}
-use Rattle.lq_known.specs.Facts.{Grows}
-use Rattle.lq_known.specs.Known.{Keeps}
+use Rattle.lq_pred.specs.Formula.{Formula}
+use Rattle.lq_pred.specs.declared.nnf.Nnf.{Nnf}
+use Rattle.lq_known.specs.Facts.{Grows, facts_of}
+use Rattle.lq_known.specs.Known.{IsReadOf, Keeps, readings_of}
+use Rattle.lq_known.specs.Read.{IsReadOver, IsReading}
 use Rattle.lq_known.specs.declared.known.Known.{Known}
+use Rattle.lq_known.specs.declared.read.ReadPred.{ReadPred}
 
 pub hold_more : (v : Valuation) (p : Point) (old new : List Fact) (f : Fact) → new ≡ old ++ f ∷ [] → AllHold v p old → FactHolds v p f → AllHold v p new
 hold_more v p old new f e h k = subst (AllHold v p) (sym e) (along old h)
@@ -106,6 +110,28 @@ keeps_then a b c g h = record {
   readings = λ n w. h.readings n (let m = g.reading_count in omega (arith, w, m)) ∙ g.readings n w;
   terms = extends_then (terms_of a.table) (terms_of b.table) (terms_of c.table) g.terms h.terms;
 }
+
+-- where terms alone come, all that is known stays
+pub keeps_table : (old new : Known) → facts_of new.state ≡ facts_of old.state → readings_of new ≡ readings_of old → Extends (terms_of old.table) (terms_of new.table) → Keeps old new
+keeps_table old new e r x = record {
+  count = count_same (facts_of old.state) (facts_of new.state) e;
+  first = λ n p w h v a. first_same v p (facts_of old.state) (facts_of new.state) n e (h v (agrees_before (terms_of old.table) (terms_of new.table) v p x a));
+  reading_count = as_many (readings_of old) (readings_of new) r;
+  readings = λ n w. ap (take n) r;
+  terms = x;
+}
+
+-- ---- what was read stays so as terms come
+
+pub reading_grows : (old new : List Sum) (o : Option Nnf) (sign : Bool) (h : Formula) → Extends old new → IsReading old o sign h → IsReading new o sign h
+reading_grows old new None sign h x r = tt
+reading_grows old new (Some n) sign h x r = λ v p a. r v p (agrees_before old new v p x a)
+
+pub read_over : (old new : List Sum) (r : ReadPred) (h : Formula) → Extends old new → IsReadOver old r h → IsReadOver new r h
+read_over old new r h x i = record { met = reading_grows old new r.met true h x i.met; against = reading_grows old new r.against false h x i.against; plain = i.plain }
+
+pub read_kept : (old new : Known) (r : ReadPred) (h : Formula) → Keeps old new → IsReadOf old r h → IsReadOf new r h
+read_kept old new r h k i = read_over (terms_of old.table) (terms_of new.table) r h k.terms i
 
 -- ---- what is said of an answer
 

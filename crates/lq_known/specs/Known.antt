@@ -4,7 +4,6 @@ use Rattle.lq_case.specs.RowState.{is_solved, row_point}
 use Rattle.lq_combine.specs.Met.{AllHold}
 use Rattle.lq_linear.specs.Row.{Row, Valuation}
 use Rattle.lq_pred.specs.Formula.{Formula}
-use Rattle.lq_pred.specs.NnfView.{nnf_view}
 use Rattle.lq_pred.specs.Points.{Meets, Point}
 use Rattle.lq_pred.specs.Reading.{Reading, reading_of}
 use Rattle.lq_pred.specs.RowMeaning.{AgreesOn}
@@ -13,8 +12,10 @@ use Rattle.lq_pred.specs.Table.{Extends}
 use Rattle.lq_pred.specs.TableView.{terms_of}
 use Rattle.lq_known.specs.Facts.{facts_of}
 use Rattle.lq_known.specs.Plain.{IsPlain}
+use Rattle.lq_known.specs.Read.{IsReadOver, hypothesis_reading}
 use Rattle.lq_known.specs.Values.{HasFlags, MeetsEachRow}
 use Rattle.lq_known.specs.declared.known.Known.{Known}
+use Rattle.lq_known.specs.declared.read.ReadPred.{ReadPred}
 
 -- the facts hold at the point, of whatever numbers gives each term its own there
 abbrev pub Hold : Known → Point → Type 0
@@ -30,7 +31,7 @@ fact_count k = length (facts_of k.state)
 
 -- the readings of the hypotheses in order
 abbrev pub readings_of : Known → List (Reading Row)
-readings_of k = map nnf_view k.readings.items
+readings_of k = map (λ r. hypothesis_reading r.value) k.readings.items
 
 -- The first facts hold where they held, and others may have come behind them. The first readings and terms are those that were there.
 pub record Keeps (old new : Known) : Type 0 where
@@ -44,6 +45,10 @@ pub record Keeps (old new : Known) : Type 0 where
 abbrev pub IsRead : Known → Known → Formula → Type 0
 IsRead old new h =
     (v : Valuation) (p : Point) → AgreesOn (terms_of new.table) v p → MeetsEachRow v p (readings_of new) → MeetsEachRow v p (readings_of old) × (Meets p (reading_of true h) × IsPlain h)
+
+-- the formula was read so, over the terms that are known
+abbrev pub IsReadOf : Known → ReadPred → Formula → Type 0
+IsReadOf k r h = IsReadOver (terms_of k.table) r h
 
 -- values are known that solve the rows among the facts
 abbrev pub IsSettled : Known → Type 0

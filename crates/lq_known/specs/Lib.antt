@@ -1,4 +1,5 @@
 pub mod Facts
 pub mod Known
 pub mod Plain
+pub mod Read
 pub mod Values

@@ -2,7 +2,8 @@
 ghost use Rattle.std.specs.Prelude.{◌≡◌};
 ghost use Rattle.lq_case.specs.RowState.{terms_of as row_terms};
 
-use crate::plain::{is_plain, plain_or_never};
+use crate::plain::is_plain;
+use crate::read::ReadPred;
 use crate::reads::{refutes, take_unless};
 use crate::standing::{Stand, settle, settle_facts};
 use crate::values::{evaluate, meets_each};
@@ -10,6 +11,7 @@ use lq_case::PathState;
 use lq_linear::Mark;
 use lq_pred::{GatherError, Nnf, Pred, TermTable, rows_say_what_comparisons_say, tighten};
 use std::alloc::{AllocError, Global};
+use std::rc::Rc;
 
 /// Facts that hypotheses give, over terms that are numbered as they come: the literals that stand under no choice, but for those about objects
 /// and for rows with terms of large numbers. The readings of the hypotheses are kept whole.
@@ -19,7 +21,7 @@ pub struct Known {
     room: u64,
     table: TermTable,
     state: PathState,
-    readings: Vec<Nnf>,
+    readings: Vec<Rc<ReadPred>>,
     /// Whether a goal is proved by a check of all facts too, and not only by a clash that is seen as its own are taken.
     checks: bool,
     ghost limits: { row_terms state.rows ≡ room },
@@ -29,7 +31,7 @@ impl Known {
     ghost use Rattle.std.specs.Prelude.{◌≡◌, ◌↔◌, ◌≤◌, ℕ, Bool, length, min, take, true, false, IfOk, IfSome, IsTrue, OnOk};
     ghost use Rattle.lq_case.specs.RowState.{row_point};
     ghost use Rattle.lq_linear.specs.Row.{Valuation};
-    ghost use Rattle.lq_pred.specs.NnfView.{nnf_view};
+    ghost use Rattle.lq_pred.specs.Formula.{Formula};
     ghost use Rattle.lq_pred.specs.Points.{Meets, Point};
     ghost use Rattle.lq_pred.specs.PredView.{formula_of};
     ghost use Rattle.lq_pred.specs.Reading.{reading_of};
@@ -37,8 +39,9 @@ impl Known {
     ghost use Rattle.lq_pred.specs.Sum.{Sum};
     ghost use Rattle.lq_pred.specs.TableView.{terms_of};
     ghost use Rattle.lq_known.specs.Facts.{facts_of};
-    ghost use Rattle.lq_known.specs.Known.{HasPoint, Hold, HoldFirst, IsAt, IsRead, IsSettled, Keeps, fact_count, readings_of};
+    ghost use Rattle.lq_known.specs.Known.{HasPoint, Hold, HoldFirst, IsAt, IsRead, IsReadOf, IsSettled, Keeps, fact_count, readings_of};
     ghost use Rattle.lq_known.specs.Plain.{IsPlain};
+    ghost use Rattle.lq_known.specs.Read.{IsReading, hypothesis_reading};
     ghost use Rattle.lq_known.specs.Values.{MeetsEachRow};
     ghost use Rattle.lq_known.specs.declared.standing.Stand.TheVariants.{Proved, Settled, Unknown};
 
@@ -80,18 +83,19 @@ impl Known {
         ensures keeps { Keeps self.old self.new }
         ensures read { OnOk result (IsRead self.old self.new (formula_of hypothesis.now)) }
     {
-        let reading = self.take_facts(hypothesis);
-        self.readings.push(reading)?;
+        let read = self.take_facts(hypothesis);
+        let read = Rc::new(self.alloc, read)?;
+        self.readings.push(read)?;
         Ok(())
     }
 
-    // Takes the facts of a hypothesis. The answer is its reading.
-    fn take_facts(&mut self, hypothesis: &Pred) -> Nnf
+    // Takes the facts of a hypothesis. The answer is what was read of it.
+    fn take_facts(&mut self, hypothesis: &Pred) -> ReadPred
         ensures held { (p : Point) → Hold self.old p → Meets p (reading_of true (formula_of hypothesis.now)) → Hold self.new p }
         ensures keeps { Keeps self.old self.new }
         ensures same { readings_of self.new ≡ readings_of self.old }
         ensures read { (v : Valuation) (p : Point) → AgreesOn (terms_of self.new.table) v p
-            → MeetsRows v p (nnf_view result)
+            → MeetsRows v p (hypothesis_reading result)
             → Meets p (reading_of true (formula_of hypothesis.now)) × IsPlain (formula_of hypothesis.now) }
     {
         let is_known = self.is_known(hypothesis);
@@ -110,13 +114,13 @@ impl Known {
         self.proves(hypothesis)
     }
 
-    // Takes the facts of a hypothesis, unless it is known already. The answer is its reading.
-    fn take_new(&mut self, hypothesis: &Pred, is_known: bool) -> Nnf
+    // Takes the facts of a hypothesis, unless it is known already. The answer is what was read of it.
+    fn take_new(&mut self, hypothesis: &Pred, is_known: bool) -> ReadPred
         ensures held { (p : Point) → Hold self.old p → Meets p (reading_of true (formula_of hypothesis.now)) → Hold self.new p }
         ensures keeps { Keeps self.old self.new }
         ensures same { readings_of self.new ≡ readings_of self.old }
         ensures read { (v : Valuation) (p : Point) → AgreesOn (terms_of self.new.table) v p
-            → MeetsRows v p (nnf_view result)
+            → MeetsRows v p (hypothesis_reading result)
             → Meets p (reading_of true (formula_of hypothesis.now)) × IsPlain (formula_of hypothesis.now) }
     {
         rows_say_what_comparisons_say();
@@ -124,9 +128,17 @@ impl Known {
             Ok(reading) => {
                 let _count = self.table.len();
                 take_unless(is_known, &mut self.state, self.room, &reading);
-                plain_or_never(hypothesis, reading)
+                ReadPred {
+                    met: Some(reading),
+                    against: None,
+                    is_plain: is_plain(hypothesis),
+                }
             }
-            Err(_) => Nnf::No,
+            Err(_) => ReadPred {
+                met: None,
+                against: None,
+                is_plain: false,
+            },
         }
     }
 
@@ -213,6 +225,175 @@ impl Known {
             }
             Err(GatherError::Past) => Ok(None),
             Err(GatherError::Memory) => Err(AllocError),
+        }
+    }
+
+    /// Reads a predicate. The facts and the readings of the hypotheses stay.
+    pub fn read(&mut self, pred: &Pred) -> Result<Rc<ReadPred>, AllocError>
+        ensures read { IfOk result (λ r. IsReadOf self.new r.value (formula_of pred.now)) }
+        ensures kept { (p : Point) → Hold self.old p → Hold self.new p }
+        ensures keeps { Keeps self.old self.new }
+        ensures same { readings_of self.new ≡ readings_of self.old }
+    {
+        let read = self.read_both(pred);
+        let read = Rc::new(self.alloc, read)?;
+        Ok(read)
+    }
+
+    /// Reads a predicate that is a goal: its negation alone. The facts and the readings of the hypotheses stay.
+    pub fn read_goal(&mut self, pred: &Pred) -> Result<Rc<ReadPred>, AllocError>
+        ensures read { IfOk result (λ r. IsReadOf self.new r.value (formula_of pred.now)) }
+        ensures kept { (p : Point) → Hold self.old p → Hold self.new p }
+        ensures keeps { Keeps self.old self.new }
+        ensures same { readings_of self.new ≡ readings_of self.old }
+    {
+        let read = self.read_negation(pred);
+        let read = Rc::new(self.alloc, read)?;
+        Ok(read)
+    }
+
+    // The reading of the negation of a predicate.
+    fn read_negation(&mut self, pred: &Pred) -> ReadPred
+        ensures read { IsReadOf self.new result (formula_of pred.now) }
+        ensures kept { (p : Point) → Hold self.old p → Hold self.new p }
+        ensures keeps { Keeps self.old self.new }
+        ensures same { readings_of self.new ≡ readings_of self.old }
+    {
+        let against = self.reading(pred, false);
+        ReadPred {
+            met: None,
+            against,
+            is_plain: is_plain(pred),
+        }
+    }
+
+    // The readings of a predicate and of its negation.
+    fn read_both(&mut self, pred: &Pred) -> ReadPred
+        ensures read { IsReadOf self.new result (formula_of pred.now) }
+        ensures kept { (p : Point) → Hold self.old p → Hold self.new p }
+        ensures keeps { Keeps self.old self.new }
+        ensures same { readings_of self.new ≡ readings_of self.old }
+    {
+        let met = self.reading(pred, true);
+        let against = self.reading(pred, false);
+        ReadPred {
+            met,
+            against,
+            is_plain: is_plain(pred),
+        }
+    }
+
+    // The reading of a predicate, or of its negation, where it can be gathered.
+    fn reading(&mut self, pred: &Pred, positive: bool) -> Option<Nnf>
+        ensures reading { IsReading (terms_of self.new.table) result positive (formula_of pred.now) }
+        ensures kept { (p : Point) → Hold self.old p → Hold self.new p }
+        ensures keeps { Keeps self.old self.new }
+        ensures same { readings_of self.new ≡ readings_of self.old }
+    {
+        rows_say_what_comparisons_say();
+        match tighten(self.alloc, pred, positive, &mut self.table) {
+            Ok(reading) => {
+                let _count = self.table.len();
+                Some(reading)
+            }
+            Err(_) => None,
+        }
+    }
+
+    /// The same as `add`, of a hypothesis that was read.
+    pub fn add_read(&mut self, read: &Rc<ReadPred>) -> Result<(), AllocError>
+        ensures held { (h : Formula) → IsReadOf self.old read.now.value h → (p : Point) → Hold self.old p
+            → Meets p (reading_of true h) → Hold self.new p }
+        ensures keeps { Keeps self.old self.new }
+        ensures read { OnOk result ((h : Formula) → IsReadOf self.old read.now.value h → IsRead self.old self.new h) }
+    {
+        let kept = read.clone()?;
+        self.take_read(read);
+        self.readings.push(kept)?;
+        Ok(())
+    }
+
+    // Takes the facts of a hypothesis that was read.
+    fn take_read(&mut self, read: &Rc<ReadPred>)
+        ensures held { (h : Formula) → IsReadOf self.old read.now.value h → (p : Point) → Hold self.old p
+            → Meets p (reading_of true h) → Hold self.new p }
+        ensures keeps { Keeps self.old self.new }
+        ensures same { readings_of self.new ≡ readings_of self.old }
+    {
+        let is_known = self.is_read_known(read);
+        self.take_new_read(read.as_ref(), is_known);
+    }
+
+    // Whether a hypothesis would bring nothing new: where no checks are made, it is tried whether it follows from the facts.
+    fn is_read_known(&mut self, read: &Rc<ReadPred>) -> bool
+        ensures kept { (p : Point) → Hold self.old p → Hold self.new p }
+        ensures keeps { Keeps self.old self.new }
+        ensures same { readings_of self.new ≡ readings_of self.old }
+    {
+        if self.checks {
+            return false;
+        }
+        self.proves_read(read)
+    }
+
+    // Takes the facts of a hypothesis that was read, unless it is known already.
+    fn take_new_read(&mut self, read: &ReadPred, is_known: bool)
+        ensures held { (h : Formula) → IsReadOf self.old read.now h → (p : Point) → Hold self.old p
+            → Meets p (reading_of true h) → Hold self.new p }
+        ensures keeps { Keeps self.old self.new }
+        ensures same { readings_of self.new ≡ readings_of self.old }
+    {
+        match read.side(true) {
+            Some(reading) => take_unless(is_known, &mut self.state, self.room, reading),
+            None => {}
+        }
+    }
+
+    /// The same as `proves`, of a goal that was read.
+    pub fn proves_read(&mut self, read: &Rc<ReadPred>) -> bool
+        ensures proved { IsTrue result → (h : Formula) → IsReadOf self.old read.now.value h → (p : Point) → Hold self.old p
+            → Meets p (reading_of false h) → ⊥ }
+        ensures kept { (p : Point) → Hold self.old p → Hold self.new p }
+        ensures keeps { Keeps self.old self.new }
+        ensures same { readings_of self.new ≡ readings_of self.old }
+    {
+        rows_say_what_comparisons_say();
+        match read.as_ref().side(false) {
+            Some(reading) => refutes(&mut self.state, self.room, self.checks, reading),
+            None => false,
+        }
+    }
+
+    /// The same as `stand_against`, of a goal that was read.
+    pub fn stand_against_read(&mut self, read: &Rc<ReadPred>) -> Stand
+        ensures proved { result ≡ Proved → (h : Formula) → IsReadOf self.old read.now.value h → (p : Point) → Hold self.old p
+            → Meets p (reading_of false h) → ⊥ }
+        ensures kept { result ≡ Proved → (p : Point) → Hold self.old p → Hold self.new p }
+        ensures settled { result ≡ Settled → IsSettled self.new }
+        ensures unknown { result ≡ Unknown → (p : Point) → Hold self.old p → Hold self.new p }
+        ensures keeps { Keeps self.old self.new }
+        ensures readings { readings_of self.new ≡ readings_of self.old }
+    {
+        rows_say_what_comparisons_say();
+        match read.as_ref().side(false) {
+            Some(reading) => settle(&mut self.state, self.room, reading),
+            None => Stand::Unknown,
+        }
+    }
+
+    /// The same as `meets`, of a predicate that was read.
+    pub fn meets_read(&self, read: &Rc<ReadPred>, positive: bool) -> Option<bool>
+        requires { IsSettled self.now }
+        ensures { IfSome result (λ b. (h : Formula) → IsReadOf self.now read.now.value h → IsPlain h × ((p : Point)
+            → IsAt self.now p → IsTrue b ↔ Meets p (reading_of positive h))) }
+    {
+        let read = read.as_ref();
+        if !read.is_plain {
+            return None;
+        }
+        match read.side(positive) {
+            Some(reading) => evaluate(&self.state, reading),
+            None => None,
         }
     }
 

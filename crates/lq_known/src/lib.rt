@@ -4,9 +4,11 @@
 mod clash;
 mod known;
 mod plain;
+mod read;
 mod reads;
 mod standing;
 mod values;
 
 pub use known::Known;
+pub use read::ReadPred;
 pub use standing::Stand;

@@ -1,15 +1,11 @@
 // Which predicates have no quotients, no remainders and no products of two unknown factors.
 ghost use Rattle.std.specs.Prelude.{IsTrue};
-ghost use Rattle.lq_pred.specs.NnfView.{nnf_view};
 ghost use Rattle.lq_pred.specs.PredView.{formula_of};
-ghost use Rattle.lq_pred.specs.Points.{Point};
-ghost use Rattle.lq_pred.specs.RowMeaning.{MeetsRows};
 ghost use Rattle.lq_pred.specs.Table.{literal_of};
 ghost use Rattle.lq_pred.specs.TermView.{sum_of};
-ghost use Rattle.lq_linear.specs.Row.{Valuation};
 ghost use Rattle.lq_known.specs.Plain.{HasLiteral, IsPlain, IsPlainSum};
 
-use lq_pred::{Nnf, Pred, Term};
+use lq_pred::{Pred, Term};
 
 /// Whether one of two factors is a literal.
 fn has_literal(left: &Term, right: &Term) -> bool
@@ -57,15 +53,4 @@ pub(crate) fn is_plain(pred: &Pred) -> bool
         Pred::Or(p, q) => is_plain(p) && is_plain(q),
         Pred::Iff(p, q) => is_plain(p) && is_plain(q),
     }
-}
-
-/// A reading of a predicate, and one that is never met where the predicate isn't plain.
-pub(crate) fn plain_or_never(pred: &Pred, reading: Nnf) -> Nnf
-    ensures { (v : Valuation) (p : Point) → MeetsRows v p (nnf_view result)
-        → MeetsRows v p (nnf_view reading) × IsPlain (formula_of pred.now) }
-{
-    if is_plain(pred) {
-        return reading;
-    }
-    Nnf::No
 }

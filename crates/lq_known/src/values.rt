@@ -8,13 +8,16 @@ ghost use Rattle.lq_num.specs.Value.{value_of};
 ghost use Rattle.lq_pred.specs.NnfView.{nnf_view, nnfs_view};
 ghost use Rattle.lq_pred.specs.Points.{Point};
 ghost use Rattle.lq_pred.specs.RowMeaning.{MeetsAllRows, MeetsAnyRow, MeetsRows};
+ghost use Rattle.lq_known.specs.Read.{hypothesis_reading};
 ghost use Rattle.lq_known.specs.Values.{HasFlags, MeetsEachRow};
 
+use crate::read::ReadPred;
 use lq_case::PathState;
 use lq_linear::LinearRow;
 use lq_num::{Frac, NumberPast};
 use lq_pred::{Nnf, Nnfs, Symbol};
 use std::cmp::Ordering;
+use std::rc::Rc;
 
 /// The sum and the constant of a row at the values.
 fn level_at(state: &PathState, row: &LinearRow) -> Result<Frac, NumberPast>
@@ -121,16 +124,33 @@ fn evaluate_any(state: &PathState, any: &Nnfs) -> Option<bool>
     if known { Some(false) } else { None }
 }
 
-/// Whether each of some readings is known to be met at the values.
-pub(crate) fn meets_each(state: &PathState, readings: &[Nnf]) -> bool
+/// Whether a predicate that was read is plain, and its reading known to be met at the values.
+fn is_known_met(state: &PathState, read: &ReadPred) -> bool
     requires { is_solved state.now.rows ≡ true }
     ensures { IsTrue result → (p : Point) → HasFlags state.now p
-        → MeetsEachRow (row_point state.now.rows) p (map nnf_view readings.now) }
+        → MeetsRows (row_point state.now.rows) p (hypothesis_reading read.now) }
+{
+    if !read.is_plain {
+        return false;
+    }
+    match &read.met {
+        Some(reading) => match evaluate(state, reading) {
+            Some(met) => met,
+            None => false,
+        },
+        None => false,
+    }
+}
+
+/// Whether each of some predicates that were read is plain, and its reading known to be met at the values.
+pub(crate) fn meets_each(state: &PathState, readings: &[Rc<ReadPred>]) -> bool
+    requires { is_solved state.now.rows ≡ true }
+    ensures { IsTrue result → (p : Point) → HasFlags state.now p
+        → MeetsEachRow (row_point state.now.rows) p (map (λ r. hypothesis_reading r.value) readings.now) }
 {
     for reading in readings {
-        match evaluate(state, reading) {
-            Some(true) => {}
-            Some(false) | None => return false,
+        if !is_known_met(state, reading.as_ref()) {
+            return false;
         }
     }
     true

@@ -1,9 +1,10 @@
-use Rattle.std.proofs.Common.{◌∙◌, ◌≤◌, ap, arith, length, map, subst, sym}
-use Rattle.std.proofs.lemmas.List.{length-take, take-map, take_all}
+use Rattle.std.proofs.Common.{◌∙◌, ◌≤◌, ap, arith, length, subst, sym}
+use Rattle.std.proofs.lemmas.List.{length-take, take_all}
 use Rattle.lq_combine.specs.Met.{AllHold}
-use Rattle.lq_pred.specs.NnfView.{nnf_view}
 use Rattle.lq_known.specs.Facts.{facts_of, nobody}
 use Rattle.lq_known.proofs.Holding.{first_fewer}
+use Rattle.lq_known.proofs.Members.{taken_readings}
+use Rattle.lq_known.specs.Read.{hypothesis_reading}
 use Rattle.lq_known.proofs.known.Known.back_to.Goals as goal
 
 pub back_to-requires : goal.back_to-requires
@@ -29,7 +30,7 @@ returns-clause-first c = λ n p w h v a.
     first_fewer v p (facts_of c.args.self.now.state) (facts_of c.back_to.new.self) n c.args.count (c.back_to.ensures.facts nobody) w (h v a)
 
 pub returns-then-all-count-clause-readings : goal.returns-then-all-count-clause-readings
-returns-then-all-count-clause-readings c = ap (map nnf_view) c.truncate.ensures.items ∙ sym (take-map nnf_view c.args.readings c.args.self.now.readings.items)
+returns-then-all-count-clause-readings c = taken_readings c.args.readings c.args.self.now.readings.items c.truncate.new.self.items (λ x. hypothesis_reading x.value) c.truncate.ensures.items
 
 pub returns-clause-readings : goal.returns-clause-readings
-returns-clause-readings c = ap (map nnf_view) c.truncate.ensures.items ∙ sym (take-map nnf_view c.args.readings c.args.self.now.readings.items)
+returns-clause-readings c = taken_readings c.args.readings c.args.self.now.readings.items c.truncate.new.self.items (λ x. hypothesis_reading x.value) c.truncate.ensures.items

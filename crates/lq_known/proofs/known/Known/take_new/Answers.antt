@@ -1,12 +1,12 @@
-use Rattle.std.proofs.Common.{true, arith, refl, subst}
+use Rattle.std.proofs.Common.{true, arith, refl}
 use Rattle.lq_pred.specs.NnfView.{nnf_view}
 use Rattle.lq_pred.specs.PredView.{formula_of}
 use Rattle.lq_pred.specs.Reading.{reading_of}
 use Rattle.lq_pred.specs.TableView.{terms_of}
-use Rattle.lq_pred.specs.RowMeaning.{MeetsRows}
 use Rattle.lq_known.specs.Facts.{facts_of}
 use Rattle.lq_known.proofs.Holding.{agrees_before, first_more, grows_length}
-use Rattle.lq_known.proofs.Members.{no_seen}
+use Rattle.lq_known.proofs.Members.{plain_met}
+use Rattle.lq_known.specs.Plain.{IsPlain}
 use Rattle.lq_known.proofs.known.Known.take_new.Goals as goal
 
 pub returns-in-Ok-clause-held : goal.returns-in-Ok-clause-held
@@ -40,11 +40,11 @@ returns-in-Err-clause-keeps c = record {
 
 pub returns-in-Ok-clause-read : goal.returns-in-Ok-clause-read
 returns-in-Ok-clause-read c = λ v p a m.
-    let both = c.plain_or_never.ensures v p m in (
+    let both = plain_met v p c.is_plain.result c.in-Ok.reading (IsPlain (formula_of c.args.hypothesis.now)) c.is_plain.ensures m in (
       (c.rows_say_what_comparisons_say.ensures.reading (terms_of c.tighten.new.table) v p (reading_of true (formula_of c.args.hypothesis.now)) (nnf_view c.in-Ok.reading) c.len-count.ensures.distinct a
           c.in-Ok.ensures.reading).0 both.0,
       both.1,
     )
 
 pub returns-in-Err-clause-read : goal.returns-in-Err-clause-read
-returns-in-Err-clause-read c = λ v p a m. absurd (subst (MeetsRows v p) no_seen m)
+returns-in-Err-clause-read c = λ v p a m. absurd m
