@@ -1,7 +1,6 @@
 -- Instances that are refuted, one after another, and the implications that fail with them.
 use Rattle.std.specs.declared.alloc.AllocError.{AllocError}
-use Rattle.std.proofs.Common.{Result, Ok, Err, IfOk, ◌≡◌, ◌∙◌, ◌⊎◌, inl, inr, ◌↔◌, ℕ, zero, suc, ◌+◌, ◌<◌, ◌≤◌, ◌==◌, get_or, Bool, IsTrue, true, false, cond, List, [], ◌∷◌, ◌++◌, Some, length, map, slice_get, refl, sym, ap, subst, arith}
-use Rattle.std.proofs.lemmas.Option.{slice_get_within}
+use Rattle.std.proofs.Common.{Result, Ok, Err, IfOk, ◌≡◌, ◌∙◌, ◌⊎◌, inl, inr, ℕ, zero, suc, ◌+◌, ◌<◌, ◌==◌, get_or, Bool, true, false, cond, List, [], ◌∷◌, ◌++◌, Some, length, map, slice_get, refl, sym, ap, subst, arith}
 use Rattle.lq_implications.specs.Views.{environment_in, implication_view}
 use Rattle.lq_implications.specs.declared.implication.Implication as code
 use Rattle.lq_known.proofs.Holding.{agrees_before}
@@ -17,7 +16,6 @@ use Rattle.lq_parts.specs.Assignment.{all_joined, goal_under, parts_under}
 use Rattle.lq_parts.specs.Constraint.{Constraint}
 use Rattle.lq_parts.specs.Flowing.{Selection, assigned, picked}
 use Rattle.lq_parts.specs.Part.{Parts, unknown}
-use Rattle.lq_parts.specs.Refuting.{IsRefuted}
 use Rattle.lq_parts.specs.Substitution.{Subst, formula_by}
 use Rattle.lq_pred.specs.ClosedImplication.{ClosedImplication, terms_in}
 use Rattle.lq_pred.specs.Formula.{Formula}
@@ -39,107 +37,7 @@ use Rattle.lq_kept.specs.Kept.{AreTold}
 some_is : {X : Type 0} (x y : X) → Some x ≡ Some y → x ≡ y
 some_is x y e = cc
 
--- ---- numbers of the first instances
-
--- of the first n instances exactly these are chosen and refuted at the point
-pub record AreFirst (n : ℕ) (chosen : ℕ → Bool) (p : Point) (σ : Subst) (instances : List Formula) (numbers : List ℕ) : Type 0 where
-  pub chosen_each : (k : ℕ) → IsAmong numbers k → chosen k ≡ true
-  pub each : (k : ℕ) → IsAmong numbers k → IsRefuted p σ instances k
-  pub all : (k : ℕ) → k < n → chosen k ≡ true → IsRefuted p σ instances k → IsAmong numbers k
-
-among_last : (ks : List ℕ) (n k : ℕ) → IsAmong (ks ++ n ∷ []) k → IsAmong ks k ⊎ (n ≡ k)
-among_last [] n k (inl e) = inr e
-among_last [] n k (inr z) = absurd z
-among_last (x ∷ ks) n k (inl e) = inl (inl e)
-among_last (x ∷ ks) n k (inr h) = elim (among_last ks n k h) [ inl a ↦ inl (inr a) | inr e ↦ inr e ]
-
-among_more : (ks : List ℕ) (n k : ℕ) → IsAmong ks k → IsAmong (ks ++ n ∷ []) k
-among_more [] n k h = absurd h
-among_more (x ∷ ks) n k (inl e) = inl e
-among_more (x ∷ ks) n k (inr h) = inr (among_more ks n k h)
-
-among_here : (ks : List ℕ) (n : ℕ) → IsAmong (ks ++ n ∷ []) n
-among_here [] n = inl refl
-among_here (x ∷ ks) n = inr (among_here ks n)
-
-below_next : (n k : ℕ) → k < n + 1 → (k < n) ⊎ (n ≡ k)
-below_next zero zero w = inr refl
-below_next zero (suc k) w = absurd (omega (arith, w))
-below_next (suc n) zero w = inl (omega arith)
-below_next (suc n) (suc k) w = elim (below_next n k (omega (arith, w))) [ inl v ↦ inl (omega (arith, v)) | inr e ↦ inr (omega (arith, e)) ]
-
-pub first_none : (chosen : ℕ → Bool) (p : Point) (σ : Subst) (qs : List Formula) → AreFirst 0 chosen p σ qs []
-first_none chosen p σ qs = record { chosen_each = λ k a. absurd a; each = λ k a. absurd a; all = λ k w. absurd (omega (arith, w)) }
-
--- the next one is refuted
-pub first_more : (n : ℕ) (chosen : ℕ → Bool) (p : Point) (σ : Subst) (qs : List Formula) (numbers : List ℕ) (q : Formula) → Some q ≡ slice_get qs n → chosen n ≡ true
-    → Meets p (reading_of false (formula_by σ q)) → AreFirst n chosen p σ qs numbers → AreFirst (n + 1) chosen p σ qs (numbers ++ n ∷ [])
-first_more n chosen p σ qs numbers q e c m h = record { chosen_each = chosen_each; each = each; all = all }
-  where
-    chosen_each : (k : ℕ) → IsAmong (numbers ++ n ∷ []) k → chosen k ≡ true
-    chosen_each k a = by (among_last numbers n k a)
-      where
-        by : IsAmong numbers k ⊎ (n ≡ k) → chosen k ≡ true
-        by (inl b) = h.chosen_each k b
-        by (inr s) = subst (λ i. chosen i ≡ true) s c
-
-    each : (k : ℕ) → IsAmong (numbers ++ n ∷ []) k → IsRefuted p σ qs k
-    each k a = by (among_last numbers n k a)
-      where
-        by : IsAmong numbers k ⊎ (n ≡ k) → IsRefuted p σ qs k
-        by (inl b) = h.each k b
-        by (inr s) = subst (IsRefuted p σ qs) s (record { instance = q; here = sym e; against = m })
-
-    all : (k : ℕ) → k < n + 1 → chosen k ≡ true → IsRefuted p σ qs k → IsAmong (numbers ++ n ∷ []) k
-    all k w d r = by (below_next n k w)
-      where
-        by : (k < n) ⊎ (n ≡ k) → IsAmong (numbers ++ n ∷ []) k
-        by (inl v) = among_more numbers n k (h.all k v d r)
-        by (inr s) = subst (IsAmong (numbers ++ n ∷ [])) s (among_here numbers n)
-
--- the next one isn't chosen, or isn't refuted
-pub first_same : (n : ℕ) (chosen : ℕ → Bool) (p : Point) (σ : Subst) (qs : List Formula) (numbers : List ℕ) (q : Formula) → Some q ≡ slice_get qs n
-    → (chosen n ≡ true → Meets p (reading_of false (formula_by σ q)) → ⊥) → AreFirst n chosen p σ qs numbers → AreFirst (n + 1) chosen p σ qs numbers
-first_same n chosen p σ qs numbers q e f h = record { chosen_each = h.chosen_each; each = h.each; all = all }
-  where
-    all : (k : ℕ) → k < n + 1 → chosen k ≡ true → IsRefuted p σ qs k → IsAmong numbers k
-    all k w d r = by (below_next n k w)
-      where
-        by : (k < n) ⊎ (n ≡ k) → IsAmong numbers k
-        by (inl v) = h.all k v d r
-        by (inr s) =
-            let same : r.instance ≡ q = some_is r.instance q (sym r.here ∙ ap (slice_get qs) (sym s) ∙ sym e) in
-            absurd (f (subst (λ i. chosen i ≡ true) (sym s) d) (subst (λ x. Meets p (reading_of false (formula_by σ x))) same r.against))
-
--- the next one is noted where it is chosen and refuted
-pub first_next : (n : ℕ) (chosen : ℕ → Bool) (p : Point) (σ : Subst) (qs : List Formula) (old new : List ℕ) (q : Formula) (b : Bool) → Some q ≡ slice_get qs n → (IsTrue b → chosen n ≡ true)
-    → (chosen n ≡ true → IsTrue b ↔ Meets p (reading_of false (formula_by σ q))) → (b ≡ true → new ≡ old ++ n ∷ []) → (b ≡ false → new ≡ old) → AreFirst n chosen p σ qs old
-    → AreFirst (n + 1) chosen p σ qs new
-first_next n chosen p σ qs old new q true e c d noted same h =
-    subst (AreFirst (n + 1) chosen p σ qs) (sym (noted refl)) (first_more n chosen p σ qs old q e (c refl) ((d (c refl)).0 refl) h)
-first_next n chosen p σ qs old new q false e c d noted same h =
-    subst (AreFirst (n + 1) chosen p σ qs) (sym (same refl)) (first_same n chosen p σ qs old q e (λ t m. let x : false ≡ true = (d t).1 m in absurd (cc)) h)
-
-pub first_all : (n : ℕ) (chosen : ℕ → Bool) (p : Point) (σ : Subst) (qs : List Formula) (numbers : List ℕ) → length qs ≤ n → AreFirst n chosen p σ qs numbers
-    → AreRefuted chosen p σ qs numbers
-first_all n chosen p σ qs numbers w h = record {
-  chosen_each = h.chosen_each;
-  each = h.each;
-  all = λ k d r. let v = slice_get_within qs k r.instance r.here in h.all k (omega (arith, v, w)) d r;
-}
-
 -- ---- chosen instances that are plain
-
-pub plain_next : (chosen : ℕ → Bool) (σ : Subst) (n : ℕ) (qs : List Formula) (a : Formula) → Some a ≡ slice_get qs n → (chosen n ≡ true → IsPlain (formula_by σ a))
-    → ChosenArePlain chosen σ n qs → ChosenArePlain chosen σ (n + 1) qs
-plain_next chosen σ n qs a e f h i q w c d = by (below_next n i w)
-  where
-    by : (i < n) ⊎ (n ≡ i) → IsPlain (formula_by σ q)
-    by (inl v) = h i q v c d
-    by (inr s) = subst (λ x. IsPlain (formula_by σ x)) (some_is a q (e ∙ ap (slice_get qs) s ∙ sym d)) (f (subst (λ k. chosen k ≡ true) (sym s) c))
-
-pub plain_past : (chosen : ℕ → Bool) (σ : Subst) (n : ℕ) (qs : List Formula) → length qs ≤ n → ChosenArePlain chosen σ n qs → ChosenArePlain chosen σ (length qs) qs
-plain_past chosen σ n qs w h i q v = h i q (omega (arith, v, w))
 
 plain_from : (f : ℕ → Bool) (σ : Subst) (k : ℕ) (qs : List Formula) → ((i : ℕ) (q : Formula) → i < length qs → f (k + i) ≡ true → Some q ≡ slice_get qs i → IsPlain (formula_by σ q))
     → EachPlain (map (formula_by σ) (picked f k qs))
@@ -250,6 +148,16 @@ holds_by (Ok Holds) P Q f h = f h
 holds_by (Ok (Refuted n)) P Q f h = tt
 holds_by (Ok Open) P Q f h = tt
 holds_by (Err e) P Q f h = tt
+
+pub holds_here : (a : Answer) (P Q : Type 0) → (P → Q) → IfHolds a P → IfHolds a Q
+holds_here Holds P Q f h = f h
+holds_here (Refuted n) P Q f h = tt
+holds_here Open P Q f h = tt
+
+pub none_refuted : (a : Answer) (Q : List ℕ → Type 0) → IfRefuted a (λ ns. ⊥) → IfRefuted a Q
+none_refuted Holds Q h = tt
+none_refuted (Refuted n) Q h = absurd h
+none_refuted Open Q h = tt
 
 pub refuted_by : (r : Result Answer AllocError) (P Q : List ℕ → Type 0) → ((ns : List ℕ) → P ns → Q ns) → IfOk r (λ a. IfRefuted a P) → IfOk r (λ a. IfRefuted a Q)
 refuted_by (Ok Holds) P Q f h = tt

@@ -1,20 +1,24 @@
 -- Goals that are refuted where the readings of the hypotheses are met.
-use Rattle.std.specs.Prelude.{◌≡◌, ◌<◌, ℕ, Bool, true, List, length, Some, slice_get}
-use Rattle.lq_known.specs.Known.{readings_of}
+use Rattle.std.specs.Prelude.{◌≡◌, ◌<◌, ℕ, Bool, true, false, List, length, map, Some, slice_get}
+use Rattle.lq_known.specs.Known.{Hold, readings_of}
 use Rattle.lq_known.specs.Plain.{IsPlain}
 use Rattle.lq_known.specs.Values.{MeetsEachRow}
 use Rattle.lq_known.specs.declared.known.Known.{Known}
 use Rattle.lq_linear.specs.Row.{Valuation}
-use Rattle.lq_parts.specs.Flowing.{Selection}
+use Rattle.lq_parts.specs.Assignment.{all_joined}
+use Rattle.lq_parts.specs.Flowing.{Selection, picked}
 use Rattle.lq_parts.specs.Part.{Part, unknown}
 use Rattle.lq_parts.specs.Substitution.{Subst, formula_by}
 use Rattle.lq_pred.specs.Formula.{Formula}
-use Rattle.lq_pred.specs.Points.{Point}
+use Rattle.lq_pred.specs.Points.{Meets, Point}
+use Rattle.lq_pred.specs.Reading.{reading_of}
 use Rattle.lq_pred.specs.RowMeaning.{AgreesOn}
 use Rattle.lq_pred.specs.Sum.{Sum}
 use Rattle.lq_pred.specs.TableView.{terms_of}
 use Rattle.lq_weakening.specs.Among.{IsAmong}
 use Rattle.lq_weakening.specs.Judging.{AreRefuted, Instances}
+use Rattle.lq_kept.specs.Reads.{AreReads}
+use Rattle.lq_kept.specs.declared.reading.ReadInstance.{ReadInstance}
 
 -- each of the first n instances that is chosen is plain, with something put for its names
 abbrev pub ChosenArePlain : (ℕ → Bool) → Subst → ℕ → List Formula → Type 0
@@ -35,6 +39,16 @@ pub record AreRefutable (k : Known) (chosen : ℕ → Bool) (σ : Subst) (instan
   pub one : ℕ
   pub among : IsAmong numbers one
   pub at : (class_of : Sum → ℕ) → IsRefutedBy k chosen σ instances numbers class_of
+
+-- of the chosen instances of which these are the readings, those of the numbers are refuted
+abbrev pub AreRefutableBy : Known → List ReadInstance → List ℕ → Type 0
+AreRefutableBy k reads numbers = (chosen : ℕ → Bool) (σ : Subst) (instances : List Formula) → AreReads k chosen σ instances reads → AreRefutable k chosen σ instances numbers
+
+-- where the facts hold, the negation of the conjunction of the chosen instances of which these are the readings is not met
+abbrev pub AreProvedBy : Known → List ReadInstance → Type 0
+AreProvedBy k reads =
+    (chosen : ℕ → Bool) (σ : Subst) (instances : List Formula) → AreReads k chosen σ instances reads → (p : Point) → Hold k p
+    → Meets p (reading_of false (all_joined (map (formula_by σ) (picked chosen 0 instances)))) → ⊥
 
 -- the goal is an unknown of whose instances these are refuted
 pub record IsGoalRefuted (k : Known) (I : Instances) (c : Selection) (goal : Part) (numbers : List ℕ) : Type 0 where

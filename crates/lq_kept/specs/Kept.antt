@@ -7,6 +7,7 @@ use Rattle.lq_known.specs.declared.known.Known.{Known}
 use Rattle.lq_linear.specs.Row.{Row, Valuation}
 use Rattle.lq_nearest.specs.Reading.{EachPlain}
 use Rattle.lq_parts.specs.Assignment.{Assignment, parts_under}
+use Rattle.lq_parts.specs.Constraint.{Constraint}
 use Rattle.lq_parts.specs.Part.{Parts}
 use Rattle.lq_parts.specs.Refuting.{Speak}
 use Rattle.lq_pred.specs.ClosedImplication.{MeetsEach}
@@ -14,6 +15,8 @@ use Rattle.lq_pred.specs.Points.{Point}
 use Rattle.lq_pred.specs.Reading.{Reading}
 use Rattle.lq_pred.specs.RowMeaning.{AgreesOn}
 use Rattle.lq_pred.specs.TableView.{terms_of}
+use Rattle.lq_kept.specs.Places.{formula_at}
+use Rattle.lq_kept.specs.Store.{AreStored}
 use Rattle.lq_kept.specs.declared.kept.Kept.{Kept}
 use Rattle.lq_kept.specs.declared.level.Level.{Level}
 
@@ -66,6 +69,11 @@ pub record AreThere (A : Assignment) (es : List Parts) (known : Known) (levels :
 -- what is kept is right where unknowns stand for this, of environments with these hypotheses
 abbrev pub IsKeptFor : Assignment → List Parts → Kept → Type 0
 IsKeptFor A es k = AreRight A es k.known k.levels.items
+
+-- each stored reading is that of the formula at its place and number, where unknowns have these instances, environments these hypotheses,
+-- and implications are these constraints
+abbrev pub HasReadings : Assignment → List Parts → List Constraint → Kept → Type 0
+HasReadings I es cs k = AreStored (formula_at I es cs) k.known k.store
 
 -- the facts and readings of the environment are there
 abbrev pub Stands : Assignment → List Parts → Kept → ℕ → Type 0

@@ -1,16 +1,18 @@
 // Facts and readings that are kept from question to question.
 ghost use Rattle.lq_known.specs.Known.{Hold};
+ghost use Rattle.lq_kept.specs.Store.{AreStored, Standing};
 ghost use Rattle.lq_pred.specs.Points.{Point};
 
+use crate::adding::add_part;
 use crate::aiming::aim;
 use crate::answer::Answer;
 use crate::left::add_parts;
 use crate::level::{Level, count_before, unknown_of};
+use crate::store::{PartPlace, Store};
 use crate::way::Step;
 use lq_implications::Implications;
 use lq_instances::Instances;
 use lq_known::Known;
-use lq_nearest::add_part;
 use lq_weakening::Chosen;
 use std::alloc::{AllocError, Global};
 
@@ -31,21 +33,27 @@ pub struct Kept {
     /// How many pivots a check makes at most.
     limit: u64,
     known: Known,
+    /// Readings over the terms that are known, each made once.
+    store: Store,
     /// Environments that are kept, each behind its parent.
     levels: Vec<Level>,
     /// Where an environment stands among them, if it does; else any number.
     places: Vec<usize>,
 }
 
-/// Makes what is known anew, without facts, where no more terms have any.
-fn renew(alloc: Global, room: u64, limit: u64, known: &mut Known)
-    ensures { ((p : Point) → Hold known.old p) → (p : Point) → Hold known.new p }
+/// Makes what is known anew, without facts and without readings, where no more terms have any.
+fn renew(alloc: Global, room: u64, limit: u64, known: &mut Known, store: &mut Store)
+    ensures held { ((p : Point) → Hold known.old p) → (p : Point) → Hold known.new p }
+    ensures stored { (F : Standing) → AreStored F known.old store.old → AreStored F known.new store.new }
 {
     if !known.is_full() {
         return;
     }
     match Known::without_checks(alloc, room, limit) {
-        Ok(made) => *known = made,
+        Ok(made) => {
+            *known = made;
+            *store = Store::new(alloc);
+        }
         Err(AllocError) => {}
     }
 }
@@ -69,18 +77,20 @@ impl Kept {
     ghost use Rattle.std.specs.Prelude.{◌≡◌, ◌<◌, ℕ, List, [], ◌∷◌, ◌++◌, ◌+◌, IfOk, IsTrue, OnOk, Some, length, slice_get, take};
     ghost use Rattle.lq_implications.specs.Views.{environment_in, environment_lists};
     ghost use Rattle.lq_parts.specs.Assignment.{Assignment};
+    ghost use Rattle.lq_parts.specs.Constraint.{Constraint};
     ghost use Rattle.lq_parts.specs.Part.{Parts};
     ghost use Rattle.lq_substitution.specs.Views.{part_view};
     ghost use Rattle.lq_questions.specs.Assigned.{assignment_of, constraints_of, instances_in};
     ghost use Rattle.lq_weakening.specs.Chosen.{chosen_in};
     ghost use Rattle.lq_weakening.specs.Judging.{FlowFailsThere, HoldsThere};
     ghost use Rattle.lq_kept.specs.Answer.{IfHolds, IfRefuted};
-    ghost use Rattle.lq_kept.specs.Kept.{AreAlike, IsKeptFor, Stands};
+    ghost use Rattle.lq_kept.specs.Kept.{AreAlike, HasReadings, IsKeptFor, Stands};
     ghost use Rattle.lq_kept.specs.Way.{IsUnderWay};
 
     /// No facts, for questions about some implications. A check makes at most `limit` pivots, and never many.
     pub fn new(alloc: Global, implications: &Implications, limit: u64) -> Result<Kept, AllocError>
-        ensures { IfOk result (λ kept. (A : Assignment) (es : List Parts) → IsKeptFor A es kept) }
+        ensures kept { IfOk result (λ kept. (A : Assignment) (es : List Parts) → IsKeptFor A es kept) }
+        ensures stored { IfOk result (λ kept. (I : Assignment) (es : List Parts) (cs : List Constraint) → HasReadings I es cs kept) }
     {
         let environments = implications.env_count();
         let limit = limit.min(PIVOTS);
@@ -89,33 +99,67 @@ impl Kept {
             room: FEW_TERMS,
             limit,
             known: Known::without_checks(alloc, FEW_TERMS, limit)?,
+            store: Store::new(alloc),
             levels: Vec::new(alloc),
             places: vec![in alloc; 0; environments as usize]?,
         })
+    }
+
+    // Begins without facts, over the same terms.
+    fn begin_empty(&mut self)
+        ensures kept { (A : Assignment) (es : List Parts) → IsKeptFor A es self.new }
+        ensures nothing { (A : Assignment) (es : List Parts) (env : ℕ) → environment_in es env ≡ [] → Stands A es self.new env }
+        ensures held { (p : Point) → Hold self.new.known p }
+        ensures none { self.new.levels.items ≡ [] }
+        ensures stored { (I : Assignment) (es : List Parts) (cs : List Constraint) → HasReadings I es cs self.old → HasReadings I es cs self.new }
+    {
+        self.levels.clear();
+        self.known.back_to(0, 0);
     }
 
     // Begins without facts, over so many terms where no more have any.
     fn begin_anew(&mut self, room: u64)
         ensures kept { (A : Assignment) (es : List Parts) → IsKeptFor A es self.new }
         ensures nothing { (A : Assignment) (es : List Parts) (env : ℕ) → environment_in es env ≡ [] → Stands A es self.new env }
+        ensures stored { (I : Assignment) (es : List Parts) (cs : List Constraint) → HasReadings I es cs self.old → HasReadings I es cs self.new }
     {
         self.room = room_after(&self.known, self.room, room);
-        self.levels.clear();
-        self.known.back_to(0, 0);
-        renew(self.alloc, self.room, self.limit, &mut self.known);
+        self.begin_empty();
+        renew(
+            self.alloc,
+            self.room,
+            self.limit,
+            &mut self.known,
+            &mut self.store,
+        );
     }
 
-    /// Forgets all facts.
+    /// Forgets all facts. The readings stay, unless there is no room for more terms.
     pub fn reset(&mut self)
         ensures kept { (A : Assignment) (es : List Parts) → IsKeptFor A es self.new }
         ensures nothing { (A : Assignment) (es : List Parts) (env : ℕ) → environment_in es env ≡ [] → Stands A es self.new env }
+        ensures stored { (I : Assignment) (es : List Parts) (cs : List Constraint) → HasReadings I es cs self.old → HasReadings I es cs self.new }
     {
+        if self.room < TERMS {
+            self.begin_empty();
+            return;
+        }
         self.begin_anew(FEW_TERMS);
+    }
+
+    /// Forgets all facts and all readings.
+    pub fn clear(&mut self)
+        ensures kept { (A : Assignment) (es : List Parts) → IsKeptFor A es self.new }
+        ensures stored { (I : Assignment) (es : List Parts) (cs : List Constraint) → HasReadings I es cs self.new }
+    {
+        self.reset();
+        self.store = Store::new(self.alloc);
     }
 
     /// Forgets what speaks of an unknown: keeps the environments before the first one that ends in it.
     pub fn forget(&mut self, unknown: u64)
         ensures kept { (A B : Assignment) (es : List Parts) → AreAlike unknown A B → IsKeptFor A es self.old → IsKeptFor B es self.new }
+        ensures stored { (I : Assignment) (es : List Parts) (cs : List Constraint) → HasReadings I es cs self.old → HasReadings I es cs self.new }
     {
         let count = count_before(self.levels.as_slice(), unknown);
         if count == self.levels.len() {
@@ -135,6 +179,7 @@ impl Kept {
         ensures kept { (A : Assignment) (es : List Parts) → IsKeptFor A es self.old → IsKeptFor A es self.new }
         ensures stands { (l : Level) → slice_get self.old.levels.items at ≡ Some l → (A : Assignment) (es : List Parts)
             → IsKeptFor A es self.old → Stands A es self.new l.env }
+        ensures stored { (I : Assignment) (es : List Parts) (cs : List Constraint) → HasReadings I es cs self.old → HasReadings I es cs self.new }
     {
         let level = self.levels[at];
         self.levels.truncate(at + 1);
@@ -146,6 +191,7 @@ impl Kept {
         ensures kept { (A : Assignment) (es : List Parts) → IsKeptFor A es self.old → IsKeptFor A es self.new }
         ensures stands { IsTrue result → (A : Assignment) (es : List Parts) → IsKeptFor A es self.old
             → Stands A es self.new env }
+        ensures stored { (I : Assignment) (es : List Parts) (cs : List Constraint) → HasReadings I es cs self.old → HasReadings I es cs self.new }
     {
         let Some(place) = self.places.get(env as usize) else {
             return false;
@@ -173,6 +219,7 @@ impl Kept {
             → IsKeptFor A (environment_lists implications.now) self.new }
         ensures way { IfOk result (λ steps. (A : Assignment) → IsKeptFor A (environment_lists implications.now) self.old
             → IsUnderWay A (environment_lists implications.now) self.new steps.items env) }
+        ensures stored { (I : Assignment) (es : List Parts) (cs : List Constraint) → HasReadings I es cs self.old → HasReadings I es cs self.new }
     {
         let mut steps = Vec::new(self.alloc);
         let mut at = env;
@@ -196,15 +243,28 @@ impl Kept {
         instances: &Instances,
         chosen: &Chosen,
     ) -> Result<(), AllocError>
-        ensures kept { (es : List Parts) (at : ℕ) → IsKeptFor (assignment_of instances.now chosen.now) es self.old
+        ensures kept { (es : List Parts) (cs : List Constraint) (at : ℕ) → HasReadings (instances_in instances.now) es cs self.old
+            → IsKeptFor (assignment_of instances.now chosen.now) es self.old
             → Stands (assignment_of instances.now chosen.now) es self.old at
             → environment_in es step.now.env ≡ environment_in es at ++ part_view step.now.part.now ∷ []
             → IsKeptFor (assignment_of instances.now chosen.now) es self.new }
-        ensures stands { OnOk result ((es : List Parts) (at : ℕ) → Stands (assignment_of instances.now chosen.now) es self.old at
+        ensures stands { OnOk result ((es : List Parts) (cs : List Constraint) (at : ℕ)
+            → HasReadings (instances_in instances.now) es cs self.old
+            → Stands (assignment_of instances.now chosen.now) es self.old at
             → environment_in es step.now.env ≡ environment_in es at ++ part_view step.now.part.now ∷ []
             → Stands (assignment_of instances.now chosen.now) es self.new step.now.env) }
+        ensures stored { (es : List Parts) (cs : List Constraint) (at : ℕ) → HasReadings (instances_in instances.now) es cs self.old
+            → environment_in es step.now.env ≡ environment_in es at ++ part_view step.now.part.now ∷ []
+            → HasReadings (instances_in instances.now) es cs self.new }
     {
-        add_part(self.alloc, &mut self.known, step.part, instances, chosen)?;
+        add_part(
+            &mut self.known,
+            &mut self.store,
+            PartPlace::Environment(step.env),
+            step.part,
+            instances,
+            chosen,
+        )?;
         let place = self.levels.len();
         let unknown = unknown_of(step.part);
         let mark = self.known.mark();
@@ -221,7 +281,8 @@ impl Kept {
 
     // Makes room for twice as many terms, where no more have facts: then all facts are taken anew.
     fn make_room(&mut self)
-        ensures { (A : Assignment) (es : List Parts) → IsKeptFor A es self.old → IsKeptFor A es self.new }
+        ensures kept { (A : Assignment) (es : List Parts) → IsKeptFor A es self.old → IsKeptFor A es self.new }
+        ensures stored { (I : Assignment) (es : List Parts) (cs : List Constraint) → HasReadings I es cs self.old → HasReadings I es cs self.new }
     {
         if self.known.is_full() && self.room < TERMS {
             self.begin_anew(self.room.saturating_mul(2));
@@ -238,9 +299,13 @@ impl Kept {
     ) -> Result<(), AllocError>
         requires there { env < length (environment_lists implications.now) }
         requires kept { IsKeptFor (assignment_of instances.now chosen.now) (environment_lists implications.now) self.old }
+        requires stored { HasReadings (instances_in instances.now) (environment_lists implications.now) (constraints_of implications.now)
+            self.old }
         ensures kept { IsKeptFor (assignment_of instances.now chosen.now) (environment_lists implications.now) self.new }
         ensures stands { OnOk result (Stands (assignment_of instances.now chosen.now) (environment_lists implications.now)
             self.new env) }
+        ensures stored { HasReadings (instances_in instances.now) (environment_lists implications.now) (constraints_of implications.now)
+            self.new }
     {
         self.make_room();
         let mut steps = self.way_to(implications, env)?;
@@ -262,11 +327,15 @@ impl Kept {
     ) -> Result<Answer, AllocError>
         requires there { at < length (constraints_of implications.now) }
         requires kept { IsKeptFor (assignment_of instances.now chosen.now) (environment_lists implications.now) self.old }
+        requires stored { HasReadings (instances_in instances.now) (environment_lists implications.now) (constraints_of implications.now)
+            self.old }
         ensures holds { IfOk result (λ answer. IfHolds answer (HoldsThere (instances_in instances.now)
             (constraints_of implications.now) (chosen_in chosen.now) at)) }
         ensures refuted { IfOk result (λ answer. IfRefuted answer (FlowFailsThere (instances_in instances.now)
             (constraints_of implications.now) (chosen_in chosen.now) at)) }
         ensures kept { IsKeptFor (assignment_of instances.now chosen.now) (environment_lists implications.now) self.new }
+        ensures stored { HasReadings (instances_in instances.now) (environment_lists implications.now) (constraints_of implications.now)
+            self.new }
     {
         let Some(implication) = implications.get(at as usize) else {
             return Ok(Answer::Open);
@@ -276,15 +345,17 @@ impl Kept {
         }
         self.stand_in(implications, implication.env, instances, chosen)?;
         add_parts(
-            self.alloc,
             &mut self.known,
+            &mut self.store,
+            at,
             implication.left.as_slice(),
             instances,
             chosen,
         )?;
         aim(
-            self.alloc,
             &mut self.known,
+            &mut self.store,
+            PartPlace::Goal(at),
             &implication.goal,
             instances,
             chosen,

@@ -5,32 +5,49 @@ ghost use Rattle.lq_nearest.specs.Reading.{AreRead};
 ghost use Rattle.lq_parts.specs.Assignment.{parts_under};
 ghost use Rattle.lq_pred.specs.ClosedImplication.{MeetsEach};
 ghost use Rattle.lq_pred.specs.Points.{Point};
-ghost use Rattle.lq_questions.specs.Assigned.{assignment_of};
+ghost use Rattle.lq_questions.specs.Assigned.{assignment_of, instances_in};
 ghost use Rattle.lq_substitution.specs.Views.{part_view};
+ghost use Rattle.lq_kept.specs.Places.{StandAtLeft};
+ghost use Rattle.lq_kept.specs.Store.{AreStored, Standing};
 
+use crate::adding::add_part;
+use crate::store::{PartPlace, Store};
 use lq_instances::Instances;
 use lq_known::Known;
-use lq_nearest::add_part;
 use lq_substitution::Part;
 use lq_weakening::Chosen;
-use std::alloc::{AllocError, Global};
+use std::alloc::AllocError;
 
-/// Adds what is known of some parts as hypotheses.
+/// Adds what is known of the hypotheses of an implication's left type.
 pub(crate) fn add_parts(
-    alloc: Global,
     known: &mut Known,
+    store: &mut Store,
+    implication: u64,
     parts: &[Part],
     instances: &Instances,
     chosen: &Chosen,
 ) -> Result<(), AllocError>
-    ensures held { OnOk result ((p : Point) → Hold known.old p
+    ensures held { OnOk result ((F : Standing) → AreStored F known.old store.old
+        → StandAtLeft F (instances_in instances.now) implication (map part_view parts.now) → (p : Point) → Hold known.old p
         → MeetsEach p (parts_under (assignment_of instances.now chosen.now) (map part_view parts.now)) → Hold known.new p) }
-    ensures read { OnOk result (AreRead known.old known.new
-        (parts_under (assignment_of instances.now chosen.now) (map part_view parts.now))) }
+    ensures read { OnOk result ((F : Standing) → AreStored F known.old store.old
+        → StandAtLeft F (instances_in instances.now) implication (map part_view parts.now)
+        → AreRead known.old known.new (parts_under (assignment_of instances.now chosen.now) (map part_view parts.now))) }
+    ensures stored { (F : Standing) → AreStored F known.old store.old
+        → StandAtLeft F (instances_in instances.now) implication (map part_view parts.now) → AreStored F known.new store.new }
     ensures keeps { Keeps known.old known.new }
 {
+    let mut behind = parts.len() as u64;
     for part in parts {
-        add_part(alloc, known, part, instances, chosen)?;
+        behind -= 1;
+        add_part(
+            known,
+            store,
+            PartPlace::Left(implication, behind),
+            part,
+            instances,
+            chosen,
+        )?;
     }
     Ok(())
 }

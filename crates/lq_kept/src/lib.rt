@@ -1,12 +1,15 @@
 //! What is known of implications by facts and readings of their hypotheses that are kept from question to question.
 #![tactic(auto)]
 
+mod adding;
 mod aiming;
 mod answer;
 mod kept;
 mod left;
 mod level;
+mod reading;
 mod refuting;
+mod store;
 mod way;
 
 pub use answer::Answer;

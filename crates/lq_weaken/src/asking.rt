@@ -1,7 +1,7 @@
 // The prover as who says which implications are valid.
 ghost use Rattle.std.specs.Prelude.{◌≡◌, ◌<◌, length, slice_get, IfOk, IfErr, IfSome, IsTrue};
 ghost use Rattle.lq_implications.specs.Views.{environment_lists};
-ghost use Rattle.lq_kept.specs.Kept.{IsKeptFor};
+ghost use Rattle.lq_kept.specs.Kept.{HasReadings, IsKeptFor};
 ghost use Rattle.lq_literals.specs.Gathered.{CanBeGathered};
 ghost use Rattle.lq_parts.specs.Assignment.{goal_under};
 ghost use Rattle.lq_parts.specs.Flowing.{assigned};
@@ -185,7 +185,8 @@ impl Judge for Questions<'_> {
 
     ghost may_stop = { λ q. MayStop q.limit (instances_in q.instances.now) (constraints_of q.implications.now) };
 
-    ghost keeps = { λ q chosen. IsKeptFor (assigned (instances_in q.instances.now) chosen) (environment_lists q.implications.now) q.kept };
+    ghost keeps = { λ q chosen. IsKeptFor (assigned (instances_in q.instances.now) chosen) (environment_lists q.implications.now) q.kept
+        × HasReadings (instances_in q.instances.now) (environment_lists q.implications.now) (constraints_of q.implications.now) q.kept };
 
     fn ask(&mut self, at: u64, chosen: &Chosen) -> Result<Asked, Stop> {
         match self.kept.ask(self.implications, at, self.instances, chosen) {
@@ -200,6 +201,6 @@ impl Judge for Questions<'_> {
     }
 
     fn reset(&mut self) {
-        self.kept.reset();
+        self.kept.clear();
     }
 }

@@ -1,16 +1,14 @@
-use Rattle.lq_instances.specs.Views.{list_view}
-use Rattle.lq_known.proofs.Holding.{keeps_then}
-use Rattle.lq_substitution.specs.Views.{subst_view}
-use Rattle.lq_weakening.specs.Chosen.{chosen_in}
-use Rattle.lq_kept.proofs.Failing.{refutable_before, refuted_by}
+use Rattle.lq_kept.proofs.Failing.{holds_by, refuted_by}
+use Rattle.lq_kept.proofs.Readings.{refutable_by_before}
 use Rattle.lq_kept.proofs.aiming.aim_at_each.Goals as goal
 
 pub returns-in-Settled-clause-refuted : goal.returns-in-Settled-clause-refuted
 returns-in-Settled-clause-refuted c =
     refuted_by c.refute.result _ _
-    (λ numbers r. refutable_before c.args.known.now c.stand_against_list.new.known (chosen_in c.args.chosen.now c.args.unknown) (subst_view c.args.by.now) (list_view c.args.list.now) numbers
-    c.stand_against_list.ensures.keeps c.stand_against_list.ensures.readings r)
-    c.refute.ensures.refuted
+    (λ numbers r. refutable_by_before c.args.known.now c.stand_against_each.new.known c.args.reads.now numbers c.stand_against_each.ensures.keeps c.stand_against_each.ensures.readings r) c.refute.ensures.refuted
 
-pub returns-in-Settled-clause-keeps : goal.returns-in-Settled-clause-keeps
-returns-in-Settled-clause-keeps c = keeps_then _ _ _ c.stand_against_list.ensures.keeps c.refute.ensures.keeps
+pub returns-in-Settled-clause-holds : goal.returns-in-Settled-clause-holds
+returns-in-Settled-clause-holds c = holds_by c.refute.result _ _ (λ f. absurd f) c.refute.ensures.holds
+
+pub returns-in-Proved-clause-holds : goal.returns-in-Proved-clause-holds
+returns-in-Proved-clause-holds c = c.stand_against_each.ensures.proved c.in-Proved.is

@@ -1,19 +1,19 @@
-use Rattle.lq_instances.specs.Views.{list_view}
 use Rattle.lq_known.proofs.Holding.{keeps_then}
-use Rattle.lq_substitution.specs.Views.{subst_view}
-use Rattle.lq_weakening.specs.Chosen.{chosen_in}
-use Rattle.lq_kept.proofs.Failing.{holds_by, refutable_before, refuted_by}
+use Rattle.lq_kept.proofs.Failing.{holds_by, refuted_by}
+use Rattle.lq_kept.proofs.Readings.{proved_by_before, refutable_by_before}
 use Rattle.lq_kept.proofs.aiming.aim_at_list.Goals as goal
 
-pub returns-in-Open-clause-refuted : goal.returns-in-Open-clause-refuted
-returns-in-Open-clause-refuted c =
-    refuted_by c.aim_at_each.result _ _
-    (λ numbers r. refutable_before c.args.known.now c.aim_at_once.new.known (chosen_in c.args.chosen.now c.args.unknown) (subst_view c.args.by.now) (list_view c.args.list.now) numbers
-    c.aim_at_once.ensures.keeps c.aim_at_once.ensures.readings r)
-    c.aim_at_each.ensures.refuted
+pub returns-clause-refuted : goal.returns-clause-refuted
+returns-clause-refuted c =
+    refuted_by c.aim_again.result _ _ (λ numbers r. refutable_by_before c.args.known.now c.proves_each.new.known c.args.reads.now numbers c.proves_each.ensures.keeps c.proves_each.ensures.same r)
+    c.aim_again.ensures.refuted
 
-pub returns-in-Open-clause-holds : goal.returns-in-Open-clause-holds
-returns-in-Open-clause-holds c = holds_by c.aim_at_each.result _ _ (λ f. λ p h. f p (c.aim_at_once.ensures.kept p h)) c.aim_at_each.ensures.holds
+pub returns-clause-holds : goal.returns-clause-holds
+returns-clause-holds c =
+    holds_by c.aim_again.result _ _ (λ f. proved_by_before c.args.known.now c.proves_each.new.known c.args.reads.now c.proves_each.ensures.keeps c.proves_each.ensures.kept f) c.aim_again.ensures.holds
 
-pub returns-in-Open-clause-keeps : goal.returns-in-Open-clause-keeps
-returns-in-Open-clause-keeps c = keeps_then _ _ _ c.aim_at_once.ensures.keeps c.aim_at_each.ensures.keeps
+pub returns-clause-keeps : goal.returns-clause-keeps
+returns-clause-keeps c = keeps_then _ _ _ c.proves_each.ensures.keeps c.aim_again.ensures.keeps
+
+pub returns-then-proves_each-clause-holds : goal.returns-then-proves_each-clause-holds
+returns-then-proves_each-clause-holds c = c.proves_each.ensures.proved c.if-proves_each.true

@@ -1,91 +1,44 @@
-use Rattle.std.proofs.Common.{◌≡◌, ◌∙◌, ◌↔◌, ◌≤◌, Bool, IfSome, IsTrue, true, false, refl, sym, subst, arith, length}
-use Rattle.lq_instances.specs.Views.{list_view}
-use Rattle.lq_known.proofs.Holding.{keeps_self, keeps_then}
-use Rattle.lq_known.specs.Known.{IsAt}
+use Rattle.std.proofs.Common.{◌↔◌, IsTrue, false, arith}
+use Rattle.lq_known.proofs.Members.{item_here}
+use Rattle.lq_known.specs.Known.{IsAt, IsReadOf}
 use Rattle.lq_known.specs.Plain.{IsPlain}
 use Rattle.lq_parts.specs.Substitution.{formula_by}
+use Rattle.lq_pred.specs.Formula.{Formula}
 use Rattle.lq_pred.specs.Points.{Meets, Point}
-use Rattle.lq_pred.specs.PredView.{formula_of}
 use Rattle.lq_pred.specs.Reading.{reading_of}
-use Rattle.lq_substitution.specs.Views.{subst_view}
-use Rattle.lq_weakening.specs.Chosen.{chosen_in}
-use Rattle.lq_kept.proofs.Failing.{AreFirst, first_all, first_next, first_none, plain_next, plain_past}
+use Rattle.lq_kept.proofs.Readings.{IsPlainBy, OfNumber, all_noted, chosen_plain, item_next, noted_next, noted_none, of_number}
 use Rattle.lq_kept.proofs.refuting.refuted_numbers.Goals as goal
 
-pub loop-at-init : goal.loop-at-init
-loop-at-init c = record {
-  settled = c.requires;
-  here = λ p h. h;
-  kept = λ p h. h;
-  keeps = keeps_self _;
-  readings = refl;
-  first = λ p h. subst (AreFirst 0 (chosen_in c.args.chosen.now c.args.unknown) p (subst_view c.args.by.now) (list_view c.args.list.now)) (sym c.new-numbers.ensures.items)
-      (first_none (chosen_in c.args.chosen.now c.args.unknown) p (subst_view c.args.by.now) (list_view c.args.list.now));
-  plain = λ i q w. absurd (omega (arith, w));
+pub loop-instance-init : goal.loop-instance-init
+loop-instance-init c = record {
+  refuted = λ f σ qs a p h. noted_none f p σ qs c.args.reads.now c.new-numbers.result.items c.new-numbers.ensures.items;
+  plain = λ f σ qs a at r w e. absurd (omega (arith, w));
 }
 
-pub loop-at-preserved : goal.loop-at-preserved
-loop-at-preserved c =
-    let before = c.loop-at.invariant in
-    let chosen = chosen_in c.args.chosen.now c.args.unknown in
-    let σ = subst_view c.args.by.now in
-    let qs = list_view c.args.list.now in
-    let n = c.loop-at.at in
-    let q = formula_of c.in-Some.instance.now in
-    let k = c.refutes_instance.new.known in
-    let answer : c.has-is_chosen.result ≡ true → IsPlain (formula_by σ q) × ((p : Point) → IsAt k p → IsTrue c.in-Some-2.refuted ↔ Meets p (reading_of false (formula_by σ q)))
-    = subst (λ o. IfSome o (λ (b : Bool). c.has-is_chosen.result ≡ true → IsPlain (formula_by σ q) × ((p : Point) → IsAt k p → IsTrue b ↔ Meets p (reading_of false (formula_by σ q)))))
-    c.in-Some-2.is c.in_ok-refuted.ensures.answer in
-    let is_chosen : IsTrue c.in-Some-2.refuted → c.has-is_chosen.result ≡ true
-    = subst (λ o. IfSome o (λ (b : Bool). IsTrue b → c.has-is_chosen.result ≡ true)) c.in-Some-2.is c.in_ok-refuted.ensures.chosen in record {
-      settled = c.in_ok-refuted.ensures.settled;
-      here = λ p h. before.here p (c.in_ok-refuted.ensures.at p h);
-      kept = λ p h. c.in_ok-refuted.ensures.kept p (before.kept p h);
-      keeps = keeps_then _ _ _ before.keeps c.in_ok-refuted.ensures.keeps;
-      readings = c.in_ok-refuted.ensures.readings ∙ before.readings;
-      first = λ p h. first_next n chosen p σ qs c.loop-at.numbers.items c.note.new.numbers.items q c.in-Some-2.refuted c.in-Some.ensures (λ t. subst (λ b. b ≡ true) c.has-is_chosen.ensures (is_chosen t))
-          (λ t. (answer (subst (λ b. b ≡ true) (sym c.has-is_chosen.ensures) t)).1 p h) c.in_ok-note.ensures.noted c.in_ok-note.ensures.same (before.first p (c.in_ok-refuted.ensures.at p h));
-      plain = plain_next chosen σ n qs q c.in-Some.ensures (λ t. (answer (subst (λ b. b ≡ true) (sym c.has-is_chosen.ensures) t)).0) before.plain;
+pub loop-instance-preserved : goal.loop-instance-preserved
+loop-instance-preserved c =
+    let before = c.loop-instance.invariant in
+    let k = c.args.known.now in
+    let reads = c.args.reads.now in
+    let i = c.loop-instance.instance-index in
+    let r = c.instance-item.result in
+    let here = item_here reads i r c.loop-instance-test.true c.instance-item.is in
+    let answer : (h : Formula) → IsReadOf k r.read.value h → IsPlain h × ((p : Point) → IsAt k p → IsTrue c.in-Some.refuted ↔ Meets p (reading_of false h)) = c.in-Some.ensures in record {
+      refuted = λ f σ qs a p h.
+          let one = a.each i r here in
+          noted_next i f p σ qs reads c.loop-instance.numbers.items c.note.new.numbers.items r one.instance c.in-Some.refuted here one.here one.is_chosen ((answer (formula_by σ one.instance) one.read).1 p h)
+          c.in_ok-note.ensures.noted c.in_ok-note.ensures.same (before.refuted f σ qs a p h);
+      plain = λ f σ qs a.
+          let one = a.each i r here in
+          item_next i reads (OfNumber qs (IsPlainBy σ)) r here (of_number qs (IsPlainBy σ) r one.instance one.here (answer (formula_by σ one.instance) one.read).0) (before.plain f σ qs a);
     }
 
 pub returns : goal.returns
 returns c =
-    let last = c.loop-at.invariant in
-    let chosen = chosen_in c.args.chosen.now c.args.unknown in
-    let σ = subst_view c.args.by.now in
-    let qs = list_view c.args.list.now in
-    let past : length qs ≤ c.loop-at.at = omega arith in record {
-      refuted = λ p h. first_all c.loop-at.at chosen p σ qs c.loop-at.numbers.items past (last.first p h);
-      plain = plain_past chosen σ c.loop-at.at qs past last.plain;
-      at = last.here;
-      kept = last.kept;
-      keeps = last.keeps;
-      readings = last.readings;
+    let last = c.loop-instance.invariant in
+    let k = c.args.known.now in
+    let reads = c.args.reads.now in
+    let i = c.loop-instance.instance-index in record {
+      refuted = λ f σ qs a p h. all_noted k i f p σ qs reads c.loop-instance.numbers.items a c.loop-instance-test.false (last.refuted f σ qs a p h);
+      plain = λ f σ qs a. chosen_plain k f σ qs reads i a c.loop-instance-test.false (last.plain f σ qs a);
     }
-
-pub returns-in_err-refuted-clause-at : goal.returns-in_err-refuted-clause-at
-returns-in_err-refuted-clause-at c = λ p h. c.loop-at.invariant.here p (c.in_err-refuted.ensures.at p h)
-
-pub returns-in_err-refuted-clause-keeps : goal.returns-in_err-refuted-clause-keeps
-returns-in_err-refuted-clause-keeps c = keeps_then _ _ _ c.loop-at.invariant.keeps c.in_err-refuted.ensures.keeps
-
-pub returns-in_default-2-clause-at : goal.returns-in_default-2-clause-at
-returns-in_default-2-clause-at c = λ p h. c.loop-at.invariant.here p (c.in_ok-refuted.ensures.at p h)
-
-pub returns-in_default-2-clause-keeps : goal.returns-in_default-2-clause-keeps
-returns-in_default-2-clause-keeps c = keeps_then _ _ _ c.loop-at.invariant.keeps c.in_ok-refuted.ensures.keeps
-
-pub returns-in_err-note-clause-at : goal.returns-in_err-note-clause-at
-returns-in_err-note-clause-at c = λ p h. c.loop-at.invariant.here p (c.in_ok-refuted.ensures.at p h)
-
-pub returns-in_err-note-clause-keeps : goal.returns-in_err-note-clause-keeps
-returns-in_err-note-clause-keeps c = keeps_then _ _ _ c.loop-at.invariant.keeps c.in_ok-refuted.ensures.keeps
-
-pub returns-in_err-refuted-clause-kept : goal.returns-in_err-refuted-clause-kept
-returns-in_err-refuted-clause-kept c = λ p h. c.in_err-refuted.ensures.kept p (c.loop-at.invariant.kept p h)
-
-pub returns-in_default-2-clause-kept : goal.returns-in_default-2-clause-kept
-returns-in_default-2-clause-kept c = λ p h. c.in_ok-refuted.ensures.kept p (c.loop-at.invariant.kept p h)
-
-pub returns-in_err-note-clause-kept : goal.returns-in_err-note-clause-kept
-returns-in_err-note-clause-kept c = λ p h. c.in_ok-refuted.ensures.kept p (c.loop-at.invariant.kept p h)

@@ -1,21 +1,16 @@
--- Of the instances so far exactly these numbers are chosen and refuted, and the chosen ones are plain.
-use Rattle.std.proofs.Common.{◌≡◌}
-use Rattle.lq_instances.specs.Views.{list_view}
-use Rattle.lq_known.specs.Known.{Hold, IsAt, IsSettled, Keeps, readings_of}
+-- Of the instances so far exactly these numbers are refuted, and they are plain.
+use Rattle.std.proofs.Common.{ℕ, Bool, List}
+use Rattle.lq_known.specs.Known.{IsAt}
+use Rattle.lq_parts.specs.Substitution.{Subst}
+use Rattle.lq_pred.specs.Formula.{Formula}
 use Rattle.lq_pred.specs.Points.{Point}
-use Rattle.lq_substitution.specs.Views.{subst_view}
-use Rattle.lq_weakening.specs.Chosen.{chosen_in}
-use Rattle.lq_kept.proofs.Failing.{AreFirst}
-use Rattle.lq_kept.specs.Aiming.{ChosenArePlain}
+use Rattle.lq_kept.specs.Reads.{AreReads}
+use Rattle.lq_kept.proofs.Readings.{AreNoted, EachFirst, IsPlainBy, OfNumber}
 use Rattle.lq_kept.proofs.refuting.refuted_numbers.Given as goal
 
-abbrev pub invariant-loop-at : goal.invariant-loop-at
-invariant-loop-at l = record {
-  settled : IsSettled l.known;
-  here : (p : Point) → IsAt l.known p → IsAt l.fn.known p;
-  kept : (p : Point) → Hold l.fn.known p → Hold l.known p;
-  keeps : Keeps l.fn.known l.known;
-  readings : readings_of l.known ≡ readings_of l.fn.known;
-  first : (p : Point) → IsAt l.known p → AreFirst l.at (chosen_in l.chosen l.unknown) p (subst_view l.by) (list_view l.list) l.numbers.items;
-  plain : ChosenArePlain (chosen_in l.chosen l.unknown) (subst_view l.by) l.at (list_view l.list);
+abbrev pub invariant-loop-instance : goal.invariant-loop-instance
+invariant-loop-instance l = record {
+  refuted : (chosen : ℕ → Bool) (σ : Subst) (qs : List Formula) → AreReads l.known chosen σ qs l.reads → (p : Point) → IsAt l.known p
+      → AreNoted l.instance-index chosen p σ qs l.reads l.numbers.items;
+  plain : (chosen : ℕ → Bool) (σ : Subst) (qs : List Formula) → AreReads l.known chosen σ qs l.reads → EachFirst l.instance-index l.reads (OfNumber qs (IsPlainBy σ));
 }

@@ -3,13 +3,15 @@ use Rattle.lq_implications.specs.Views.{environment_in, environment_lists, impli
 use Rattle.lq_nearest.specs.Reading.{AreRead}
 use Rattle.lq_parts.specs.Assignment.{parts_under}
 use Rattle.lq_pred.specs.ClosedImplication.{MeetsEach}
-use Rattle.lq_questions.specs.Assigned.{assignment_of, instances_in}
+use Rattle.lq_questions.specs.Assigned.{assignment_of, constraints_of, instances_in}
 use Rattle.lq_substitution.specs.Views.{part_view, parts_view}
 use Rattle.lq_weakening.specs.Chosen.{chosen_in}
 use Rattle.lq_nearest.proofs.Meeting.{follows_here}
 use Rattle.lq_kept.proofs.Levels.{right_grown}
 use Rattle.lq_kept.proofs.Failing.{fails_here, holds_by, refuted_by}
+use Rattle.lq_kept.proofs.Standing.{goal_stands, left_stands}
 use Rattle.lq_kept.proofs.Ways.{parts_apart, told_parts}
+use Rattle.lq_kept.specs.Places.{StandAtLeft, formula_at}
 use Rattle.lq_kept.proofs.kept.Kept.ask.Goals as goal
 
 pub returns-in_err-add_parts-clause-kept : goal.returns-in_err-add_parts-clause-kept
@@ -30,10 +32,15 @@ returns-clause-holds c =
     let A = assignment_of c.args.instances.now c.args.chosen.now in
     let es = environment_lists c.args.implications.now in
     let item = c.in-Some.implication.now in
+    let I = instances_in c.args.instances.now in
+    let F = formula_at I es (constraints_of c.args.implications.now) in
+    let left = subst (λ l. StandAtLeft F I c.args.at (map part_view l)) (sym c.as_slice.ensures) (left_stands I es (implication_items c.args.implications.now) c.args.at item c.in-Some.ensures) in
+    let stored = c.add_parts.ensures.stored F c.stand_in.ensures.stored left in
+    let goal = goal_stands I es (implication_items c.args.implications.now) c.args.at item c.in-Some.ensures in
     holds_by c.aim.result _ _
     (λ f. follows_here (instances_in c.args.instances.now) (chosen_in c.args.chosen.now) es (implication_items c.args.implications.now) c.args.at item c.in-Some.ensures
     (λ p m. let r = parts_apart A p (environment_in es item.env) (parts_view item.left) m in
-    f p (c.in_ok-add_parts.ensures.held p (c.in_ok-stand_in.ensures.stands.holds p r.0) (subst (λ l. MeetsEach p (parts_under A (map part_view l))) (sym c.as_slice.ensures) r.1))))
+    f F stored goal p (c.in_ok-add_parts.ensures.held F c.stand_in.ensures.stored left p (c.in_ok-stand_in.ensures.stands.holds p r.0) (subst (λ l. MeetsEach p (parts_under A (map part_view l))) (sym c.as_slice.ensures) r.1))))
     c.aim.ensures.holds
 
 pub returns-clause-refuted : goal.returns-clause-refuted
@@ -41,11 +48,36 @@ returns-clause-refuted c =
     let A = assignment_of c.args.instances.now c.args.chosen.now in
     let es = environment_lists c.args.implications.now in
     let item = c.in-Some.implication.now in
+    let I = instances_in c.args.instances.now in
+    let F = formula_at I es (constraints_of c.args.implications.now) in
+    let left = subst (λ l. StandAtLeft F I c.args.at (map part_view l)) (sym c.as_slice.ensures) (left_stands I es (implication_items c.args.implications.now) c.args.at item c.in-Some.ensures) in
+    let stored = c.add_parts.ensures.stored F c.stand_in.ensures.stored left in
+    let goal = goal_stands I es (implication_items c.args.implications.now) c.args.at item c.in-Some.ensures in
     let before = c.stand_in.new.self.known in
     let after = c.add_parts.new.known in
     refuted_by c.aim.result _ _
     (λ numbers f. fails_here after (instances_in c.args.instances.now) (chosen_in c.args.chosen.now) es (implication_items c.args.implications.now) c.args.at item numbers c.in-Some.ensures
     (told_parts A before after (environment_in es item.env) (parts_view item.left) c.add_parts.ensures.keeps c.in_ok-stand_in.ensures.stands.reads
-    (subst (λ l. AreRead before after (parts_under A (map part_view l))) c.as_slice.ensures c.in_ok-add_parts.ensures.read))
-    f)
+    (subst (λ l. AreRead before after (parts_under A (map part_view l))) c.as_slice.ensures (c.in_ok-add_parts.ensures.read F c.stand_in.ensures.stored left)))
+    (f F stored goal))
     c.aim.ensures.refuted
+
+pub returns-clause-stored : goal.returns-clause-stored
+returns-clause-stored c =
+    let es = environment_lists c.args.implications.now in
+    let item = c.in-Some.implication.now in
+    let I = instances_in c.args.instances.now in
+    let F = formula_at I es (constraints_of c.args.implications.now) in
+    let left = subst (λ l. StandAtLeft F I c.args.at (map part_view l)) (sym c.as_slice.ensures) (left_stands I es (implication_items c.args.implications.now) c.args.at item c.in-Some.ensures) in
+    let stored = c.add_parts.ensures.stored F c.stand_in.ensures.stored left in
+    let goal = goal_stands I es (implication_items c.args.implications.now) c.args.at item c.in-Some.ensures in
+    c.aim.ensures.stored F stored goal
+
+pub returns-in_err-add_parts-clause-stored : goal.returns-in_err-add_parts-clause-stored
+returns-in_err-add_parts-clause-stored c =
+    let es = environment_lists c.args.implications.now in
+    let item = c.in-Some.implication.now in
+    let I = instances_in c.args.instances.now in
+    let F = formula_at I es (constraints_of c.args.implications.now) in
+    let left = subst (λ l. StandAtLeft F I c.args.at (map part_view l)) (sym c.as_slice.ensures) (left_stands I es (implication_items c.args.implications.now) c.args.at item c.in-Some.ensures) in
+    c.add_parts.ensures.stored F c.stand_in.ensures.stored left

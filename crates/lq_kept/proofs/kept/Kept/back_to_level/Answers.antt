@@ -1,6 +1,8 @@
 use Rattle.std.proofs.Common.{◌≡◌, Some, length, refl, slice_get, sym, subst}
 use Rattle.std.proofs.lemmas.Option.{slice_get_read}
 use Rattle.lq_kept.specs.Kept.{AreRight, AreThere}
+use Rattle.lq_kept.specs.Places.{formula_at}
+use Rattle.lq_kept.proofs.Readings.{stored_same}
 use Rattle.lq_kept.proofs.Levels.{IsBackTo, back_here, right_back, there_back}
 use Rattle.lq_kept.proofs.kept.Kept.back_to_level.Goals as goal
 
@@ -32,3 +34,6 @@ returns-clause-stands c = λ l e A es k.
     } in
     subst (λ ls. AreThere A es c.back_to.new.self ls l.env) (sym c.truncate.ensures.items)
     (there_back A es c.args.self.now.known c.back_to.new.self levels c.args.at l e (back_here c.args.self.now.known c.back_to.new.self levels c.args.at level l here e back) k)
+
+pub returns-clause-stored : goal.returns-clause-stored
+returns-clause-stored c = λ I es cs h. stored_same (formula_at I es cs) c.args.self.now.known c.back_to.new.self c.args.self.now.store c.back_to.ensures.terms h

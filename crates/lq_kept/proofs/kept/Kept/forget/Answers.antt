@@ -7,6 +7,7 @@ use Rattle.lq_kept.proofs.kept.Kept.forget.Goals as goal
 
 pub returns-then-count-len : goal.returns-then-count-len
 returns-then-count-len c = record {
+  stored = λ I es cs h. h;
   kept = λ A B es a k.
       let levels = c.args.self.now.levels in
       let v : vec_len levels ≡ length levels.items = levels.ok.0 in
@@ -19,6 +20,7 @@ returns-then-count-len c = record {
 
 pub returns : goal.returns
 returns c = record {
+  stored = c.back_to_level.ensures.stored;
   kept = λ A B es a k.
       let levels = c.args.self.now.levels.items in
       let known = c.back_to_level.new.self.known in

@@ -13,6 +13,7 @@ loop-found-init c =
       way = subst (λ l. LeadsTo es c.args.env l c.args.env) (sym c.new-steps.ensures.items) refl;
       kept = λ A k. c.back_to-found.ensures.kept A es k;
       stands = λ b A k. c.back_to-found.ensures.stands b A es k;
+      stored = c.back_to-found.ensures.stored;
     }
 
 pub returns-in_default-clause-way : goal.returns-in_default-clause-way
@@ -33,8 +34,18 @@ loop-found-preserved c =
       way = subst (λ l. LeadsTo es parent l c.args.env) (sym c.in_ok-push.ensures.items) (way_added es c.loop-found.steps.items step parent c.args.env before.way e);
       kept = λ A k. c.back_to-found-in-loop-found.ensures.kept A es (before.kept A k);
       stands = λ b A k. c.back_to-found-in-loop-found.ensures.stands b A es (before.kept A k);
+      stored = λ I fs cs h. c.back_to-found-in-loop-found.ensures.stored I fs cs (before.stored I fs cs h);
     }
 
 pub returns-clause-way : goal.returns-clause-way
 returns-clause-way c = λ A k.
     let before = c.loop-found.invariant in record { at = c.loop-found.at; kept = before.kept A k; stands = before.stands c.loop-found-test.false A k; way = before.way }
+
+pub returns-in_default-clause-stored : goal.returns-in_default-clause-stored
+returns-in_default-clause-stored c = λ I es cs h. c.reset.ensures.stored I es cs (c.loop-found.invariant.stored I es cs h)
+
+pub returns-in_err-push-clause-stored : goal.returns-in_err-push-clause-stored
+returns-in_err-push-clause-stored c = c.loop-found.invariant.stored
+
+pub returns-clause-stored : goal.returns-clause-stored
+returns-clause-stored c = c.loop-found.invariant.stored

@@ -1,8 +1,10 @@
 -- What is kept stays right, and the steps lead to where the way has come.
-use Rattle.std.proofs.Common.{◌<◌, IsTrue, length}
+use Rattle.std.proofs.Common.{◌<◌, IsTrue, List, length}
 use Rattle.lq_implications.specs.Views.{environment_lists}
 use Rattle.lq_parts.specs.Assignment.{Assignment}
-use Rattle.lq_kept.specs.Kept.{IsKeptFor, Stands}
+use Rattle.lq_parts.specs.Constraint.{Constraint}
+use Rattle.lq_parts.specs.Part.{Parts}
+use Rattle.lq_kept.specs.Kept.{HasReadings, IsKeptFor, Stands}
 use Rattle.lq_kept.specs.Way.{LeadsTo}
 use Rattle.lq_kept.proofs.kept.Kept.way_to.Given as goal
 
@@ -12,6 +14,7 @@ invariant-loop-found l = record {
   way : LeadsTo (environment_lists l.implications) l.at l.steps.items l.env;
   kept : (A : Assignment) → IsKeptFor A (environment_lists l.implications) l.fn.self → IsKeptFor A (environment_lists l.implications) l.self;
   stands : IsTrue l.found → (A : Assignment) → IsKeptFor A (environment_lists l.implications) l.fn.self → Stands A (environment_lists l.implications) l.self l.at;
+  stored : (I : Assignment) (es : List Parts) (cs : List Constraint) → HasReadings I es cs l.fn.self → HasReadings I es cs l.self;
 }
 
 abbrev pub decreases-loop-found : goal.decreases-loop-found
