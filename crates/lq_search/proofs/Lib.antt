@@ -8,6 +8,7 @@ pub mod Weights
 pub mod Within
 pub mod Taken
 pub mod Ready
+pub mod Unmoved
 pub mod Settled
 pub mod Nodes
 pub mod Steps

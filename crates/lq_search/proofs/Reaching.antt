@@ -22,12 +22,12 @@ use Rattle.lq_pred.specs.declared.nnf.Nnf.{Nnf}
 use Rattle.lq_pred.specs.declared.nnf.Nnfs.{Nnfs}
 use Rattle.lq_pruning.proofs.Taking as taking
 use Rattle.lq_search.specs.Scope.{Scope}
-use Rattle.lq_search.specs.SearchPath.{IsBack, facts_of, path_of, ways_of}
+use Rattle.lq_search.specs.SearchPath.{IsBack, IsTaken, facts_of, path_of, ways_of}
 use Rattle.lq_search.specs.Sizes.{most, row_size}
 use Rattle.lq_search.specs.Stopping.{HandsFrom, MayReach, MayTake, ReachesFrom, StopsFrom, StopsSearch, most_on, most_open}
 use Rattle.lq_search.specs.declared.pair.Pair.{Pair}
 use Rattle.lq_search.specs.declared.search_path.SearchPath.{SearchPath}
-use Rattle.lq_search.proofs.Ready.{IsTakenFrom, marked_members, taken_path}
+use Rattle.lq_search.proofs.Ready.{marked_members}
 use Rattle.lq_search.proofs.Sizes.{added_sizes, fact_sizes-append, member_most, most_back, most_equated, most_open-marked, most_taken, on_is, sizes_among}
 use Rattle.lq_search.proofs.Steps.{members_at, path_back}
 use Rattle.lq_search.proofs.Stops.{TakesNoMore, choice_takes, equations_take, may_stop, member_takes, reached_before, reached_here, standing_take, stops_before, stops_here, way_takes}
@@ -87,9 +87,9 @@ step_equated s pairs p q a c d l k = record {
   handed = hands_same yes s pairs p q k;
 }
 
-pub step_taken : (s : Scope) (pairs : List Pair) (r : Reading Row) (p q : SearchPath) → IsTakenFrom s r p q → KeepsHanded p.state q.state → IsStep s pairs r p yes q
+pub step_taken : (s : Scope) (pairs : List Pair) (r : Reading Row) (p q : SearchPath) → IsTaken s r p q → KeepsHanded p.state q.state → IsStep s pairs r p yes q
 step_taken s pairs r p q t k = record {
-  takes = same_path s.terms (ways_of pairs) (path_of s q) (taken (path_of s p) r) (taken_path s r p q t);
+  takes = same_path s.terms (ways_of pairs) (path_of s q) (taken (path_of s p) r) t.path;
   sizes = let m = most_taken s r p q t in omega (arith, m);
   terms = t.limits.0;
   limit = t.limits.1;
@@ -168,6 +168,16 @@ step_checked s pairs p q b h = record {
   terms = b.limits.0;
   limit = b.limits.1;
   handed = check_hands s pairs p q h;
+}
+
+-- what was known comes back
+pub step_kept : (s : Scope) (pairs : List Pair) (p q : SearchPath) → IsBack p q → KeepsHanded p.state q.state → IsStep s pairs yes p yes q
+step_kept s pairs p q b k = record {
+  takes = same_path s.terms (ways_of pairs) (path_of s q) (path_of s p) (path_back s p q b);
+  sizes = let m = most_back s p q b in omega (arith, m);
+  terms = b.limits.0;
+  limit = b.limits.1;
+  handed = hands_same yes s pairs p q k;
 }
 
 pub checked_reaches : (s : Scope) (pairs : List Pair) (p q : SearchPath) → facts_of s q ≡ facts_of s p → HandsMore (Stands (rows_among (facts_of s p))) p.state q.state

@@ -24,7 +24,7 @@ use Rattle.lq_pred.specs.Sum.{Sum, whole}
 use Rattle.lq_pruning.proofs.Taking as taking
 use Rattle.lq_search.specs.Parts.{AddsOpen, facts_of as part_facts, path_by}
 use Rattle.lq_search.specs.Scope.{AllMayHold, AreWithin, IsWithin, Scope}
-use Rattle.lq_search.specs.SearchPath.{AreMet, IsBack, IsCovered, IsMet, IsReady, IsReadyFor, IsReadyForAny, IsReadyWhen, facts_of, path_of}
+use Rattle.lq_search.specs.SearchPath.{AreMet, IsBack, IsCovered, IsMet, IsReady, IsReadyFor, IsReadyForAny, IsReadyWhen, IsTaken, facts_of, path_of}
 use Rattle.lq_search.specs.Splits.{IsDoneOrMet}
 use Rattle.lq_search.specs.declared.pair.Pair.{Pair}
 use Rattle.lq_search.specs.declared.parts.Part.{Part}
@@ -239,6 +239,18 @@ taken_path s r p q t =
     ap₂ (λ f c. record { facts = f; choices = c }) (t.facts ∙ ap (λ l. facts_of s p ++ l) (taken_facts s r p q t))
     (ap choices_of t.adds.is ∙ map-append (λ (c : Choice). nnfs_view c.members.now) p.choices.items t.adds.more ∙ ap (λ l. choices_of p.choices.items ++ l) (taken_choices s r p q t))
     ∙ sym (taking.taken_is (path_of s p) r)
+
+pub is_taken : (s : Scope) (r : Reading Row) (p q : SearchPath) → IsTakenFrom s r p q → IsTaken s r p q
+is_taken s r p q t = record { path = taken_path s r p q t; adds = t.adds; pairs_are = t.pairs_are; limits = t.limits }
+
+pub new_facts : (s : Scope) (r : Reading Row) (p q : SearchPath) → IsTaken s r p q → facts_of s q ≡ facts_of s p ++ taking.facts_of r
+new_facts s r p q t = ap (λ (x : Path). x.facts) (t.path ∙ taking.taken_is (path_of s p) r)
+
+pub new_choices : (s : Scope) (r : Reading Row) (p q : SearchPath) (t : IsTaken s r p q) → choices_of t.adds.more ≡ taking.choices_of r
+new_choices s r p q t =
+    cancel (choices_of p.choices.items) (choices_of t.adds.more) (taking.choices_of r)
+    (sym (map-append (λ (c : Choice). nnfs_view c.members.now) p.choices.items t.adds.more) ∙ ap choices_of (sym t.adds.is)
+    ∙ ap (λ (x : Path). x.choices) (t.path ∙ taking.taken_is (path_of s p) r))
 
 open_met : (v : Valuation) (p : Point) (cs : List Choice) → All (λ (c : Choice). c.is_done ≡ false) cs → All (IsDoneOrMet v p) cs → All (IsMet v p) cs
 open_met v p [] o h = All-nil (IsMet v p)

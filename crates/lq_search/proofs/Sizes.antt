@@ -17,11 +17,11 @@ use Rattle.lq_pred.specs.declared.nnf.Nnfs.{Nnfs}
 use Rattle.lq_pruning.proofs.Taking as taking
 use Rattle.lq_pred.specs.Sum.{Sum}
 use Rattle.lq_search.specs.Scope.{Scope}
-use Rattle.lq_search.specs.SearchPath.{IsBack, facts_of}
+use Rattle.lq_search.specs.SearchPath.{IsBack, IsTaken, facts_of}
 use Rattle.lq_search.specs.Sizes.{most, most_of_all, most_of_any, most_of_each, row_size}
 use Rattle.lq_search.specs.Stopping.{choice_most, most_on, most_open}
 use Rattle.lq_search.specs.declared.search_path.SearchPath.{SearchPath}
-use Rattle.lq_search.proofs.Ready.{IsTakenFrom, taken_choices, taken_facts}
+use Rattle.lq_search.proofs.Ready.{new_choices, new_facts}
 use Rattle.lq_search.proofs.Weights.{with_done}
 
 -- ---- facts
@@ -126,16 +126,16 @@ sizes_on s p = fact_sizes (facts_of s p) + (most_open p.choices.items + most_ope
 pub on_is : (s : Scope) (p : SearchPath) → most_on s p ≡ sizes_on s p
 on_is s p = ap (λ n. n + (most_open p.choices.items + most_open p.pairs.items)) (sizes_among (facts_of s p))
 
-pub most_taken : (s : Scope) (r : Reading Row) (p q : SearchPath) → IsTakenFrom s r p q → most_on s q ≡ most_on s p + most row_size r
+pub most_taken : (s : Scope) (r : Reading Row) (p q : SearchPath) → IsTaken s r p q → most_on s q ≡ most_on s p + most row_size r
 most_taken s r p q t =
     let x = on_is s p in let y = on_is s q in
     let a = ap most_open t.adds.is in
     let b = most_open-append p.choices.items t.adds.more in
     let c = most_open-open t.adds.more t.adds.open_still in
-    let d = ap most_of_each (taken_choices s r p q t) in
+    let d = ap most_of_each (new_choices s r p q t) in
     let e = added_sizes r in
     let f = ap most_open t.pairs_are in
-    let g = ap fact_sizes (t.facts ∙ ap (λ l. facts_of s p ++ l) (taken_facts s r p q t)) in
+    let g = ap fact_sizes (new_facts s r p q t) in
     let h = fact_sizes-append (facts_of s p) (taking.facts_of r) in omega (arith, x, y, a, b, c, d, e, f, g, h)
 
 pub most_back : (s : Scope) (p q : SearchPath) → IsBack p q → most_on s q ≡ most_on s p

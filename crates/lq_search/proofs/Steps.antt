@@ -23,12 +23,12 @@ use Rattle.lq_pred.specs.declared.nnf.Nnfs.{Nnfs}
 use Rattle.lq_pruning.proofs.Taking as taking
 use Rattle.lq_search.specs.Parts.{facts_of as part_facts, path_by, path_with}
 use Rattle.lq_search.specs.Scope.{IsWithin, Scope}
-use Rattle.lq_search.specs.SearchPath.{EndsMet, IsBack, IsLonger, IsReadyFor, IsReadyForAny, IsReadyWhen, SetsDone, path_of, ways_of}
+use Rattle.lq_search.specs.SearchPath.{EndsMet, IsBack, IsLonger, IsReadyFor, IsReadyForAny, IsReadyWhen, IsTaken, SetsDone, path_of, ways_of}
 use Rattle.lq_search.specs.declared.pair.Pair.{Pair}
 use Rattle.lq_search.specs.declared.parts.Part.{Part}
 use Rattle.lq_search.specs.declared.search_path.SearchPath.{SearchPath}
 use Rattle.lq_search.proofs.Nodes.{leaf_proves}
-use Rattle.lq_search.proofs.Ready.{IsTakenFrom, marked_members, ready_back, set_back, taken_choices}
+use Rattle.lq_search.proofs.Ready.{marked_members, new_choices, ready_back, set_back}
 use Rattle.lq_search.proofs.Weights.{added_weight, all_weights, item_weight, left, total, total-append, total-open, weight, weights, with_done}
 use Rattle.lq_search.proofs.Within.{all_below, all_sides, facts_within}
 
@@ -99,12 +99,12 @@ all_members n p members items i trees e l h =
 
 -- ---- a reading is taken
 
-pub left_taken : (s : Scope) (r : Reading Row) (p q : SearchPath) → IsTakenFrom s r p q → left q ≡ left p + weight r
+pub left_taken : (s : Scope) (r : Reading Row) (p q : SearchPath) → IsTaken s r p q → left q ≡ left p + weight r
 left_taken s r p q t =
     let a = ap total t.adds.is in
     let b = total-append p.choices.items t.adds.more in
     let c = total-open t.adds.more t.adds.open_still in
-    let d = ap all_weights (taken_choices s r p q t) in
+    let d = ap all_weights (new_choices s r p q t) in
     let e = added_weight r in
     let f = ap total t.pairs_are in omega (arith, a, b, c, d, e, f)
 
@@ -125,7 +125,7 @@ leaf_taken n p r parts t e h =
     (subst (λ x. IsLeafOf x t) (sym (taking.taken_is p r))
     (subst (λ f. IsLeafOf (path_with (p.facts ++ f) (p.choices ++ taking.choices_of r)) t) e (h (p.choices ++ taking.choices_of r))))
 
-pub longer_back : (s : Scope) (r : Reading Row) (p q x : SearchPath) → IsTakenFrom s r p q → ((name : ℕ → Sum) → Grows (facts_in name p.state) (facts_in name q.state)) → IsBack q x → IsLonger p x
+pub longer_back : (s : Scope) (r : Reading Row) (p q x : SearchPath) → IsTaken s r p q → ((name : ℕ → Sum) → Grows (facts_in name p.state) (facts_in name q.state)) → IsBack q x → IsLonger p x
 longer_back s r p q x t g b = record {
   facts = λ name. subst (Grows (facts_in name p.state)) (sym (b.facts name)) (g name);
   more = t.adds.more;

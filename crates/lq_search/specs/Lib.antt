@@ -5,5 +5,6 @@ pub mod Splits
 pub mod Scope
 pub mod Parts
 pub mod SearchPath
+pub mod Unmoved
 pub mod Stopping
 pub mod Branches

@@ -3,7 +3,7 @@ use Rattle.std.specs.Prelude.{◌≡◌, ℕ, true, Bool, List, ◌++◌, All, S
 use Rattle.lq_case.specs.PathState.{AllFlagsHold, NoObjectsClash, facts_in, objects_in}
 use Rattle.lq_case.specs.RowState.{is_solved, row_point, terms_of as row_terms}
 use Rattle.lq_combine.specs.Met.{AllHold}
-use Rattle.lq_combine.specs.Path.{Fact, Path}
+use Rattle.lq_combine.specs.Path.{Fact, Path, taken}
 use Rattle.lq_combine.specs.Proves.{rows_among}
 use Rattle.lq_equating.specs.Equating.{AreEquated, Grows}
 use Rattle.lq_equating.specs.Naming.{AllTold, HasAllArguments, name_in, objects_of}
@@ -19,6 +19,7 @@ use Rattle.lq_pred.specs.RowMeaning.{MeetsAnyRow, MeetsRows}
 use Rattle.lq_pred.specs.Sum.{Sum}
 use Rattle.lq_pred.specs.TableView.{terms_of}
 use Rattle.lq_search.specs.Pairs.{IsPair}
+use Rattle.lq_search.specs.Parts.{AddsOpen}
 use Rattle.lq_search.specs.Scope.{AllMayHold, AreWithin, Scope}
 use Rattle.lq_search.specs.Splits.{IsDoneOrMet}
 use Rattle.lq_search.specs.declared.givens.Givens.{Givens}
@@ -87,6 +88,13 @@ pub record IsLonger (old new : SearchPath) : Type 0 where
   pub facts : (name : ℕ → Sum) → Grows (facts_in name old.state) (facts_in name new.state)
   pub more : List Choice
   pub choices_are : new.choices.items ≡ old.choices.items ++ more
+  pub pairs_are : new.pairs.items ≡ old.pairs.items
+  pub limits : SameLimits new.state old.state
+
+-- the path has what the reading adds behind its facts and choices, no member was taken of the choices, and the pairs stay
+pub record IsTaken (s : Scope) (r : Reading Row) (old new : SearchPath) : Type 0 where
+  pub path : path_of s new ≡ taken (path_of s old) r
+  pub adds : AddsOpen old.choices.items new.choices.items
   pub pairs_are : new.pairs.items ≡ old.pairs.items
   pub limits : SameLimits new.state old.state
 

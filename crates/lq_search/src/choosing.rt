@@ -11,6 +11,7 @@ use indexmap::IndexSet;
 use lq_case::PathState;
 use lq_path::{Choice, meets_any};
 use lq_pred::{Nnf, Nnfs, Term};
+use std::alloc::Global;
 
 /// Whether a literal never holds, or says of a flag the opposite of what facts say.
 fn is_refuted(state: &PathState, literal: &Nnf) -> bool {
@@ -85,7 +86,7 @@ fn count_alive(state: &PathState, members: &Nnfs) -> usize {
 }
 
 /// Whether no member of a choice was taken.
-fn is_open(choices: &[Choice<'_>], at: usize) -> bool
+pub(crate) fn is_open(choices: &[Choice<'_>], at: usize) -> bool
     requires { at < length choices.now }
     ensures { IsTrue result → IsOpen choices.now at }
 {
@@ -187,4 +188,32 @@ pub(crate) fn best_choice(
         best = better(state, objects, choices, order, best, at);
     }
     best.at
+}
+
+/// The places of the first choices at or behind a place that are neither done nor met, at most so many.
+pub(crate) fn broken(
+    alloc: Global,
+    state: &PathState,
+    objects: &IndexSet<Term>,
+    choices: &[Choice<'_>],
+    start: usize,
+    most: usize,
+) -> Vec<usize>
+    requires solved { is_solved state.now.rows ≡ true }
+    requires over { All (λ c. AreOver (terms_of state.now.rows) (map sum_of objects.now.keys) (nnfs_view c.members.now))
+        choices.now }
+    requires count { state.now.objects.count ≡ length objects.now.keys }
+{
+    let mut places = Vec::new(alloc);
+    for at in start..choices.len() {
+        if places.len() >= most {
+            return places;
+        }
+        if is_open(choices, at) && !meets_any(state, objects, choices[at].members) {
+            let Ok(()) = places.push(at) else {
+                return places;
+            };
+        }
+    }
+    places
 }

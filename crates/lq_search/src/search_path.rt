@@ -50,7 +50,7 @@ impl<'a> SearchPath<'a> {
     }
 
     /// How many facts and choices there are.
-    pub(crate) fn counts(&self) -> Counts
+    pub fn counts(&self) -> Counts
         ensures facts { (name : ℕ → Sum) → result.facts ≡ length (facts_in name self.now.state) }
         ensures choices { result.choices ≡ length self.now.choices.items }
     {
@@ -61,7 +61,7 @@ impl<'a> SearchPath<'a> {
     }
 
     /// Keeps so many of the first facts and choices.
-    pub(crate) fn back_to(&mut self, counts: Counts)
+    pub fn back_to(&mut self, counts: Counts)
         requires { (name : ℕ → Sum) → counts.facts ≤ length (facts_in name self.old.state) }
         ensures facts { (name : ℕ → Sum) → facts_in name self.new.state ≡ take counts.facts (facts_in name self.old.state) }
         ensures limits { SameLimits self.new.state self.old.state }

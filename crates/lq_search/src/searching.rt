@@ -1,6 +1,7 @@
 // The search for a point of a path, or for a tree that proves it.
 ghost use Rattle.std.specs.Prelude.{◌≡◌, ◌<◌, IfErr, IfNone, IfOk, IfSome, OnSome, length, true};
 ghost use Rattle.lq_case.specs.PathState.{objects_in};
+ghost use Rattle.lq_case.specs.RowState.{is_solved};
 ghost use Rattle.lq_combine.specs.Path.{taken};
 ghost use Rattle.lq_combine.specs.Proves.{Proves};
 ghost use Rattle.lq_combine.specs.TreeView.{tree_view};
@@ -18,10 +19,10 @@ use crate::choosing::{forced_choice, is_forced};
 use crate::counting::Counts;
 use crate::givens::Givens;
 use crate::open::{Open, next_open};
-use crate::parts::add_parts;
+use crate::probing::probed_pair;
+use crate::reading::take_reading;
 use crate::search_path::{SearchPath, set_done};
-use crate::taking::take_parts;
-use lq_combine::{ProofTree, Trees, proved_paths_have_no_point};
+use lq_combine::{ProofTree, Trees};
 use lq_equating::equate_all;
 use lq_linear::LinearStop;
 use lq_pred::{Nnf, Nnfs};
@@ -97,9 +98,37 @@ fn search_on<'a>(
     }
     match next_open(givens, path) {
         Some(Open::Choice(at)) => split_choice(alloc, givens, path, at),
-        Some(Open::Pair(at)) => split_pair(alloc, givens, path, at),
+        Some(Open::Pair(at)) => split_probed(alloc, givens, path, at),
         None => Ok(None),
     }
+}
+
+/// Splits a pair where the values break the one at a place, which pair is found by probing.
+#[cycle(search)]
+fn split_probed<'a>(
+    alloc: Global,
+    givens: &Givens<'a>,
+    path: &mut SearchPath<'a>,
+    first: usize,
+) -> Result<Option<ProofTree>, LinearStop>
+    requires given { AreGiven (scope_of givens.now) givens.now.pairs.now }
+    requires ready { IsReady (scope_of givens.now) givens.now.pairs.now path.old }
+    requires solved { is_solved path.old.state.rows ≡ true }
+    requires is_open { IsOpen path.old.pairs.items first }
+    ensures tree { IfOk result (λ found. IfSome found (λ t. Proves (numbering_by (scope_of givens.now).terms)
+        (path_of (scope_of givens.now) path.old) (tree_view t))) }
+    ensures back { IfOk result (λ found. OnSome found (IsBack path.old path.new)) }
+    ensures met { IfOk result (λ found. IfNone found (EndsMet (scope_of givens.now) givens.now.pairs.now
+        (path_of (scope_of givens.now) path.old) path.new)) }
+    ensures reached { IfOk result (λ found. IfNone found (ReachesFrom yes (scope_of givens.now)
+        givens.now.pairs.now path.old path.new)) }
+    ensures handed { IfOk result (λ found. OnSome found (HandsFrom yes (scope_of givens.now)
+        givens.now.pairs.now path.old path.new)) }
+    ensures stop { IfErr result (StopsFrom yes (scope_of givens.now)
+        givens.now.pairs.now path.old) }
+{
+    let at = probed_pair(alloc, givens, path, first);
+    split_pair(alloc, givens, path, at)
 }
 
 /// Splits a choice of which no member was taken.
@@ -268,13 +297,7 @@ fn search_with<'a>(
     ensures stop { IfErr result (StopsFrom (nnf_view reading.now) (scope_of givens.now)
         givens.now.pairs.now path.old) }
 {
-    proved_paths_have_no_point();
-    path.state.facts_are_few();
-    let mut parts = Vec::new(alloc);
-    let Ok(()) = add_parts(reading, &mut parts, &mut path.choices) else {
-        return Err(LinearStop::Memory);
-    };
-    if let Some(leaf) = take_parts(&mut path.state, givens.objects, &parts)? {
+    if let Some(leaf) = take_reading(alloc, givens, path, reading)? {
         return Ok(Some(leaf));
     }
     search(alloc, givens, path)
@@ -300,9 +323,12 @@ pub fn search_reading<'a>(
     requires ready { IsReadyFor (nnf_view reading.now) (scope_of givens.now) givens.now.pairs.now path }
     ensures tree { IfOk result (λ s. IfSome s.tree (λ t. Proves (numbering_by (scope_of givens.now).terms)
         (taken (path_of (scope_of givens.now) path.entry) (nnf_view reading.now)) (tree_view t))) }
+    ensures longer { IfOk result (λ s. OnSome s.tree (IsLonger path.entry s.path)) }
     ensures met { IfOk result (λ s. IfNone s.tree (EndsMet (scope_of givens.now) givens.now.pairs.now
         (taken (path_of (scope_of givens.now) path.entry) (nnf_view reading.now)) s.path)) }
     ensures reached { IfOk result (λ s. IfNone s.tree (ReachesFrom (nnf_view reading.now) (scope_of givens.now)
+        givens.now.pairs.now path.entry s.path)) }
+    ensures handed { IfOk result (λ s. OnSome s.tree (HandsFrom (nnf_view reading.now) (scope_of givens.now)
         givens.now.pairs.now path.entry s.path)) }
     ensures stop { IfErr result (StopsFrom (nnf_view reading.now) (scope_of givens.now) givens.now.pairs.now path.entry) }
 {

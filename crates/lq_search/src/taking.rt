@@ -54,7 +54,7 @@ fn take_part(
     ensures leaf { IfOk result (λ found. IfSome found (λ t. (choices : List (Readings Row))
         → IsLeafOf (path_with (facts_in (name_in (objects_of objects.now)) state.old ++ part_fact part.now ∷ []) choices)
         (tree_view t))) }
-    ensures grows { IfOk result (λ _. (name : ℕ → Sum) → Grows (facts_in name state.old) (facts_in name state.new)) }
+    ensures grows { (name : ℕ → Sum) → Grows (facts_in name state.old) (facts_in name state.new) }
     ensures limits { SameLimits state.new state.old }
     ensures handed { KeepsHanded state.old state.new }
     ensures stop { IfErr result (StopsBy (constants (rows_among (facts_in (name_in (objects_of objects.now)) state.old
@@ -88,7 +88,7 @@ pub(crate) fn take_parts(
     ensures leaf { IfOk result (λ found. IfSome found (λ t. (choices : List (Readings Row))
         → IsLeafOf (path_with (facts_in (name_in (objects_of objects.now)) state.old ++ facts_of parts.now) choices)
         (tree_view t))) }
-    ensures grows { IfOk result (λ _. (name : ℕ → Sum) → Grows (facts_in name state.old) (facts_in name state.new)) }
+    ensures grows { (name : ℕ → Sum) → Grows (facts_in name state.old) (facts_in name state.new) }
     ensures limits { SameLimits state.new state.old }
     ensures handed { KeepsHanded state.old state.new }
     ensures stop { IfErr result (StopsBy (constants (rows_among (facts_in (name_in (objects_of objects.now)) state.old

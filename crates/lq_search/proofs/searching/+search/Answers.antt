@@ -1,5 +1,4 @@
-use Rattle.std.proofs.Common.{◌≡◌, ◌∙◌, ◌^◌, ◌<◌, IfNone, IfOk, IfSome, Some, false, get_or, length, set, slice_get, true, refl, sym, ap, subst, arith}
-use Rattle.std.proofs.lemmas.List.{length-map}
+use Rattle.std.proofs.Common.{◌≡◌, ◌∙◌, ◌<◌, IfNone, IfOk, IfSome, Some, false, get_or, length, set, slice_get, true, refl, sym, ap, subst, arith}
 use Rattle.std.proofs.lemmas.Option.{slice_get-get_or, slice_get_within}
 use Rattle.std.proofs.lemmas.Result.{err_from_is_err_and}
 use Rattle.lq_case.specs.PathState.{facts_in, objects_in}
@@ -16,15 +15,14 @@ use Rattle.lq_path.proofs.Readings.{view_items}
 use Rattle.lq_pred.specs.NnfView.{nnf_items, nnf_view, nnfs_view}
 use Rattle.lq_pred.specs.Reading.{any_of, yes}
 use Rattle.lq_search.specs.Branches.{BranchProves, SplitProves}
-use Rattle.lq_search.specs.Parts.{facts_of as part_facts, part_fact, path_by}
 use Rattle.lq_search.specs.Scope.{AreWithin, IsWithin}
 use Rattle.lq_search.specs.SearchPath.{Always, EndsMet, IsBack, IsReadyForAny, facts_of, path_of, scope_of}
 use Rattle.lq_search.specs.declared.pair.Pair.{Pair}
 use Rattle.lq_search.specs.declared.search_path.SearchPath.{SearchPath}
 use Rattle.lq_search.proofs.Nodes.{leaf_seen, no_trees, one_more}
-use Rattle.lq_search.proofs.Ready.{IsTakenFrom, ready_back, ready_equated, ready_marked, ready_pair_marked, ready_taken, taken_path}
-use Rattle.lq_search.proofs.Reaching.{check_hands, check_stops, checked_reaches, equating_stops, hands_more, hands_same, hands_step, if_err_more, if_ok_none, reached_step, step_checked, step_equated, step_marked, step_member, step_pair_marked, step_taken, stops_step, taking_stops}
-use Rattle.lq_search.proofs.Steps.{all_members, back_itself, back_then, choice_at, ends_at, ends_before, if_ok_some, leaf_taken, left_back, left_taken, longer_back, marked_path, marks, member_inside, member_is, member_weight, members_at, parts_are, parts_below, parts_sides, path_back, ready_member, same_item, set_length, unmarked_is, ways_at, ways_length}
+use Rattle.lq_search.proofs.Ready.{ready_back, ready_equated, ready_marked, ready_pair_marked}
+use Rattle.lq_search.proofs.Reaching.{check_hands, check_stops, checked_reaches, equating_stops, hands_more, hands_same, hands_step, if_err_more, if_ok_none, reached_step, step_checked, step_equated, step_kept, step_marked, step_member, step_pair_marked, step_taken, stops_step}
+use Rattle.lq_search.proofs.Steps.{all_members, back_itself, back_then, choice_at, ends_at, ends_before, if_ok_some, left_back, left_taken, longer_back, marked_path, marks, member_inside, member_is, member_weight, members_at, path_back, ready_member, same_item, set_length, unmarked_is, ways_at, ways_length}
 use Rattle.lq_search.proofs.Weights.{total, total-marked, weights, with_done}
 use Rattle.lq_search.proofs.Within.{item_within}
 use Rattle.lq_search.proofs.searching.+search.Goals as goal
@@ -158,109 +156,34 @@ search_on-returns-in-None-clause-met t c =
 
 -- ---- a reading is taken
 
-pub search_with-take_parts-requires-clause-sides :
-    goal.search_with-take_parts-requires-clause-sides
-search_with-take_parts-requires-clause-sides t c =
-    let s = scope_of c.args.givens.now in
-    let r = nnf_view c.args.reading.now in
-    let parts = parts_are r c.new-parts.result.items c.add_parts.new.parts.items c.args.path.now.choices.items c.add_parts.new.choices.items c.new-parts.ensures.items c.in-Ok.ensures.taken in
-    parts_sides s r c.deref.result.now c.requires.within (ap part_facts c.deref.ensures.value ∙ parts)
-
-pub search_with-take_parts-requires-clause-below :
-    goal.search_with-take_parts-requires-clause-below
-search_with-take_parts-requires-clause-below t c =
-    let s = scope_of c.args.givens.now in
-    let r = nnf_view c.args.reading.now in
-    let parts = parts_are r c.new-parts.result.items c.add_parts.new.parts.items c.args.path.now.choices.items c.add_parts.new.choices.items c.new-parts.ensures.items c.in-Ok.ensures.taken in
-    parts_below s r c.deref.result.now c.args.path.now.state.rows.distances.terms c.requires.ready.terms_are c.requires.within (ap part_facts c.deref.ensures.value ∙ parts)
-
-pub search_with-returns-in-Some-clause-tree : goal.search_with-returns-in-Some-clause-tree
-search_with-returns-in-Some-clause-tree t c =
-    let s = scope_of c.args.givens.now in
-    let r = nnf_view c.args.reading.now in
-    let parts = parts_are r c.new-parts.result.items c.add_parts.new.parts.items c.args.path.now.choices.items c.add_parts.new.choices.items c.new-parts.ensures.items c.in-Ok.ensures.taken in
-    leaf_taken (numbering_by s.terms) (path_of s c.args.path.now) r c.deref.result.now (tree_view c.in-Some.leaf) (ap part_facts c.deref.ensures.value ∙ parts)
-    (rw c.in-Some.is at c.in_ok-leaf.ensures.leaf)
-
 pub search_with-search-requires : goal.search_with-search-requires
 search_with-search-requires t c =
     let s = scope_of c.args.givens.now in
-    let r = nnf_view c.args.reading.now in
-    let p = c.args.path.now in
     let e = c.in_ok-leaf.ensures in
-    let q : SearchPath = record { state = c.take_parts.new.state; choices = c.add_parts.new.choices; pairs = c.args.path.now.pairs; order = c.args.path.now.order } in
-    let is : IsTakenFrom s r p q = record {
-      parts = c.deref.result.now;
-      facts = rw c.in_default-2.is at e.stands;
-      may_hold = rw c.in_default-2.is at e.may_hold;
-      path = ap (λ l. path_by l c.add_parts.new.choices.items) c.deref.ensures.value ∙ c.in-Ok.ensures.taken ∙ ap (λ l. taken (path_by l p.choices.items) r) c.new-parts.ensures.items;
-      adds = c.in-Ok.ensures.adds;
-      pairs_are = refl;
-      told = (rw c.in_default-2.is at e.told) c.requires.ready.told;
-      limits = e.limits;
-    } in
-    let w = left_taken s r p q is in
+    let w = left_taken s (nnf_view c.args.reading.now) c.args.path.now c.take_reading.new.path (rw c.in_default.is at e.taken) in
     let at = c.decreases in (
       omega (arith, w, at),
-      (c.requires.given, ready_taken s c.args.givens.now.pairs.now r p q c.requires.ready c.requires.within is),
+      (c.requires.given, rw c.in_default.is at e.ready),
     )
 
 pub search_with-returns-clause-tree : goal.search_with-returns-clause-tree
 search_with-returns-clause-tree t c =
     let s = scope_of c.args.givens.now in
-    let r = nnf_view c.args.reading.now in
-    let p = c.args.path.now in
-    let e = c.in_ok-leaf.ensures in
-    let q : SearchPath = record { state = c.take_parts.new.state; choices = c.add_parts.new.choices; pairs = c.args.path.now.pairs; order = c.args.path.now.order } in
-    let is : IsTakenFrom s r p q = record {
-      parts = c.deref.result.now;
-      facts = rw c.in_default-2.is at e.stands;
-      may_hold = rw c.in_default-2.is at e.may_hold;
-      path = ap (λ l. path_by l c.add_parts.new.choices.items) c.deref.ensures.value ∙ c.in-Ok.ensures.taken ∙ ap (λ l. taken (path_by l p.choices.items) r) c.new-parts.ensures.items;
-      adds = c.in-Ok.ensures.adds;
-      pairs_are = refl;
-      told = (rw c.in_default-2.is at e.told) c.requires.ready.told;
-      limits = e.limits;
-    } in
-    subst (λ x. IfOk c.search.result (λ found. IfSome found (λ tree. Proves (numbering_by s.terms) x (tree_view tree)))) (taken_path s r p q is) c.search.ensures.tree
+    let is = rw c.in_default.is at c.in_ok-leaf.ensures.taken in
+    subst (λ x. IfOk c.search.result (λ found. IfSome found (λ tree. Proves (numbering_by s.terms) x (tree_view tree)))) is.path c.search.ensures.tree
 
 pub search_with-returns-clause-longer : goal.search_with-returns-clause-longer
 search_with-returns-clause-longer t c =
     let s = scope_of c.args.givens.now in
-    let r = nnf_view c.args.reading.now in
-    let p = c.args.path.now in
     let e = c.in_ok-leaf.ensures in
-    let q : SearchPath = record { state = c.take_parts.new.state; choices = c.add_parts.new.choices; pairs = c.args.path.now.pairs; order = c.args.path.now.order } in
-    let is : IsTakenFrom s r p q = record {
-      parts = c.deref.result.now;
-      facts = rw c.in_default-2.is at e.stands;
-      may_hold = rw c.in_default-2.is at e.may_hold;
-      path = ap (λ l. path_by l c.add_parts.new.choices.items) c.deref.ensures.value ∙ c.in-Ok.ensures.taken ∙ ap (λ l. taken (path_by l p.choices.items) r) c.new-parts.ensures.items;
-      adds = c.in-Ok.ensures.adds;
-      pairs_are = refl;
-      told = (rw c.in_default-2.is at e.told) c.requires.ready.told;
-      limits = e.limits;
-    } in
-    if_ok_some c.search.result (λ b. longer_back s r p q c.search.new.path is e.grows b) c.search.ensures.back
+    let is = rw c.in_default.is at e.taken in
+    if_ok_some c.search.result (λ b. longer_back s (nnf_view c.args.reading.now) c.args.path.now c.take_reading.new.path c.search.new.path is e.longer.facts b) c.search.ensures.back
 
 pub search_with-returns-clause-met : goal.search_with-returns-clause-met
 search_with-returns-clause-met t c =
     let s = scope_of c.args.givens.now in
-    let r = nnf_view c.args.reading.now in
-    let p = c.args.path.now in
-    let e = c.in_ok-leaf.ensures in
-    let q : SearchPath = record { state = c.take_parts.new.state; choices = c.add_parts.new.choices; pairs = c.args.path.now.pairs; order = c.args.path.now.order } in
-    let is : IsTakenFrom s r p q = record {
-      parts = c.deref.result.now;
-      facts = rw c.in_default-2.is at e.stands;
-      may_hold = rw c.in_default-2.is at e.may_hold;
-      path = ap (λ l. path_by l c.add_parts.new.choices.items) c.deref.ensures.value ∙ c.in-Ok.ensures.taken ∙ ap (λ l. taken (path_by l p.choices.items) r) c.new-parts.ensures.items;
-      adds = c.in-Ok.ensures.adds;
-      pairs_are = refl;
-      told = (rw c.in_default-2.is at e.told) c.requires.ready.told;
-      limits = e.limits;
-    } in
-    subst (λ x. IfOk c.search.result (λ found. IfNone found (EndsMet s c.args.givens.now.pairs.now x c.search.new.path))) (taken_path s r p q is) c.search.ensures.met
+    let is = rw c.in_default.is at c.in_ok-leaf.ensures.taken in
+    subst (λ x. IfOk c.search.result (λ found. IfNone found (EndsMet s c.args.givens.now.pairs.now x c.search.new.path))) is.path c.search.ensures.met
 
 -- ---- a choice is split
 
@@ -479,57 +402,25 @@ refute_each-returns-in-None-clause-reached t c =
     c.loop-member-test.true c.member-item.is c.loop-member.invariant.back c.loop-member.invariant.handed in
     reached_step s pairs (any_of (nnfs_view c.args.members.now)) p (nnf_view n) c.loop-member.path c.refute_with.new.path step (rw c.in-None.is at c.in_ok-refute_with.ensures.reached)
 
-pub search_with-returns-in_err-leaf-clause-stop : goal.search_with-returns-in_err-leaf-clause-stop
-search_with-returns-in_err-leaf-clause-stop t c =
-    let p = err_from_is_err_and c.from_residual.result c.from_residual.ensures.1 in
-    let s = scope_of c.args.givens.now in
-    let r = nnf_view c.args.reading.now in
-    let parts = parts_are r c.new-parts.result.items c.add_parts.new.parts.items c.args.path.now.choices.items c.add_parts.new.choices.items c.new-parts.ensures.items c.in-Ok.ensures.taken in
-    let short : length (part_facts c.deref.result.now) < 2 ^ 63 =
-    (let n = length-map c.deref.result.now part_fact in let m = ap length c.deref.ensures.value in let v = c.add_parts.new.parts.ok in let w = c.add_parts.new.parts.small in
-    omega (arith, n, m, v, w)) in
-    rw (p.1, p.2) (taking_stops s c.args.givens.now.pairs.now r c.args.path.now (part_facts c.deref.result.now) c.in_err-leaf.field-0.0 (ap part_facts c.deref.ensures.value ∙ parts)
-    (c.facts_are_few.ensures (name_in s.objects)) short c.in_err-leaf.ensures.stop)
-
 pub search_with-returns-clause-reached : goal.search_with-returns-clause-reached
 search_with-returns-clause-reached t c =
     let s = scope_of c.args.givens.now in
     let r = nnf_view c.args.reading.now in
     let p = c.args.path.now in
-    let e = c.in_ok-leaf.ensures in
-    let q : SearchPath = record { state = c.take_parts.new.state; choices = c.add_parts.new.choices; pairs = c.args.path.now.pairs; order = c.args.path.now.order } in
-    let is : IsTakenFrom s r p q = record {
-      parts = c.deref.result.now;
-      facts = rw c.in_default-2.is at e.stands;
-      may_hold = rw c.in_default-2.is at e.may_hold;
-      path = ap (λ l. path_by l c.add_parts.new.choices.items) c.deref.ensures.value ∙ c.in-Ok.ensures.taken ∙ ap (λ l. taken (path_by l p.choices.items) r) c.new-parts.ensures.items;
-      adds = c.in-Ok.ensures.adds;
-      pairs_are = refl;
-      told = (rw c.in_default-2.is at e.told) c.requires.ready.told;
-      limits = e.limits;
-    } in
     let pairs = c.args.givens.now.pairs.now in
-    if_ok_none c.search.result (λ h. reached_step s pairs r p yes q c.search.new.path (step_taken s pairs r p q is e.handed) h) c.search.ensures.reached
+    let q = c.take_reading.new.path in
+    let e = c.in_ok-leaf.ensures in
+    if_ok_none c.search.result (λ h. reached_step s pairs r p yes q c.search.new.path (step_taken s pairs r p q (rw c.in_default.is at e.taken) e.handed) h) c.search.ensures.reached
 
 pub search_with-returns-clause-stop : goal.search_with-returns-clause-stop
 search_with-returns-clause-stop t c =
     let s = scope_of c.args.givens.now in
     let r = nnf_view c.args.reading.now in
     let p = c.args.path.now in
-    let e = c.in_ok-leaf.ensures in
-    let q : SearchPath = record { state = c.take_parts.new.state; choices = c.add_parts.new.choices; pairs = c.args.path.now.pairs; order = c.args.path.now.order } in
-    let is : IsTakenFrom s r p q = record {
-      parts = c.deref.result.now;
-      facts = rw c.in_default-2.is at e.stands;
-      may_hold = rw c.in_default-2.is at e.may_hold;
-      path = ap (λ l. path_by l c.add_parts.new.choices.items) c.deref.ensures.value ∙ c.in-Ok.ensures.taken ∙ ap (λ l. taken (path_by l p.choices.items) r) c.new-parts.ensures.items;
-      adds = c.in-Ok.ensures.adds;
-      pairs_are = refl;
-      told = (rw c.in_default-2.is at e.told) c.requires.ready.told;
-      limits = e.limits;
-    } in
     let pairs = c.args.givens.now.pairs.now in
-    if_err_more c.search.result (λ stop h. stops_step s pairs r p yes q stop (step_taken s pairs r p q is e.handed) h) c.search.ensures.stop
+    let q = c.take_reading.new.path in
+    let e = c.in_ok-leaf.ensures in
+    if_err_more c.search.result (λ stop h. stops_step s pairs r p yes q stop (step_taken s pairs r p q (rw c.in_default.is at e.taken) e.handed) h) c.search.ensures.stop
 
 pub split_choice-any_tree-requires : goal.split_choice-any_tree-requires
 split_choice-any_tree-requires t c =
@@ -634,28 +525,17 @@ refute_with-returns-in_ok-branch_of-in-Some-clause-handed t c =
 
 pub search_with-returns-in-Some-clause-handed : goal.search_with-returns-in-Some-clause-handed
 search_with-returns-in-Some-clause-handed t c =
-    let q : SearchPath = record { state = c.take_parts.new.state; choices = c.add_parts.new.choices; pairs = c.args.path.now.pairs; order = c.args.path.now.order } in
-    hands_same (nnf_view c.args.reading.now) (scope_of c.args.givens.now) c.args.givens.now.pairs.now c.args.path.now q c.take_parts.ensures.handed
+    hands_same (nnf_view c.args.reading.now) (scope_of c.args.givens.now) c.args.givens.now.pairs.now c.args.path.now c.take_reading.new.path c.take_reading.ensures.handed
 
 pub search_with-returns-clause-handed : goal.search_with-returns-clause-handed
 search_with-returns-clause-handed t c =
     let s = scope_of c.args.givens.now in
     let r = nnf_view c.args.reading.now in
     let p = c.args.path.now in
-    let e = c.in_ok-leaf.ensures in
-    let q : SearchPath = record { state = c.take_parts.new.state; choices = c.add_parts.new.choices; pairs = c.args.path.now.pairs; order = c.args.path.now.order } in
-    let is : IsTakenFrom s r p q = record {
-      parts = c.deref.result.now;
-      facts = rw c.in_default-2.is at e.stands;
-      may_hold = rw c.in_default-2.is at e.may_hold;
-      path = ap (λ l. path_by l c.add_parts.new.choices.items) c.deref.ensures.value ∙ c.in-Ok.ensures.taken ∙ ap (λ l. taken (path_by l p.choices.items) r) c.new-parts.ensures.items;
-      adds = c.in-Ok.ensures.adds;
-      pairs_are = refl;
-      told = (rw c.in_default-2.is at e.told) c.requires.ready.told;
-      limits = e.limits;
-    } in
     let pairs = c.args.givens.now.pairs.now in
-    if_ok_some c.search.result (λ h. hands_step s pairs r p yes q c.search.new.path (step_taken s pairs r p q is e.handed) h) c.search.ensures.handed
+    let q = c.take_reading.new.path in
+    let e = c.in_ok-leaf.ensures in
+    if_ok_some c.search.result (λ h. hands_step s pairs r p yes q c.search.new.path (step_taken s pairs r p q (rw c.in_default.is at e.taken) e.handed) h) c.search.ensures.handed
 
 pub split_choice-returns-in-Some-clause-handed : goal.split_choice-returns-in-Some-clause-handed
 split_choice-returns-in-Some-clause-handed t c =
@@ -730,7 +610,7 @@ search_on-returns-in-Some-Pair-clause-handed t c =
     let e = c.in_ok-clash.ensures in
     let q : SearchPath = record { state = c.check.new.self; choices = p.choices; pairs = p.pairs; order = p.order } in
     let back : IsBack p q = record { facts = e.facts; choices_are = refl; pairs_are = refl; limits = e.limits } in
-    if_ok_some c.split_pair.result (λ h. hands_step s pairs yes p yes q c.split_pair.new.path (step_checked s pairs p q back (c.check.ensures.handed (name_in s.objects))) h) c.split_pair.ensures.handed
+    if_ok_some c.split_probed.result (λ h. hands_step s pairs yes p yes q c.split_probed.new.path (step_checked s pairs p q back (c.check.ensures.handed (name_in s.objects))) h) c.split_probed.ensures.handed
 
 pub search_on-returns-in-Some-Pair-clause-stop : goal.search_on-returns-in-Some-Pair-clause-stop
 search_on-returns-in-Some-Pair-clause-stop t c =
@@ -740,7 +620,7 @@ search_on-returns-in-Some-Pair-clause-stop t c =
     let e = c.in_ok-clash.ensures in
     let q : SearchPath = record { state = c.check.new.self; choices = p.choices; pairs = p.pairs; order = p.order } in
     let back : IsBack p q = record { facts = e.facts; choices_are = refl; pairs_are = refl; limits = e.limits } in
-    if_err_more c.split_pair.result (λ stop h. stops_step s pairs yes p yes q stop (step_checked s pairs p q back (c.check.ensures.handed (name_in s.objects))) h) c.split_pair.ensures.stop
+    if_err_more c.split_probed.result (λ stop h. stops_step s pairs yes p yes q stop (step_checked s pairs p q back (c.check.ensures.handed (name_in s.objects))) h) c.split_probed.ensures.stop
 
 pub search_on-returns-in-Some-Choice-clause-reached : goal.search_on-returns-in-Some-Choice-clause-reached
 search_on-returns-in-Some-Choice-clause-reached t c =
@@ -760,4 +640,73 @@ search_on-returns-in-Some-Pair-clause-reached t c =
     let e = c.in_ok-clash.ensures in
     let q : SearchPath = record { state = c.check.new.self; choices = p.choices; pairs = p.pairs; order = p.order } in
     let back : IsBack p q = record { facts = e.facts; choices_are = refl; pairs_are = refl; limits = e.limits } in
-    if_ok_none c.split_pair.result (λ h. reached_step s pairs yes p yes q c.split_pair.new.path (step_checked s pairs p q back (c.check.ensures.handed (name_in s.objects))) h) c.split_pair.ensures.reached
+    if_ok_none c.split_probed.result (λ h. reached_step s pairs yes p yes q c.split_probed.new.path (step_checked s pairs p q back (c.check.ensures.handed (name_in s.objects))) h) c.split_probed.ensures.reached
+
+-- ---- a pair behind probing
+
+pub split_probed-split_pair-requires : goal.split_probed-split_pair-requires
+split_probed-split_pair-requires t c =
+    let s = scope_of c.args.givens.now in
+    let pairs = c.args.givens.now.pairs.now in
+    let p = c.args.path.now in
+    let q = c.probed_pair-at.new.path in
+    let e = c.probed_pair-at.ensures in
+    let same = left_back p q e.back in
+    let at = c.decreases in (
+      omega (arith, same, at),
+      (c.requires.given, (ready_back Always s pairs p q c.requires.ready e.back, e.is_open)),
+    )
+
+pub split_probed-returns-clause-tree : goal.split_probed-returns-clause-tree
+split_probed-returns-clause-tree t c =
+    let s = scope_of c.args.givens.now in
+    let pairs = c.args.givens.now.pairs.now in
+    let p = c.args.path.now in
+    let q = c.probed_pair-at.new.path in
+    let e = c.probed_pair-at.ensures in
+    subst (λ x. IfOk c.split_pair.result (λ found. IfSome found (λ tree. Proves (numbering_by s.terms) x (tree_view tree)))) (path_back s p q e.back) c.split_pair.ensures.tree
+
+pub split_probed-returns-clause-back : goal.split_probed-returns-clause-back
+split_probed-returns-clause-back t c =
+    let s = scope_of c.args.givens.now in
+    let pairs = c.args.givens.now.pairs.now in
+    let p = c.args.path.now in
+    let q = c.probed_pair-at.new.path in
+    let e = c.probed_pair-at.ensures in
+    if_ok_some c.split_pair.result (λ b. back_then p q c.split_pair.new.path e.back b) c.split_pair.ensures.back
+
+pub split_probed-returns-clause-met : goal.split_probed-returns-clause-met
+split_probed-returns-clause-met t c =
+    let s = scope_of c.args.givens.now in
+    let pairs = c.args.givens.now.pairs.now in
+    let p = c.args.path.now in
+    let q = c.probed_pair-at.new.path in
+    let e = c.probed_pair-at.ensures in
+    subst (λ x. IfOk c.split_pair.result (λ found. IfNone found (EndsMet s pairs x c.split_pair.new.path))) (path_back s p q e.back) c.split_pair.ensures.met
+
+pub split_probed-returns-clause-reached : goal.split_probed-returns-clause-reached
+split_probed-returns-clause-reached t c =
+    let s = scope_of c.args.givens.now in
+    let pairs = c.args.givens.now.pairs.now in
+    let p = c.args.path.now in
+    let q = c.probed_pair-at.new.path in
+    let e = c.probed_pair-at.ensures in
+    if_ok_none c.split_pair.result (λ h. reached_step s pairs yes p yes q c.split_pair.new.path (step_kept s pairs p q e.back e.handed) h) c.split_pair.ensures.reached
+
+pub split_probed-returns-clause-handed : goal.split_probed-returns-clause-handed
+split_probed-returns-clause-handed t c =
+    let s = scope_of c.args.givens.now in
+    let pairs = c.args.givens.now.pairs.now in
+    let p = c.args.path.now in
+    let q = c.probed_pair-at.new.path in
+    let e = c.probed_pair-at.ensures in
+    if_ok_some c.split_pair.result (λ h. hands_step s pairs yes p yes q c.split_pair.new.path (step_kept s pairs p q e.back e.handed) h) c.split_pair.ensures.handed
+
+pub split_probed-returns-clause-stop : goal.split_probed-returns-clause-stop
+split_probed-returns-clause-stop t c =
+    let s = scope_of c.args.givens.now in
+    let pairs = c.args.givens.now.pairs.now in
+    let p = c.args.path.now in
+    let q = c.probed_pair-at.new.path in
+    let e = c.probed_pair-at.ensures in
+    if_err_more c.split_pair.result (λ stop h. stops_step s pairs yes p yes q stop (step_kept s pairs p q e.back e.handed) h) c.split_pair.ensures.stop

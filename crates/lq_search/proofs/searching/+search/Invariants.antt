@@ -11,10 +11,13 @@ use Rattle.lq_search.proofs.Weights.{left, weight, weights}
 use Rattle.lq_search.proofs.searching.+search.Given as goal
 
 abbrev pub decreases-search : goal.decreases-search
-decreases-search l = 8 * left l.path.now + 3
+decreases-search l = 8 * left l.path.now + 4
 
 abbrev pub decreases-search_on : goal.decreases-search_on
-decreases-search_on l = 8 * left l.path.now + 2
+decreases-search_on l = 8 * left l.path.now + 3
+
+abbrev pub decreases-split_probed : goal.decreases-split_probed
+decreases-split_probed l = 8 * left l.path.now + 2
 
 abbrev pub decreases-split_choice : goal.decreases-split_choice
 decreases-split_choice l = 8 * left l.path.now + 1

@@ -49,7 +49,11 @@ returns-in-Some-clause-leaf c = λ choices.
 
 pub returns-in-Some-clause-grows : goal.returns-in-Some-clause-grows
 returns-in-Some-clause-grows c = λ name.
-    grows_then (facts_in name c.args.state.now) (facts_in name c.loop-part.state) (facts_in name c.take_part.new.state) (c.loop-part.invariant.grows name) (c.in_ok-leaf.ensures.grows name)
+    grows_then (facts_in name c.args.state.now) (facts_in name c.loop-part.state) (facts_in name c.take_part.new.state) (c.loop-part.invariant.grows name) (c.take_part.ensures.grows name)
+
+pub returns-in_err-leaf-clause-grows : goal.returns-in_err-leaf-clause-grows
+returns-in_err-leaf-clause-grows c = λ name.
+    grows_then (facts_in name c.args.state.now) (facts_in name c.loop-part.state) (facts_in name c.take_part.new.state) (c.loop-part.invariant.grows name) (c.take_part.ensures.grows name)
 
 pub loop-part-preserved : goal.loop-part-preserved
 loop-part-preserved c =
