@@ -12,3 +12,5 @@ pub mod Stopped
 pub mod Near
 pub mod Origin
 pub mod Small
+pub mod Assumed
+pub mod Halves

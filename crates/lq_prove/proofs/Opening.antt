@@ -11,9 +11,9 @@ use Rattle.lq_search.specs.Scope.{AreWithin, IsWithin, Scope}
 use Rattle.lq_prove.specs.Openings.{IsOpeningReading}
 use Rattle.lq_prove.proofs.Naming.{EachHasNames, ImplicationHasNames, RowsAreWithin, reading_within}
 
-each_list : (p : Path) (rs : List (Reading Row)) (g : Reading Row) → each_taken p (readings_of (rs ++ g ∷ [])) ≡ taken (list_taken p rs) g
-each_list p [] g = refl
-each_list p (r ∷ rs) g = each_list (taken p r) rs g
+each_list : (p : Path) (rs : List (Reading Row)) → each_taken p (readings_of rs) ≡ list_taken p rs
+each_list p [] = refl
+each_list p (r ∷ rs) = each_list (taken p r) rs
 
 pub is_opening : (terms : List Sum) (i : ClosedImplication) (reading : Reading Row) → IsOpeningReading terms i reading → IsOpening terms i (taken nothing reading)
 is_opening terms i reading o = record {
@@ -21,7 +21,7 @@ is_opening terms i reading o = record {
   goal = o.goal;
   are_hypotheses = o.are_hypotheses;
   is_goal = o.is_goal;
-  is = ap (taken nothing) o.is ∙ each_list nothing o.hypotheses o.goal;
+  is = ap (taken nothing) o.is ∙ ap (λ p. taken p o.goal) (each_list nothing o.hypotheses);
 }
 
 pub readings_push : (terms : List Sum) (ps : List Formula) (rs : List (Reading Row)) (p : Formula) (r : Reading Row) → AreReadings terms ps rs → Gathers terms (reading_of true p) r
@@ -31,13 +31,12 @@ readings_push terms (q ∷ ps) (x ∷ rs) p r a g = (a.0, readings_push terms ps
 readings_push terms [] (x ∷ rs) p r a g = absurd a
 readings_push terms (q ∷ ps) [] p r a g = absurd a
 
-each_within : RowsAreWithin → (s : Scope) (ps : List Formula) (rs : List (Reading Row)) (g : Reading Row) → EachHasNames s ps → AreReadings s.terms ps rs → IsWithin s g
-    → AreWithin s (readings_of (rs ++ g ∷ []))
-each_within w s [] [] g h a k = (k, tt)
-each_within w s (p ∷ ps) (r ∷ rs) g h a k = (reading_within w s true p r h.0 a.0, each_within w s ps rs g h.1 a.1 k)
-each_within w s [] (r ∷ rs) g h a k = absurd a
-each_within w s (p ∷ ps) [] g h a k = absurd a
+each_within : RowsAreWithin → (s : Scope) (ps : List Formula) (rs : List (Reading Row)) → EachHasNames s ps → AreReadings s.terms ps rs → AreWithin s (readings_of rs)
+each_within w s [] [] h a = tt
+each_within w s (p ∷ ps) (r ∷ rs) h a = (reading_within w s true p r h.0 a.0, each_within w s ps rs h.1 a.1)
+each_within w s [] (r ∷ rs) h a = absurd a
+each_within w s (p ∷ ps) [] h a = absurd a
 
 pub opening_within : RowsAreWithin → (s : Scope) (i : ClosedImplication) (reading : Reading Row) → ImplicationHasNames s i → IsOpeningReading s.terms i reading → IsWithin s reading
 opening_within w s i reading h o =
-    subst (IsWithin s) (sym o.is) (each_within w s i.hypotheses o.hypotheses o.goal h.hypotheses o.are_hypotheses (reading_within w s false i.goal o.goal h.goal o.is_goal))
+    subst (IsWithin s) (sym o.is) (each_within w s i.hypotheses o.hypotheses h.hypotheses o.are_hypotheses, (reading_within w s false i.goal o.goal h.goal o.is_goal, tt))

@@ -1,22 +1,21 @@
 -- A path without facts and choices, on which no way of a pair was taken.
-use Rattle.std.proofs.Common.{◌≡◌, ℕ, List, [], ◌∷◌, All, Bool, true, false, ◌⊎◌, inl, inr, length, sym, ap, ap₂, subst, arith}
+use Rattle.std.proofs.Common.{◌≡◌, ℕ, List, [], ◌∷◌, All, Bool, true, false, ◌⊎◌, inl, inr, length, sym, ap, ap₂, subst, ◌∙◌, arith}
 use Rattle.std.proofs.lemmas.List.Elements.{All-cons, All-head, All-nil, All-same, All-tail}
-use Rattle.lq_case.specs.PathState.{facts_in, objects_in}
+use Rattle.lq_case.specs.PathState.{PathState, facts_in, objects_in}
 use Rattle.lq_case.specs.RowState.{terms_of as row_terms}
 use Rattle.lq_combine.specs.Path.{nothing}
 use Rattle.lq_combine.specs.Proves.{rows_among}
 use Rattle.lq_diff.specs.Table.{constants}
 use Rattle.lq_equating.specs.Naming.{AllTold, name_in}
 use Rattle.lq_equating.proofs.Told.{all_told_none}
-use Rattle.lq_linear.specs.Row.{Row, Valuation}
+use Rattle.lq_linear.specs.Row.{Valuation}
 use Rattle.lq_path.specs.SearchPath.{choices_of}
 use Rattle.lq_path.specs.declared.choice.Choice.{Choice}
 use Rattle.lq_pred.specs.NnfView.{nnfs_view}
 use Rattle.lq_pred.specs.Points.{Point}
-use Rattle.lq_pred.specs.Reading.{Reading}
 use Rattle.lq_pred.specs.Sum.{Sum}
 use Rattle.lq_search.specs.Scope.{AllMayHold, AreWithin, Scope}
-use Rattle.lq_search.specs.SearchPath.{IsMet, IsReadyFor, path_of, ways_of}
+use Rattle.lq_search.specs.SearchPath.{IsMet, IsReady, path_of, ways_of}
 use Rattle.lq_search.specs.Sizes.{most_of_each}
 use Rattle.lq_search.specs.Splits.{IsDoneOrMet}
 use Rattle.lq_search.specs.Stopping.{most_on, most_open}
@@ -32,6 +31,17 @@ pub record IsStart (s : Scope) (pairs : List Pair) (p : SearchPath) : Type 0 whe
   pub pairs_are : choices_of p.pairs.items ≡ ways_of pairs
   pub open_still : All (λ (c : Choice). c.is_done ≡ false) p.pairs.items
 
+pub start_by : (s : Scope) (pairs : List Pair) (state : PathState) (p : SearchPath) → p.state ≡ state → ((name : ℕ → Sum) → facts_in name state ≡ []) → row_terms state.rows ≡ length s.terms
+    → state.objects.count ≡ length s.objects → p.choices.items ≡ [] → choices_of p.pairs.items ≡ ways_of pairs → All (λ (c : Choice). c.is_done ≡ false) p.pairs.items → IsStart s pairs p
+start_by s pairs state p e facts terms count choices ways still = record {
+  facts = λ name. ap (λ (x : PathState). facts_in name x) e ∙ facts name;
+  terms_are = ap (λ (x : PathState). row_terms x.rows) e ∙ terms;
+  count = ap (λ (x : PathState). x.objects.count) e ∙ count;
+  choices_are = choices;
+  pairs_are = ways;
+  open_still = still;
+}
+
 open_met : (v : Valuation) (p : Point) (cs : List Choice) → All (λ (c : Choice). c.is_done ≡ false) cs → All (IsDoneOrMet v p) cs → All (IsMet v p) cs
 open_met v p [] o h = All-nil (IsMet v p)
 open_met v p (c ∷ cs) o h =
@@ -46,8 +56,8 @@ open_met v p (c ∷ cs) o h =
 pub start_path : (s : Scope) (pairs : List Pair) (p : SearchPath) → IsStart s pairs p → path_of s p ≡ nothing
 start_path s pairs p h = ap₂ (λ f c. record { facts = f; choices = c }) (h.facts (name_in s.objects)) (ap choices_of h.choices_are)
 
-pub start_ready : (s : Scope) (pairs : List Pair) (r : Reading Row) (p : SearchPath) → IsStart s pairs p → IsReadyFor r s pairs p
-start_ready s pairs r p h = record {
+pub start_ready : (s : Scope) (pairs : List Pair) (p : SearchPath) → IsStart s pairs p → IsReady s pairs p
+start_ready s pairs p h = record {
   terms_are = h.terms_are;
   count = h.count;
   may_hold = subst AllMayHold (sym (h.facts (name_in s.objects))) tt;

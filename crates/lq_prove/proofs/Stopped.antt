@@ -41,20 +41,19 @@ use Rattle.lq_prove.proofs.Literals.{equation_row, gathered_most, gathered_row, 
 
 -- ---- the sizes of the opening reading
 
-each_most : (terms : List Sum) (ps : List Formula) (rs : List (Reading Row)) (g : Reading Row) → AreReadings terms ps rs
-    → most_of_all row_size (readings_of (rs ++ g ∷ [])) ≤ sizes (each_literals ps) + most row_size g
-each_most terms [] [] g a = omega arith
-each_most terms (p ∷ ps) (r ∷ rs) g a =
-    let k = each_most terms ps rs g a.1 in let e = gathered_most terms (reading_of true p) r a.0 in let h = under_sign true p in
+each_most : (terms : List Sum) (ps : List Formula) (rs : List (Reading Row)) → AreReadings terms ps rs → most_of_all row_size (readings_of rs) ≤ sizes (each_literals ps)
+each_most terms [] [] a = omega arith
+each_most terms (p ∷ ps) (r ∷ rs) a =
+    let k = each_most terms ps rs a.1 in let e = gathered_most terms (reading_of true p) r a.0 in let h = under_sign true p in
     let x = sizes-append (literals_of positive p) (each_literals ps) in omega (arith, k, e, h, x)
-each_most terms [] (r ∷ rs) g a = absurd a
-each_most terms (p ∷ ps) [] g a = absurd a
+each_most terms [] (r ∷ rs) a = absurd a
+each_most terms (p ∷ ps) [] a = absurd a
 
 pub opening_most : (terms : List Sum) (i : ClosedImplication) (reading : Reading Row) → IsOpeningReading terms i reading
     → most row_size reading + sizes (all_pairs (terms_in i)) ≤ sizes_of i
 opening_most terms i reading o =
-    let a = ap (most row_size) o.is in
-    let b = each_most terms i.hypotheses o.hypotheses o.goal o.are_hypotheses in
+    let a : most row_size reading ≡ most_of_all row_size (readings_of o.hypotheses) + (most row_size o.goal + 0) = ap (most row_size) o.is in
+    let b = each_most terms i.hypotheses o.hypotheses o.are_hypotheses in
     let c = gathered_most terms (reading_of false i.goal) o.goal o.is_goal in
     let d = under_sign false i.goal in
     let e = sizes-append (each_literals i.hypotheses ++ literals_of negative i.goal) (all_pairs (terms_in i)) in
@@ -62,24 +61,25 @@ opening_most terms i reading o =
 
 -- ---- the rows of the opening reading
 
-each_row : (terms : List Sum) (literals : List Comparison) (preds : List Pred) (rs : List (Reading Row)) (goal : Formula) (g : Reading Row) (r : Row)
-    → AreReadings terms (map formula_of preds) rs → Gathers terms (reading_of false goal) g
-    → ((k : ℕ) (d : Pred) → k < length preds → Sub (comparisons_of (reading_of true (formula_of (get_or preds k d)))) literals) → Sub (comparisons_of (reading_of false goal)) literals
-    → AnyHasRow r (readings_of (rs ++ g ∷ [])) → IsRowIn terms literals r
-each_row terms literals [] [] goal g r a i f h (inl m) = row_in_more terms (comparisons_of (reading_of false goal)) literals r h (gathered_row terms (reading_of false goal) g r i m)
-each_row terms literals [] [] goal g r a i f h (inr m) = absurd m
-each_row terms literals (p ∷ preds) (q ∷ rs) goal g r a i f h (inl m) =
+each_row : (terms : List Sum) (literals : List Comparison) (preds : List Pred) (rs : List (Reading Row)) (r : Row) → AreReadings terms (map formula_of preds) rs
+    → ((k : ℕ) (d : Pred) → k < length preds → Sub (comparisons_of (reading_of true (formula_of (get_or preds k d)))) literals) → AnyHasRow r (readings_of rs) → IsRowIn terms literals r
+each_row terms literals [] [] r a f m = absurd m
+each_row terms literals (p ∷ preds) (q ∷ rs) r a f (inl m) =
     row_in_more terms (comparisons_of (reading_of true (formula_of p))) literals r (f zero p (omega arith)) (gathered_row terms (reading_of true (formula_of p)) q r a.0 m)
-each_row terms literals (p ∷ preds) (q ∷ rs) goal g r a i f h (inr m) =
-    each_row terms literals preds rs goal g r a.1 i (λ k d l. f (suc k) d (omega (arith, l))) h m
-each_row terms literals [] (q ∷ rs) goal g r a i f h m = absurd a
-each_row terms literals (p ∷ preds) [] goal g r a i f h m = absurd a
+each_row terms literals (p ∷ preds) (q ∷ rs) r a f (inr m) = each_row terms literals preds rs r a.1 (λ k d l. f (suc k) d (omega (arith, l))) m
+each_row terms literals [] (q ∷ rs) r a f m = absurd a
+each_row terms literals (p ∷ preds) [] r a f m = absurd a
 
 opening_row : (i : ClosedImplication) (preds : List Pred) (reading : Reading Row) (r : Row) → i.hypotheses ≡ map formula_of preds → IsOpeningReading (terms_in i) i reading → HasRow r reading
     → IsRowIn (terms_in i) (implication_literals i) r
-opening_row i preds reading r e o m =
-    each_row (terms_in i) (implication_literals i) preds o.hypotheses i.goal o.goal r (subst (λ ps. AreReadings (terms_in i) ps o.hypotheses) e o.are_hypotheses) o.is_goal
-    (hypothesis_literal preds i e) (goal_literal i) (subst (HasRow r) o.is m)
+opening_row i preds reading r e o m = by (subst (HasRow r) o.is m)
+  where
+    by : AnyHasRow r (readings_of o.hypotheses) ⊎ (HasRow r o.goal ⊎ ⊥) → IsRowIn (terms_in i) (implication_literals i) r
+    by (inl h) =
+        each_row (terms_in i) (implication_literals i) preds o.hypotheses r (subst (λ ps. AreReadings (terms_in i) ps o.hypotheses) e o.are_hypotheses) (hypothesis_literal preds i e) h
+    by (inr (inl h)) =
+        row_in_more (terms_in i) (comparisons_of (reading_of false i.goal)) (implication_literals i) r (goal_literal i) (gathered_row (terms_in i) (reading_of false i.goal) o.goal r o.is_goal h)
+    by (inr (inr h)) = absurd h
 
 -- ---- the rows of pairs
 

@@ -3,3 +3,4 @@ pub mod Openings
 pub mod Stopping
 pub mod Small
 pub mod Values
+pub mod Standing

@@ -6,6 +6,8 @@ mod names;
 mod point;
 mod proving;
 mod readings;
+mod standing;
 
 pub use answer::Answer;
 pub use proving::{prove, valid};
+pub use standing::{Asked, Standing};

@@ -1,8 +1,7 @@
 // Proving an implication, or finding a point at which it fails.
-ghost use Rattle.std.specs.Prelude.{◌≡◌, ◌≤◌, IfErr, IfOk, IsTrue, OnOk, [], ℕ, length};
-ghost use Rattle.lq_case.specs.PathState.{HasHanded, facts_in};
-ghost use Rattle.lq_case.specs.RowState.{terms_of as row_terms};
-ghost use Rattle.lq_combine.specs.Path.{nothing};
+ghost use Rattle.std.specs.Prelude.{◌≡◌, ◌+◌, ◌≤◌, IfErr, IfOk, IsTrue, OnOk, []};
+ghost use Rattle.lq_case.specs.PathState.{HasHanded};
+ghost use Rattle.lq_combine.specs.Path.{nothing, taken};
 ghost use Rattle.lq_combine.specs.TreeView.{tree_view};
 ghost use Rattle.lq_literals.specs.Gathered.{CanBeGathered, sizes};
 ghost use Rattle.lq_point.specs.Values.{as_point};
@@ -10,29 +9,29 @@ ghost use Rattle.lq_pred.specs.ClosedImplication.{IsValid, terms_in};
 ghost use Rattle.lq_pred.specs.Literals.{all_pairs as pair_literals};
 ghost use Rattle.lq_pred.specs.NnfView.{nnf_view};
 ghost use Rattle.lq_pred.specs.PredView.{implication_of};
-ghost use Rattle.lq_pred.specs.Sum.{Sum};
 ghost use Rattle.lq_pred.specs.Table.{all_differ};
 ghost use Rattle.lq_pred.specs.TableView.{terms_of};
 ghost use Rattle.lq_prove.specs.Answers.{IfFails, IfValid, IsCounterexample, IsReadable, ProvesImplication};
 ghost use Rattle.lq_prove.specs.Openings.{IsOpeningReading};
 ghost use Rattle.lq_prove.specs.Small.{IsNoNumber, IsSmallImplication};
 ghost use Rattle.lq_prove.specs.Stopping.{IsSmallDifference, IsStopOf, StopsProving, StopsSmall};
+ghost use Rattle.lq_prove.specs.Standing.{IsStanding};
 ghost use Rattle.lq_search.specs.Pairs.{AreAllPairs, AreOrdered};
 ghost use Rattle.lq_search.specs.Scope.{IsWithin};
-ghost use Rattle.lq_search.specs.SearchPath.{AreGiven, IsReadyFor, path_of, scope_of, ways_of};
-ghost use Rattle.lq_search.specs.Sizes.{most_of_each};
+ghost use Rattle.lq_search.specs.SearchPath.{AreGiven, path_of, scope_of, ways_of};
+ghost use Rattle.lq_search.specs.Sizes.{most, most_of_each, row_size};
 ghost use Rattle.lq_search.specs.Stopping.{most_on};
 
 use crate::answer::Answer;
 use crate::names::object_table;
 use crate::point::point_of;
-use crate::readings::opening_reading;
-use lq_case::PathState;
+use crate::readings::{halves, opening_reading};
+use crate::standing::{Asked, Standing};
 use lq_combine::proved_implications_are_valid;
 use lq_linear::LinearStop;
 use lq_literals::{first_past, flags, objects, sources_have_the_literals};
 use lq_pred::{Closed, Nnf, Stop, TermTable, rows_say_what_comparisons_say};
-use lq_search::{Givens, SearchPath, Searched, all_pairs, search_reading};
+use lq_search::{Givens, all_pairs};
 use lq_small::{rows_are_there, small_rows_fit};
 use lq_work::levels_agree;
 use std::alloc::{AllocError, Global};
@@ -48,27 +47,56 @@ fn stop_of(stop: LinearStop) -> Stop
     }
 }
 
-/// A state without facts.
-fn state_of(alloc: Global, givens: &Givens<'_>, limit: u64) -> Result<PathState, AllocError>
-    ensures facts { IfOk result (λ s. (name : ℕ → Sum) → facts_in name s ≡ []) }
-    ensures terms { IfOk result (λ s. row_terms s.rows ≡ length (scope_of givens.now).terms) }
-    ensures count { IfOk result (λ s. s.objects.count ≡ length (scope_of givens.now).objects) }
-    ensures limit { IfOk result (λ s. s.rows.pivots ≡ limit) }
-    ensures handed { IfOk result (λ s. HasHanded s []) }
+/// Whether an implication is valid, by its reading and what the reading speaks of, where a part of it stands and another is still to be asked.
+fn prove_standing<'a>(
+    alloc: Global,
+    implication: &Closed,
+    reading: &Nnf,
+    goal: &'a Nnf,
+    givens: &Givens<'a>,
+    standing: Standing<'a>,
+) -> Result<Answer, Stop>
+    requires gathers { CanBeGathered (implication_of implication.now) }
+    requires terms { (scope_of givens.now).terms ≡ terms_in (implication_of implication.now) }
+    requires opening { IsOpeningReading (scope_of givens.now).terms (implication_of implication.now) (nnf_view reading.now) }
+    requires within { IsWithin (scope_of givens.now) (nnf_view reading.now) }
+    requires goal_within { IsWithin (scope_of givens.now) (nnf_view goal.now) }
+    requires given { AreGiven (scope_of givens.now) givens.now.pairs.now }
+    requires all { AreAllPairs (scope_of givens.now).terms givens.now.pairs.now }
+    requires ordered { AreOrdered givens.now.pairs.now }
+    requires standing { IsStanding standing }
+    requires givens { standing.givens ≡ givens.now }
+    requires parts { taken (path_of (scope_of givens.now) standing.path) (nnf_view goal.now) ≡ taken nothing (nnf_view reading.now) }
+    requires handed { HasHanded standing.path.state [] }
+    requires sizes { most_on (scope_of givens.now) standing.path + most row_size (nnf_view goal.now)
+        ≤ sizes (pair_literals (scope_of givens.now).terms) + most row_size (nnf_view reading.now) }
+    ensures tree { IfOk result (λ answer. IfValid answer (λ t. ProvesImplication (implication_of implication.now)
+        (tree_view t))) }
+    ensures point { IfOk result (λ answer. IfFails answer (λ p. IsCounterexample (implication_of implication.now)
+        (as_point p))) }
+    ensures readable { IfOk result (λ answer. IfFails answer (IsReadable (implication_of implication.now))) }
+    ensures stop { IfErr result (StopsProving standing.entry.path.state.rows.pivots (implication_of implication.now)) }
 {
-    let Ok(count) = u32::try_from(givens.objects.len()) else {
-        return Err(AllocError);
+    let asked = match standing.ask(alloc, goal) {
+        Ok(asked) => asked,
+        Err(stop) => return Err(stop_of(stop)),
     };
-    PathState::new(alloc, givens.terms.len(), limit, count)
+    match asked {
+        Asked::Proved(tree, _) => Ok(Answer::Valid(tree)),
+        Asked::Open(met) => match point_of(alloc, implication, reading, givens, &met) {
+            Ok(point) => Ok(Answer::Fails(point)),
+            Err(stop) => Err(stop),
+        },
+    }
 }
 
-/// Whether an implication is valid, by its reading and what the reading speaks of, on a path without facts and choices.
-fn prove_path<'a>(
+/// The same by all of the reading, where it is made here that nothing stands. A check makes at most `limit` pivots.
+fn prove_whole<'a>(
     alloc: Global,
     implication: &Closed,
     reading: &'a Nnf,
     givens: &Givens<'a>,
-    path: SearchPath<'a>,
+    limit: u64,
 ) -> Result<Answer, Stop>
     requires gathers { CanBeGathered (implication_of implication.now) }
     requires terms { (scope_of givens.now).terms ≡ terms_in (implication_of implication.now) }
@@ -76,33 +104,22 @@ fn prove_path<'a>(
     requires within { IsWithin (scope_of givens.now) (nnf_view reading.now) }
     requires given { AreGiven (scope_of givens.now) givens.now.pairs.now }
     requires all { AreAllPairs (scope_of givens.now).terms givens.now.pairs.now }
-    requires ready { IsReadyFor (nnf_view reading.now) (scope_of givens.now) givens.now.pairs.now path }
-    requires nothing { path_of (scope_of givens.now) path ≡ nothing }
-    requires handed { HasHanded path.state [] }
     requires ordered { AreOrdered givens.now.pairs.now }
-    requires sizes { most_on (scope_of givens.now) path ≤ sizes (pair_literals (scope_of givens.now).terms) }
+    requires sizes { most_of_each (ways_of givens.now.pairs.now) ≤ sizes (pair_literals (scope_of givens.now).terms) }
     ensures tree { IfOk result (λ answer. IfValid answer (λ t. ProvesImplication (implication_of implication.now)
         (tree_view t))) }
     ensures point { IfOk result (λ answer. IfFails answer (λ p. IsCounterexample (implication_of implication.now)
         (as_point p))) }
     ensures readable { IfOk result (λ answer. IfFails answer (IsReadable (implication_of implication.now))) }
-    ensures stop { IfErr result (StopsProving path.entry.state.rows.pivots (implication_of implication.now)) }
+    ensures stop { IfErr result (StopsProving limit (implication_of implication.now)) }
 {
-    let searched = match search_reading(alloc, givens, path, reading) {
-        Ok(searched) => searched,
-        Err(stop) => return Err(stop_of(stop)),
+    let Ok(standing) = Standing::new(alloc, *givens, limit) else {
+        return Err(Stop::Memory);
     };
-    let Searched { tree, path: met } = searched;
-    match tree {
-        Some(tree) => Ok(Answer::Valid(tree)),
-        None => match point_of(alloc, implication, reading, givens, &met) {
-            Ok(point) => Ok(Answer::Fails(point)),
-            Err(stop) => Err(stop),
-        },
-    }
+    prove_standing(alloc, implication, reading, reading, givens, standing)
 }
 
-/// The same on a path that is made here. A check makes at most `limit` pivots.
+/// The same, where the hypotheses stand before the goal is asked. Hypotheses that clash by themselves clash at once in all of the reading.
 fn prove_given<'a>(
     alloc: Global,
     implication: &Closed,
@@ -125,13 +142,20 @@ fn prove_given<'a>(
     ensures readable { IfOk result (λ answer. IfFails answer (IsReadable (implication_of implication.now))) }
     ensures stop { IfErr result (StopsProving limit (implication_of implication.now)) }
 {
-    let Ok(state) = state_of(alloc, givens, limit) else {
+    let Some((hypotheses, goal)) = halves(reading) else {
+        return prove_whole(alloc, implication, reading, givens, limit);
+    };
+    let Ok(mut standing) = Standing::new(alloc, *givens, limit) else {
         return Err(Stop::Memory);
     };
-    let Ok(path) = SearchPath::new(alloc, state, givens.pairs) else {
-        return Err(Stop::Memory);
+    let clash = match standing.assume(alloc, hypotheses) {
+        Ok(clash) => clash,
+        Err(stop) => return Err(stop_of(stop)),
     };
-    prove_path(alloc, implication, reading, givens, path)
+    match clash {
+        Some(_) => prove_whole(alloc, implication, reading, givens, limit),
+        None => prove_standing(alloc, implication, reading, goal, givens, standing),
+    }
 }
 
 /// Whether an implication is valid, by the reading of its hypotheses and its negated goal: all of them in order, whose rows are over the

@@ -1,10 +1,10 @@
 // The tightened readings of an implication.
-ghost use Rattle.std.specs.Prelude.{◌≡◌, IfOk, OnOk};
+ghost use Rattle.std.specs.Prelude.{◌≡◌, IfOk, IfSome, OnOk};
 ghost use Rattle.lq_literals.specs.Gathered.{CanBeGathered};
 ghost use Rattle.lq_pred.specs.ClosedImplication.{terms_in};
 ghost use Rattle.lq_pred.specs.NnfView.{nnf_view};
 ghost use Rattle.lq_pred.specs.PredView.{formula_of, implication_of};
-ghost use Rattle.lq_pred.specs.Reading.{AllFitIn, Gathers, formula_numbered, reading_of};
+ghost use Rattle.lq_pred.specs.Reading.{AllFitIn, Gathers, all_of, formula_numbered, more, none, reading_of};
 ghost use Rattle.lq_pred.specs.TableView.{terms_of};
 ghost use Rattle.lq_prove.specs.Openings.{IsOpeningReading};
 
@@ -31,7 +31,36 @@ fn read(
     }
 }
 
-/// All of the readings of the hypotheses and then of the negated goal, over the terms of the implication, which the table has.
+/// Both of two readings.
+fn both(alloc: Global, first: Nnf, second: Nnf) -> Result<Nnf, AllocError>
+    ensures { IfOk result (λ reading. nnf_view reading ≡ all_of (more (nnf_view first) (more (nnf_view second) none))) }
+{
+    let mut readings = Nnfs::new(alloc)?;
+    readings.push(first)?;
+    readings.push(second)?;
+    Ok(Nnf::All(readings))
+}
+
+/// The two readings that a reading is both of, where it is.
+pub(crate) fn halves(reading: &Nnf) -> Option<(&Nnf, &Nnf)>
+    ensures { IfSome result (λ both. nnf_view reading.now
+        ≡ all_of (more (nnf_view both.0.now) (more (nnf_view both.1.now) none))) }
+{
+    match reading {
+        Nnf::All(readings) => {
+            let items = readings.as_slice();
+            if items.len() != 2 {
+                return None;
+            }
+            Some((&items[0], &items[1]))
+        }
+        Nnf::Yes | Nnf::No | Nnf::Row(_) | Nnf::Flag(_, _) | Nnf::Same(_, _, _) | Nnf::Any(_) => {
+            None
+        }
+    }
+}
+
+/// All of the readings of the hypotheses and the reading of the negated goal, over the terms of the implication, which the table has.
 pub(crate) fn opening_reading(
     alloc: Global,
     implication: &Closed,
@@ -43,10 +72,10 @@ pub(crate) fn opening_reading(
     ensures opening { IfOk result (λ reading. IsOpeningReading (terms_in (implication_of implication.now))
         (implication_of implication.now) (nnf_view reading)) }
 {
-    let mut readings = Nnfs::new(alloc)?;
+    let mut hypotheses = Nnfs::new(alloc)?;
     for pred in implication.hypotheses.as_slice() {
-        readings.push(read(alloc, pred, true, table)?)?;
+        hypotheses.push(read(alloc, pred, true, table)?)?;
     }
-    readings.push(read(alloc, &implication.goal, false, table)?)?;
-    Ok(Nnf::All(readings))
+    let goal = read(alloc, &implication.goal, false, table)?;
+    Ok(both(alloc, Nnf::All(hypotheses), goal)?)
 }

@@ -6,9 +6,9 @@ use Rattle.lq_point.proofs.Covers.{goal_covered, hypotheses_covered}
 use Rattle.lq_point.proofs.Literal.{fits_among, goal_literal, hypothesis_literal}
 use Rattle.lq_pred.specs.ClosedImplication.{terms_in}
 use Rattle.lq_pred.specs.Literals.{implication_literals}
-use Rattle.lq_pred.specs.NnfView.{nnf_items, nnf_view, readings_of}
+use Rattle.lq_pred.specs.NnfView.{nnf_items, nnf_view}
 use Rattle.lq_pred.specs.PredView.{formula_of, implication_of, pred_items}
-use Rattle.lq_pred.specs.Reading.{AllFitIn, Gathers, all_of, formula_numbered, reading_of}
+use Rattle.lq_pred.specs.Reading.{AllFitIn, Gathers, all_of, formula_numbered, more, none, reading_of}
 use Rattle.lq_pred.specs.Table.{has_term}
 use Rattle.lq_pred.specs.TableView.{terms_of}
 use Rattle.lq_prove.proofs.Opening.{readings_push}
@@ -18,7 +18,7 @@ use Rattle.lq_prove.proofs.readings.opening_reading.Goals as goal
 pub loop-pred-init : goal.loop-pred-init
 loop-pred-init c = record {
   same = refl;
-  readings = subst (λ l. AreReadings (terms_of c.args.table.now) [] (map nnf_view l)) (sym c.in_ok-readings.ensures) tt;
+  readings = subst (λ l. AreReadings (terms_of c.args.table.now) [] (map nnf_view l)) (sym c.in_ok-hypotheses.ensures) tt;
 }
 
 pub read-requires-clause-numbered : goal.read-requires-clause-numbered
@@ -52,8 +52,8 @@ loop-pred-preserved c =
     let new = terms_of c.read.new.table in
     let items = c.as_slice-pred-items.result.now in
     let formulas = map formula_of (take c.loop-pred.pred-index items) in
-    let views = map nnf_view (nnf_items c.loop-pred.readings) in
-    let pushed = ap (map nnf_view) c.in_ok-push.ensures.ok ∙ map-append nnf_view (nnf_items c.loop-pred.readings) (c.in_ok-read.field-0 ∷ []) in
+    let views = map nnf_view (nnf_items c.loop-pred.hypotheses) in
+    let pushed = ap (map nnf_view) c.in_ok-push.ensures.ok ∙ map-append nnf_view (nnf_items c.loop-pred.hypotheses) (c.in_ok-read.field-0 ∷ []) in
     record {
       same = c.in_ok-read.ensures.same ∙ c.loop-pred.invariant.same;
       readings = subst (λ ts. AreReadings ts (map formula_of (take (c.loop-pred.pred-index + 1) items)) (map nnf_view (nnf_items c.push.new.self))) (sym c.in_ok-read.ensures.same)
@@ -80,16 +80,14 @@ returns-clause-opening c =
     let preds = pred_items c.args.implication.now.hypotheses in
     let items = c.as_slice-pred-items.result.now in
     let k = c.loop-pred.pred-index in
-    let views = map nnf_view (nnf_items c.loop-pred.readings) in
-    let r = nnf_view c.in_ok-read-2.field-0 in
+    let views = map nnf_view (nnf_items c.loop-pred.hypotheses) in
+    let r = nnf_view c.in_ok-goal.goal in
     let same = c.loop-pred.invariant.same ∙ c.requires.table in
     let whole : map formula_of (take k items) ≡ i.hypotheses = ap (map formula_of) (take_all k items c.loop-pred-test.false ∙ c.as_slice-pred-items.ensures) in
-    let pushed : map nnf_view (nnf_items c.push-2.new.self) ≡ views ++ r ∷ [] =
-    ap (map nnf_view) c.in_ok-push-2.ensures.ok ∙ map-append nnf_view (nnf_items c.loop-pred.readings) (c.in_ok-read-2.field-0 ∷ []) in
     record {
       hypotheses = views;
       goal = r;
       are_hypotheses = subst (λ ts. AreReadings ts i.hypotheses views) same (subst (λ ps. AreReadings (terms_of c.loop-pred.table) ps views) whole c.loop-pred.invariant.readings);
-      is_goal = subst (λ ts. Gathers ts (reading_of false i.goal) r) same c.in_ok-read-2.ensures.reading;
-      is = all_seen c.push-2.new.self ∙ ap (λ l. all_of (readings_of l)) pushed;
+      is_goal = subst (λ ts. Gathers ts (reading_of false i.goal) r) same c.in_ok-goal.ensures.reading;
+      is = c.in_ok-both.ensures ∙ ap (λ x. all_of (more x (more r none))) (all_seen c.loop-pred.hypotheses);
     }

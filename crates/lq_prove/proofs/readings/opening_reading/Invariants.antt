@@ -8,5 +8,5 @@ use Rattle.lq_prove.proofs.readings.opening_reading.Given as goal
 abbrev pub invariant-loop-pred : goal.invariant-loop-pred
 invariant-loop-pred l = record {
   same : terms_of l.table ≡ terms_of l.fn.table;
-  readings : AreReadings (terms_of l.table) (map formula_of (take l.pred-index l.pred-items)) (map nnf_view (nnf_items l.readings));
+  readings : AreReadings (terms_of l.table) (map formula_of (take l.pred-index l.pred-items)) (map nnf_view (nnf_items l.hypotheses));
 }

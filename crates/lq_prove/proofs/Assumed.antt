@@ -1,0 +1,66 @@
+-- A path that goes back to what stood on it, and what a question on it comes to.
+use Rattle.std.proofs.Common.{◌≡◌, ◌∙◌, ℕ, ◌≤◌, List, [], ◌++◌, length, take, refl, ap, subst, arith}
+use Rattle.std.proofs.Math.Seq.{take-append_seam}
+use Rattle.std.proofs.lemmas.List.{length-append}
+use Rattle.std.proofs.lemmas.List.Elements.{All-nil}
+use Rattle.lq_case.specs.PathState.{PathState, facts_in}
+use Rattle.lq_combine.specs.Path.{Fact, Path}
+use Rattle.lq_linear.specs.Row.{Row}
+use Rattle.lq_linear.specs.declared.engine.LinearStop.{LinearStop}
+use Rattle.lq_path.specs.SearchPath.{SameLimits}
+use Rattle.lq_pred.specs.Reading.{Reading, Readings}
+use Rattle.lq_pred.specs.RowMeaning.{MeetsRows}
+use Rattle.lq_pred.specs.Sum.{Sum}
+use Rattle.lq_search.specs.Scope.{Scope}
+use Rattle.lq_search.specs.SearchPath.{Always, IsBack, IsLonger, IsReady, IsReadyFor}
+use Rattle.lq_search.specs.Stopping.{MayReach, MayTake, StopsSearch}
+use Rattle.lq_search.specs.declared.pair.Pair.{Pair}
+use Rattle.lq_search.specs.declared.search_path.SearchPath.{SearchPath}
+use Rattle.lq_search.proofs.Steps.{ready_given}
+use Rattle.lq_search.proofs.Stops.{TakesNoMore, reached_before, stops_before}
+
+take_first : {X : Type 0} (n : ℕ) (xs ys zs : List X) → n ≡ length xs → ys ≡ xs ++ zs → take n ys ≡ xs
+take_first {X} n xs ys zs e is = ap (λ k. take k ys) e ∙ ap (take (length xs)) is ∙ take-append_seam xs zs
+
+-- of a longer path so many facts and choices are kept as there were
+pub record IsCut (p q r : SearchPath) : Type 0 where
+  pub facts : ℕ
+  pub choices : ℕ
+  pub facts_are : (name : ℕ → Sum) → facts ≡ length (facts_in name p.state)
+  pub choices_are : choices ≡ length p.choices.items
+  pub kept_facts : (name : ℕ → Sum) → facts_in name r.state ≡ take facts (facts_in name q.state)
+  pub kept_choices : r.choices.items ≡ take choices q.choices.items
+  pub pairs : r.pairs.items ≡ q.pairs.items
+  pub limits : SameLimits r.state q.state
+
+pub cut_back : (p q r : SearchPath) → IsLonger p q → IsCut p q r → IsBack p r
+cut_back p q r l c = record {
+  facts = λ name. c.kept_facts name ∙ take_first c.facts (facts_in name p.state) (facts_in name q.state) (l.facts name).more (c.facts_are name) (l.facts name).is;
+  choices_are = c.kept_choices ∙ take_first c.choices p.choices.items q.choices.items l.more c.choices_are l.choices_are;
+  pairs_are = c.pairs ∙ l.pairs_are;
+  limits = (c.limits.0 ∙ l.limits.0, c.limits.1 ∙ l.limits.1, c.limits.2 ∙ l.limits.2);
+}
+
+pub longer_facts : (p q : SearchPath) (n : ℕ) → IsLonger p q → ((name : ℕ → Sum) → n ≡ length (facts_in name p.state)) → (name : ℕ → Sum) → n ≤ length (facts_in name q.state)
+longer_facts p q n l e name =
+    let k = e name in let a = ap length (l.facts name).is in let b = length-append (facts_in name p.state) (l.facts name).more in omega (arith, k, a, b)
+
+pub ready_for : (r : Reading Row) (s : Scope) (pairs : List Pair) (p : SearchPath) → IsReady s pairs p → IsReadyFor r s pairs p
+ready_for r s pairs p h = ready_given Always (λ v q. MeetsRows v q r) s pairs p (λ v q m. tt) h
+
+-- ---- one path, and as large a sum at least
+
+same_takes : (ts : List Sum) (ways : List (Readings Row)) (p q : Path) → p ≡ q → TakesNoMore ts ways p q
+same_takes ts ways p q e = subst (TakesNoMore ts ways p) e (λ r m. m)
+
+pub reached_more : (ts : List Sum) (ways : List (Readings Row)) (p q : Path) (m n : ℕ) (facts : List Fact) → p ≡ q → m ≤ n → MayReach ts p ways m facts → MayReach ts q ways n facts
+reached_more ts ways p q m n facts e le h = reached_before ts ways p q m n facts (same_takes ts ways p q e) le h
+
+pub stops_more : (ts : List Sum) (terms limit : ℕ) (ways : List (Readings Row)) (p q : Path) (m n : ℕ) (stop : LinearStop) → TakesNoMore ts ways p q → m ≤ n
+    → StopsSearch ts terms limit [] p ways m stop → StopsSearch ts terms limit [] q ways n stop
+stops_more ts terms limit ways p q m n stop takes le h =
+    stops_before ts terms limit terms limit [] [] ways p q m n stop refl refl takes (All-nil (MayTake ts q ways)) le h
+
+pub stops_same : (ts : List Sum) (terms limit : ℕ) (ways : List (Readings Row)) (p q : Path) (m n : ℕ) (stop : LinearStop) → p ≡ q → m ≤ n
+    → StopsSearch ts terms limit [] p ways m stop → StopsSearch ts terms limit [] q ways n stop
+stops_same ts terms limit ways p q m n stop e le h = stops_more ts terms limit ways p q m n stop (same_takes ts ways p q e) le h
