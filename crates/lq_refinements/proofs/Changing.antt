@@ -6,10 +6,11 @@ use Rattle.lq_parts.specs.Part.{Parts, Scopes}
 use Rattle.lq_parts.specs.Substitution.{Subst}
 use Rattle.lq_refined.specs.Operations.{type_by, twin, instantiated}
 use Rattle.lq_refined.specs.Refined.{Matrix, Refined, int_with, bool_with, unit_type, function, tuple_of, array_with, data_with, map_with, type_variable, Refineds, more, kind, strengthened, type_at, with_top}
+use Rattle.lq_renumbered.specs.Renumbered.{renumbered}
 use Rattle.lq_substitution.specs.Views.{subst_view}
 use Rattle.lq_refinements.specs.declared.changes.Change.{Change}
-use Rattle.lq_refinements.specs.declared.changes.Change.TheVariants.{Put, Twin, Twinned, Instantiated}
-use Rattle.lq_refinements.specs.Changes.{changed, all_changed, parts_changed, change_rows, variable_of, number_in, replaced}
+use Rattle.lq_refinements.specs.declared.changes.Change.TheVariants.{Put, Twin, Twinned, Instantiated, Renumbered}
+use Rattle.lq_refinements.specs.Changes.{changed, all_changed, matrix_changed, parts_changed, change_rows, variable_of, number_in, replaced}
 use Rattle.lq_refinements.specs.declared.forms.Form.{Form}
 use Rattle.lq_refinements.specs.declared.forms.Form.TheVariants as form
 use Rattle.lq_refinements.specs.Forms.{at, each, form_type, row_of}
@@ -63,6 +64,29 @@ module _ (scopes : Scopes) where
   variable-twin (data_with d ts m p) = refl
   variable-twin (map_with e p) = refl
   variable-twin (type_variable i) = refl
+
+module _ (n : ℕ) where
+  pub kind-renumbered : (t : Refined) → kind (renumbered n t) ≡ kind t
+  kind-renumbered (int_with p) = refl
+  kind-renumbered (bool_with p) = refl
+  kind-renumbered unit_type = refl
+  kind-renumbered (function x a b) = refl
+  kind-renumbered (tuple_of ts) = refl
+  kind-renumbered (array_with e p) = refl
+  kind-renumbered (data_with d ts m p) = refl
+  kind-renumbered (map_with e p) = refl
+  kind-renumbered (type_variable i) = refl
+
+  pub variable-renumbered : (t : Refined) → variable_of (renumbered n t) ≡ variable_of t
+  variable-renumbered (int_with p) = refl
+  variable-renumbered (bool_with p) = refl
+  variable-renumbered unit_type = refl
+  variable-renumbered (function x a b) = refl
+  variable-renumbered (tuple_of ts) = refl
+  variable-renumbered (array_with e p) = refl
+  variable-renumbered (data_with d ts m p) = refl
+  variable-renumbered (map_with e p) = refl
+  variable-renumbered (type_variable i) = refl
 
 module _ (by : Refineds) where
   pub kind-instantiated : (t : Refined) → variable_of t ≡ None → kind (instantiated by t) ≡ kind t
@@ -119,6 +143,7 @@ module _ (scopes : Scopes) (all : List Refined) where
   replaced-some (Put θ) t r h = cc
   replaced-some Twin t r h = cc
   replaced-some (Twinned θ) t r h = cc
+  replaced-some (Renumbered n) t r h = cc
   replaced-some (Instantiated by) t r h = chosen (variable_of t) refl h
     where
       chosen : (v : Option ℕ) → variable_of t ≡ v → number_in by.items v ≡ Some r → instantiated (each all by.items) t ≡ at all r
@@ -130,53 +155,62 @@ module _ (scopes : Scopes) (all : List Refined) where
   changed-int Twin p = refl
   changed-int (Twinned θ) p = refl
   changed-int (Instantiated by) p = refl
+  changed-int (Renumbered n) p = refl
 
   pub changed-bool : (c : Change) (p : Parts) → bool_with (parts_changed scopes c p) ≡ changed scopes all c (bool_with p)
   changed-bool (Put θ) p = refl
   changed-bool Twin p = refl
   changed-bool (Twinned θ) p = refl
   changed-bool (Instantiated by) p = refl
+  changed-bool (Renumbered n) p = refl
 
   pub changed-unit : (c : Change) → unit_type ≡ changed scopes all c unit_type
   changed-unit (Put θ) = refl
   changed-unit Twin = refl
   changed-unit (Twinned θ) = refl
   changed-unit (Instantiated by) = refl
+  changed-unit (Renumbered n) = refl
 
   pub changed-array : (c : Change) (e : Refined) (p : Parts) → array_with (changed scopes all c e) (parts_changed scopes c p) ≡ changed scopes all c (array_with e p)
   changed-array (Put θ) e p = refl
   changed-array Twin e p = refl
   changed-array (Twinned θ) e p = refl
   changed-array (Instantiated by) e p = refl
+  changed-array (Renumbered n) e p = refl
 
   pub changed-map : (c : Change) (e : Refined) (p : Parts) → map_with (changed scopes all c e) (parts_changed scopes c p) ≡ changed scopes all c (map_with e p)
   changed-map (Put θ) e p = refl
   changed-map Twin e p = refl
   changed-map (Twinned θ) e p = refl
   changed-map (Instantiated by) e p = refl
+  changed-map (Renumbered n) e p = refl
 
   all_changed-row : (c : Change) (ts : List Refined) → all_changed scopes all c (row_of ts) ≡ row_of (map (changed scopes all c) ts)
   all_changed-row (Put θ) [] = refl
   all_changed-row Twin [] = refl
   all_changed-row (Twinned θ) [] = refl
   all_changed-row (Instantiated by) [] = refl
+  all_changed-row (Renumbered n) [] = refl
   all_changed-row (Put θ) (t ∷ ts) = ap (more (type_by scopes (subst_view θ) t)) (all_changed-row (Put θ) ts)
   all_changed-row Twin (t ∷ ts) = ap (more (twin scopes t)) (all_changed-row Twin ts)
   all_changed-row (Twinned θ) (t ∷ ts) = ap (more (type_by scopes (subst_view θ) (twin scopes t))) (all_changed-row (Twinned θ) ts)
   all_changed-row (Instantiated by) (t ∷ ts) = ap (more (instantiated (each all by.items) t)) (all_changed-row (Instantiated by) ts)
+  all_changed-row (Renumbered n) (t ∷ ts) = ap (more (renumbered n t)) (all_changed-row (Renumbered n) ts)
 
   changed-tuple : (c : Change) (ts : Refineds) → tuple_of (all_changed scopes all c ts) ≡ changed scopes all c (tuple_of ts)
   changed-tuple (Put θ) ts = refl
   changed-tuple Twin ts = refl
   changed-tuple (Twinned θ) ts = refl
   changed-tuple (Instantiated by) ts = refl
+  changed-tuple (Renumbered n) ts = refl
 
   changed-data : (c : Change) (d : ℕ) (ts : Refineds) (m : Matrix) (p : Parts)
-      → data_with d (all_changed scopes all c ts) m (parts_changed scopes c p) ≡ changed scopes all c (data_with d ts m p)
+      → data_with d (all_changed scopes all c ts) (matrix_changed c m) (parts_changed scopes c p) ≡ changed scopes all c (data_with d ts m p)
   changed-data (Put θ) d ts m p = refl
   changed-data Twin d ts m p = refl
   changed-data (Twinned θ) d ts m p = refl
   changed-data (Instantiated by) d ts m p = refl
+  changed-data (Renumbered n) d ts m p = refl
 
   -- rows of types, each changed
   changed-each : (c : Change) (new : List Refined) (made is : List ℕ) → map (at new) made ≡ map (λ p. changed scopes all c (at all p)) is
@@ -193,9 +227,9 @@ module _ (scopes : Scopes) (all : List Refined) where
 
   pub changed-datas : (c : Change) (new : List Refined) (made is : List ℕ) (d : ℕ) (m : Matrix) (p : Parts)
       → map (at new) made ≡ map (λ p. changed scopes all c (at all p)) is
-      → data_with d (each new made) m (parts_changed scopes c p) ≡ changed scopes all c (data_with d (each all is) m p)
+      → data_with d (each new made) (matrix_changed c m) (parts_changed scopes c p) ≡ changed scopes all c (data_with d (each all is) m p)
   changed-datas c new made is d m p h =
-      ap (λ us. data_with d us m (parts_changed scopes c p)) (changed-each c new made is h) ∙ changed-data c d (each all is) m p
+      ap (λ us. data_with d us (matrix_changed c m) (parts_changed scopes c p)) (changed-each c new made is h) ∙ changed-data c d (each all is) m p
 
   -- a variable for which there is no type
   pub changed-outside : (c : Change) (v : ℕ) (by : Vec ℕ Global) → c ≡ Instantiated by → replaced c (type_variable v) ≡ None
@@ -262,6 +296,10 @@ replaced-earlier (Twinned θ) t r n e h = absurd (none e)
   where
     none : None ≡ Some r → ⊥
     none k = cc
+replaced-earlier (Renumbered m) t r n e h = absurd (none e)
+  where
+    none : None ≡ Some r → ⊥
+    none k = cc
 replaced-earlier (Instantiated by) t r n e h = chosen (variable_of t) e
   where
     chosen : (v : Option ℕ) → number_in by.items v ≡ Some r → r < n
@@ -287,4 +325,5 @@ pub replaced-form : (c : Change) (all bll : List Refined) (f : Form) (p q : Part
 replaced-form (Put θ) all bll f p q = refl
 replaced-form Twin all bll f p q = refl
 replaced-form (Twinned θ) all bll f p q = refl
+replaced-form (Renumbered n) all bll f p q = refl
 replaced-form (Instantiated by) all bll f p q = ap (number_in by.items) (variable-form all bll f p q)

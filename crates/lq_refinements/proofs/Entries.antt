@@ -8,7 +8,7 @@ use Rattle.lq_refined.specs.Operations.{instantiated}
 use Rattle.lq_refined.specs.Refined.{Refined, unit_type, function, tuple_of, array_with, data_with, map_with}
 use Rattle.lq_substitution.specs.Views.{parts_view}
 use Rattle.lq_refinements.specs.declared.changes.Change.{Change}
-use Rattle.lq_refinements.specs.declared.changes.Change.TheVariants.{Put, Twin, Twinned, Instantiated}
+use Rattle.lq_refinements.specs.declared.changes.Change.TheVariants.{Put, Twin, Twinned, Instantiated, Renumbered}
 use Rattle.lq_refinements.specs.declared.forms.Form.{Form}
 use Rattle.lq_refinements.specs.declared.forms.Form.TheVariants as form
 use Rattle.lq_refinements.specs.declared.table.Row.{Row}
@@ -44,6 +44,7 @@ pub changed-same : (scopes : Scopes) (all bll : List Refined) (c : Change) (t : 
 changed-same scopes all bll (Put θ) t h = refl
 changed-same scopes all bll Twin t h = refl
 changed-same scopes all bll (Twinned θ) t h = refl
+changed-same scopes all bll (Renumbered n) t h = refl
 changed-same scopes all bll (Instantiated by) t h = ap (λ ts. instantiated ts t) (each-same all bll by.items h)
 
 -- and over a table that grows

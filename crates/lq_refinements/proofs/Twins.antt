@@ -132,14 +132,14 @@ module _ (scopes : Scopes) (all : List Refined) where
       ap (λ d. twin scopes (changed scopes all d t)) e ∙ twin-by scopes t (subst_view θ) ∙ sym (ap (λ d. changed scopes all d t) e)
 
   -- what is put for names, behind what was put before
-  pub put-behind : (c d : Change) (θ σ : Swaps) (τ : Subst) → c ≡ Put θ → d ≡ Put σ → τ ≡ after (subst_view θ) (subst_view σ)
-      → (t : Refined) → type_by scopes τ t ≡ changed scopes all c (changed scopes all d t)
-  put-behind c d θ σ τ e f g t =
+  pub put-behind : (d : Change) (θ σ : Swaps) (τ : Subst) → d ≡ Put σ → τ ≡ after (subst_view θ) (subst_view σ)
+      → (t : Refined) → type_by scopes τ t ≡ type_by scopes (subst_view θ) (changed scopes all d t)
+  put-behind d θ σ τ f g t =
       ap (λ ρ. type_by scopes ρ t) g ∙ type-after parts-after scopes (subst_view θ) (subst_view σ) t
-      ∙ sym (ap₂ (λ k l. changed scopes all k (changed scopes all l t)) e f)
+      ∙ sym (ap (λ l. type_by scopes (subst_view θ) (changed scopes all l t)) f)
 
-  pub put-behind-twins : (c d : Change) (θ σ : Swaps) (τ : Subst) → c ≡ Put θ → d ≡ Twinned σ → τ ≡ after (subst_view θ) (subst_view σ)
-      → (t : Refined) → type_by scopes τ (twin scopes t) ≡ changed scopes all c (changed scopes all d t)
-  put-behind-twins c d θ σ τ e f g t =
+  pub put-behind-twins : (d : Change) (θ σ : Swaps) (τ : Subst) → d ≡ Twinned σ → τ ≡ after (subst_view θ) (subst_view σ)
+      → (t : Refined) → type_by scopes τ (twin scopes t) ≡ type_by scopes (subst_view θ) (changed scopes all d t)
+  put-behind-twins d θ σ τ f g t =
       ap (λ ρ. type_by scopes ρ (twin scopes t)) g ∙ type-after parts-after scopes (subst_view θ) (subst_view σ) (twin scopes t)
-      ∙ sym (ap₂ (λ k l. changed scopes all k (changed scopes all l t)) e f)
+      ∙ sym (ap (λ l. type_by scopes (subst_view θ) (changed scopes all l t)) f)

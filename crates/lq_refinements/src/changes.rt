@@ -1,11 +1,15 @@
 // What is done to a refined type.
 ghost use Rattle.std.specs.Prelude.{◌≡◌, [], List, IfOk, IfSome, IsTrue};
 ghost use Rattle.lq_parts.specs.Part.{Scopes as ScopeLists};
-ghost use Rattle.lq_refined.specs.Operations.{twin};
+ghost use Rattle.lq_refined.specs.Operations.{twin, type_by};
 ghost use Rattle.lq_refined.specs.Refined.{Refined};
-ghost use Rattle.lq_refinements.specs.Changes.{changed, change_rows, parts_changed};
-ghost use Rattle.lq_substitution.specs.Views.{parts_view, scopes_view};
+ghost use Rattle.lq_refinements.specs.Changes.{changed, change_rows, matrix_changed, parts_changed};
+ghost use Rattle.lq_refinements.specs.Forms.{matrix_view};
+ghost use Rattle.lq_renumbered.specs.Renumbered.{renumbered};
+ghost use Rattle.lq_substitution.specs.Views.{parts_view, scopes_view, subst_view};
 
+use crate::forms::Matrix;
+use crate::renumbering::renumbered_parts;
 use lq_substitution::{Parts, Scopes, Subst, after};
 use std::alloc::{AllocError, Global};
 
@@ -20,6 +24,8 @@ pub enum Change {
     Twinned(Subst),
     /// Types, by their numbers in the table, are put for its variables.
     Instantiated(Vec<usize>),
+    /// Each unknown has a number that is greater by this, in matrices too. A number past 64 bits counts as want of memory.
+    Renumbered(u64),
 }
 
 impl Change {
@@ -34,6 +40,7 @@ impl Change {
             Change::Twin => Ok(Change::Twin),
             Change::Twinned(by) => Ok(Change::Twinned(by.copy(alloc)?)),
             Change::Instantiated(types) => Ok(Change::Instantiated(Vec::from_slice(alloc, types)?)),
+            Change::Renumbered(by) => Ok(Change::Renumbered(*by)),
         }
     }
 
@@ -44,7 +51,7 @@ impl Change {
     {
         match self {
             Change::Twin | Change::Twinned(_) => true,
-            Change::Put(_) | Change::Instantiated(_) => false,
+            Change::Put(_) | Change::Instantiated(_) | Change::Renumbered(_) => false,
         }
     }
 
@@ -55,7 +62,8 @@ impl Change {
     {
         match self {
             Change::Twin => earlier.has_twins(),
-            Change::Put(_) | Change::Twinned(_) | Change::Instantiated(_) => false,
+            Change::Put(_) | Change::Twinned(_) | Change::Instantiated(_) | Change::Renumbered(_) =>
+                false,
         }
     }
 
@@ -69,14 +77,10 @@ impl Change {
             → changed scopes all made t ≡ changed scopes all self.now (changed scopes all earlier.now t))) }
         ensures rows { IfOk result (λ found. IfSome found (λ made. change_rows made ≡ [])) }
     {
-        let Change::Put(by) = self else {
-            return Ok(None);
-        };
-        match earlier {
-            Change::Put(first) => Ok(Some(Change::Put(after(alloc, by, first)?))),
-            Change::Twin => Ok(Some(Change::Twinned(by.copy(alloc)?))),
-            Change::Twinned(first) => Ok(Some(Change::Twinned(after(alloc, by, first)?))),
-            Change::Instantiated(_) => Ok(None),
+        match self {
+            Change::Put(by) => put_behind(alloc, by, earlier),
+            Change::Renumbered(by) => Ok(renumbered_behind(*by, earlier)),
+            Change::Twin | Change::Twinned(_) | Change::Instantiated(_) => Ok(None),
         }
     }
 
@@ -93,6 +97,48 @@ impl Change {
         match self {
             Change::Put(by) | Change::Twinned(by) => parts.by(alloc, scopes, by),
             Change::Twin | Change::Instantiated(_) => parts.copy(alloc),
+            Change::Renumbered(by) => renumbered_parts(alloc, *by, parts),
         }
+    }
+
+    // The matrix of a datatype, with it done to it.
+    pub(crate) fn matrix(&self, alloc: Global, matrix: Matrix) -> Result<Matrix, AllocError>
+        ensures { IfOk result (λ made. matrix_view made ≡ matrix_changed self.now (matrix_view matrix)) }
+    {
+        match self {
+            Change::Renumbered(by) => matrix.renumbered(alloc, *by),
+            Change::Put(_) | Change::Twin | Change::Twinned(_) | Change::Instantiated(_) => {
+                Ok(matrix)
+            }
+        }
+    }
+}
+
+// An earlier change, and then something that is put for names, as one; None where they stay apart.
+fn put_behind(alloc: Global, by: &Subst, earlier: &Change) -> Result<Option<Change>, AllocError>
+    ensures same { IfOk result (λ found. IfSome found (λ made. (scopes : ScopeLists) (all : List Refined) (t : Refined)
+        → changed scopes all made t ≡ type_by scopes (subst_view by.now) (changed scopes all earlier.now t))) }
+    ensures rows { IfOk result (λ found. IfSome found (λ made. change_rows made ≡ [])) }
+{
+    match earlier {
+        Change::Put(first) => Ok(Some(Change::Put(after(alloc, by, first)?))),
+        Change::Twin => Ok(Some(Change::Twinned(by.copy(alloc)?))),
+        Change::Twinned(first) => Ok(Some(Change::Twinned(after(alloc, by, first)?))),
+        Change::Instantiated(_) | Change::Renumbered(_) => Ok(None),
+    }
+}
+
+// An earlier change, and then numbers that are greater by this, as one; None where they stay apart.
+fn renumbered_behind(by: u64, earlier: &Change) -> Option<Change>
+    ensures same { IfSome result (λ made. (scopes : ScopeLists) (all : List Refined) (t : Refined)
+        → changed scopes all made t ≡ renumbered by (changed scopes all earlier.now t)) }
+    ensures rows { IfSome result (λ made. change_rows made ≡ []) }
+{
+    match earlier {
+        Change::Renumbered(first) => match by.checked_add(*first) {
+            Some(both) => Some(Change::Renumbered(both)),
+            None => None,
+        },
+        Change::Put(_) | Change::Twin | Change::Twinned(_) | Change::Instantiated(_) => None,
     }
 }

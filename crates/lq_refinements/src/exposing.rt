@@ -27,7 +27,9 @@ impl RefinedTypes {
         match self.row(at) {
             Row::Node(node) => node.form.variable(),
             Row::Delayed(change, inner) => match change.as_ref() {
-                Change::Put(_) | Change::Twin | Change::Twinned(_) => self.variable(*inner),
+                Change::Put(_) | Change::Twin | Change::Twinned(_) | Change::Renumbered(_) => {
+                    self.variable(*inner)
+                }
                 Change::Instantiated(types) => match self.variable(*inner) {
                     Some(variable) => match number_at(types, variable) {
                         Some(chosen) => self.variable(chosen),
@@ -47,7 +49,9 @@ impl RefinedTypes {
         match self.row(at) {
             Row::Node(node) => node.form.kind(),
             Row::Delayed(change, inner) => match change.as_ref() {
-                Change::Put(_) | Change::Twin | Change::Twinned(_) => self.kind(*inner),
+                Change::Put(_) | Change::Twin | Change::Twinned(_) | Change::Renumbered(_) => {
+                    self.kind(*inner)
+                }
                 Change::Instantiated(types) => match self.variable(*inner) {
                     Some(variable) => match number_at(types, variable) {
                         Some(chosen) => self.kind(chosen),
@@ -65,7 +69,7 @@ impl RefinedTypes {
         ensures { (scopes : ScopeLists) → result ≡ replaced change.now (refined_at scopes self.now at) }
     {
         match change {
-            Change::Put(_) | Change::Twin | Change::Twinned(_) => None,
+            Change::Put(_) | Change::Twin | Change::Twinned(_) | Change::Renumbered(_) => None,
             Change::Instantiated(types) => {
                 let variable = self.variable(at)?;
                 number_at(types, variable)
@@ -264,7 +268,7 @@ impl RefinedTypes {
             Form::Function(x, a, b) => match change.as_ref() {
                 Change::Twin => self.twin_function(alloc, x, a, b),
                 Change::Twinned(by) => self.twinned_function(alloc, change, by, x, a, b),
-                Change::Put(_) | Change::Instantiated(_) => {
+                Change::Put(_) | Change::Instantiated(_) | Change::Renumbered(_) => {
                     let (a, b) = self.changed_pair(change, a, b)?;
                     Ok(Form::Function(x, a, b))
                 }
@@ -272,7 +276,9 @@ impl RefinedTypes {
             Form::Tuple(types) => Ok(Form::Tuple(self.changed_all(alloc, change, &types)?)),
             Form::Array(element) => Ok(Form::Array(self.share(change, element)?)),
             Form::Data(name, types, matrix) => {
-                Ok(Form::Data(name, self.changed_all(alloc, change, &types)?, matrix))
+                let types = self.changed_all(alloc, change, &types)?;
+                let matrix = change.matrix(alloc, matrix)?;
+                Ok(Form::Data(name, types, matrix))
             }
             Form::Map(element) => Ok(Form::Map(self.share(change, element)?)),
             Form::Variable(variable) => Ok(changed_variable(change.as_ref(), variable)),
@@ -396,7 +402,9 @@ fn changed_variable(change: &Change, variable: u64) -> Form
     ensures rows { form_rows result ≡ [] }
 {
     match change {
-        Change::Put(_) | Change::Twin | Change::Twinned(_) => Form::Variable(variable),
+        Change::Put(_) | Change::Twin | Change::Twinned(_) | Change::Renumbered(_) => {
+            Form::Variable(variable)
+        }
         Change::Instantiated(_) => Form::Unit,
     }
 }

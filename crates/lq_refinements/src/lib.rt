@@ -6,6 +6,7 @@ mod changes;
 mod exposing;
 mod forms;
 mod operations;
+mod renumbering;
 mod table;
 mod unfolding;
 

@@ -1,8 +1,8 @@
 use Rattle.std.proofs.Common.{[], map, sym, ap, ◌∙◌}
 use Rattle.lq_parts.specs.Part.{Scopes}
-use Rattle.lq_refined.specs.Refined.{type_variable}
-use Rattle.lq_refinements.specs.Changes.{changed, replaced}
-use Rattle.lq_refinements.specs.Forms.{form_type, matrix_view}
+use Rattle.lq_refined.specs.Refined.{data_with, type_variable}
+use Rattle.lq_refinements.specs.Changes.{changed, matrix_changed, parts_changed, replaced}
+use Rattle.lq_refinements.specs.Forms.{each, form_type, matrix_view}
 use Rattle.lq_refinements.specs.Whole.{refined_at, types_of}
 use Rattle.lq_refinements.proofs.Changing.{changed-tuples, changed-datas}
 use Rattle.lq_refinements.proofs.table.RefinedTypes.changed_form.Goals as goal
@@ -25,13 +25,17 @@ returns-in_ok-changed_all-in-Tuple-clause-refined c =
     ∙ ap (map (λ i. changed scopes (types_of scopes old) change (refined_at scopes old i))) c.deref.ensures.value)
     ∙ ap (λ f. changed scopes (types_of scopes old) change (form_type (types_of scopes old) f p)) (sym c.in-Tuple.is)
 
-pub returns-in_ok-changed_all-in-Data-clause-refined : goal.returns-in_ok-changed_all-in-Data-clause-refined
-returns-in_ok-changed_all-in-Data-clause-refined c =
+pub returns-in_ok-matrix-in-Data-clause-refined : goal.returns-in_ok-matrix-in-Data-clause-refined
+returns-in_ok-matrix-in-Data-clause-refined c =
     let old = c.args.self.now in
+    let new = c.changed_all-in-Data.new.self in
     let change = c.args.change.now.value in
+    let made = c.in_ok-types-in-Data.types.items in
+    let m = matrix_view c.in-Data.matrix in
     λ scopes p.
-    changed-datas scopes (types_of scopes old) change (types_of scopes c.changed_all-in-Data.new.self) c.in_ok-changed_all-in-Data.field-0.items
-    c.in-Data.types.items c.in-Data.name.0 (matrix_view c.in-Data.matrix) p
-    (c.in_ok-changed_all-in-Data.ensures.refined scopes
+    ap (λ cs. data_with c.in-Data.name.0 (each (types_of scopes new) made) cs (parts_changed scopes change p))
+    (c.in_ok-matrix-in-Data.ensures ∙ ap (λ d. matrix_changed d m) c.deref-in-Data-2.ensures)
+    ∙ changed-datas scopes (types_of scopes old) change (types_of scopes new) made c.in-Data.types.items c.in-Data.name.0 m p
+    (c.in_ok-types-in-Data.ensures.refined scopes
     ∙ ap (map (λ i. changed scopes (types_of scopes old) change (refined_at scopes old i))) c.deref-in-Data.ensures.value)
     ∙ ap (λ f. changed scopes (types_of scopes old) change (form_type (types_of scopes old) f p)) (sym c.in-Data.is)

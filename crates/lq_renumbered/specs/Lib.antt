@@ -1,0 +1,3 @@
+-- Refined types whose unknowns have other numbers: definitions.
+pub mod Renumbered
+pub mod Laws

@@ -1,0 +1,2 @@
+-- That templates of one type are copies of each other: laws.
+pub mod Laws
