@@ -8,7 +8,7 @@ use Rattle.lq_pred.specs.Sum.{same_symbol}
 use Rattle.lq_pred.specs.declared.symbol.Symbol.{Symbol}
 use Rattle.lq_pred.specs.declared.symbol.Symbol.TheVariants.{Value, Bound, Position}
 use Rattle.lq_substitution.specs.Scopes.{grown, left, list_at, rank, shown, without, AreBelow, AreBetween, AreWithin, IsWithin}
-use Rattle.lq_substitution.specs.declared.scopes.Entry.{Entry}
+use Rattle.lq_substitution.specs.declared.tables.Entry.{Entry}
 
 abbrev Lists : Type 0
 Lists = List (List Symbol)

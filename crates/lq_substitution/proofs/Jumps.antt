@@ -4,7 +4,7 @@ use Rattle.lq_parts.specs.Substitution.{is_in}
 use Rattle.lq_pred.specs.Sum.{same_symbol}
 use Rattle.lq_pred.specs.declared.symbol.Symbol.{Symbol}
 use Rattle.lq_substitution.specs.Scopes.{grown, left, list_at, rank, shown, AgreeBelow, AreBelow, AreJumps}
-use Rattle.lq_substitution.specs.declared.scopes.Entry.{Entry}
+use Rattle.lq_substitution.specs.declared.tables.Entry.{Entry}
 use Rattle.lq_substitution.proofs.Growing.{early, grown-entry, none-in, number-of, one_more, other-in, same_symbol-is, within}
 
 -- ---- lists that have the same symbols below a number

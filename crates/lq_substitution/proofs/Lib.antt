@@ -3,3 +3,5 @@ pub mod Sharing
 pub mod Finding
 pub mod Picking
 pub mod Jumps
+pub mod Placing
+pub mod Copying

@@ -1,5 +1,6 @@
 -- What is kept of a row, replacement by replacement.
-use Rattle.std.proofs.Common.{◌≡◌, ℕ, ◌+◌, List, [], ◌∷◌, ◌++◌, take, slice_get, Some, Bool, true, false, if◌then◌else◌, ap, ◌∙◌}
+use Rattle.std.proofs.Common.{◌≡◌, ℕ, ◌+◌, List, [], ◌∷◌, ◌++◌, take, slice_get, Some, Bool, true, false, if◌then◌else◌, ap, ap₂, sym, append_assoc, ◌∙◌}
+use Rattle.lq_parts.specs.Substitution as swaps
 use Rattle.lq_parts.specs.Substitution.{Subst}
 use Rattle.lq_substitution.specs.Restricting.{picked_view}
 use Rattle.lq_substitution.specs.Runs.{swap_view, swaps_view}
@@ -18,3 +19,9 @@ pub copies-kept : (b : Bool) (p : Picked) (v : Subst) (ss : List Swap) (k : ℕ)
     → v ≡ (if b then picked_view p ss k ++ swap_view s ∷ [] else picked_view p ss k)
 copies-kept true p v ss k s e f = f
 copies-kept false p v ss k s e f = absurd (cc)
+
+-- one that was looked at, and added where it is kept
+pub kept-next : (b : Bool) (x : swaps.Swap) (made new rest all : Subst) → new ≡ (if b then made ++ x ∷ [] else made)
+    → all ≡ (if b then x ∷ rest else rest) → made ++ all ≡ new ++ rest
+kept-next true x made new rest all n a = ap (λ l. made ++ l) a ∙ (sym (append_assoc made (x ∷ []) rest) ∙ ap (λ l. l ++ rest) (sym n))
+kept-next false x made new rest all n a = ap₂ (λ l r. l ++ r) (sym n) a

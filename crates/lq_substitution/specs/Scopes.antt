@@ -1,10 +1,10 @@
 -- Scopes of which each but the first, which is empty, names an earlier one: what it adds to that one's symbols, and what it hides of them.
-use Rattle.std.specs.Prelude.{◌≡◌, ℕ, ◌+◌, ◌<◌, ◌≤◌, not, List, [], ◌∷◌, ◌++◌, All, filter, slice_get, slice_index_or, Option, Some, None}
+use Rattle.std.specs.Prelude.{◌≡◌, ℕ, ◌+◌, ◌<◌, ◌≤◌, Bool, true, false, not, List, [], ◌∷◌, ◌++◌, All, filter, slice_get, slice_index_or, Option, Some, None}
 use Rattle.lq_parts.specs.Substitution.{is_in}
 use Rattle.lq_pred.specs.Sum.{same_symbol}
 use Rattle.lq_pred.specs.declared.symbol.Symbol.{Symbol}
 use Rattle.lq_pred.specs.declared.symbol.Symbol.TheVariants.{Value, Bound, Position}
-use Rattle.lq_substitution.specs.declared.scopes.Entry.{Entry}
+use Rattle.lq_substitution.specs.declared.tables.Entry.{Entry}
 
 -- symbols without this one
 abbrev pub without : Symbol → List Symbol → List Symbol
@@ -58,3 +58,8 @@ AreJumps es = (k : ℕ) (e : Entry) → slice_get es k ≡ Some e
 -- each ranks between these
 abbrev pub AreBetween : ℕ → ℕ → List Symbol → Type 0
 AreBetween low high xs = All (λ x. (low ≤ rank x) × (rank x ≤ high)) xs
+
+-- the symbols of an unknown of a pattern, where the pattern is used at a scope with these symbols: behind them, or alone
+abbrev pub inner_list : List Symbol → Bool × List Symbol → List Symbol
+inner_list Γ (true, Δ) = Γ ++ Δ
+inner_list Γ (false, Δ) = Δ

@@ -1,5 +1,5 @@
 -- What replacements, parts and scopes of the code stand for.
-use Rattle.std.specs.Prelude.{ℕ, List, [], ◌∷◌, map, slice_index_or}
+use Rattle.std.specs.Prelude.{ℕ, Bool, List, ◌∷◌, map}
 use Rattle.lq_parts.specs.Part as parts
 use Rattle.lq_parts.specs.Part.{known, unknown}
 use Rattle.lq_parts.specs.Substitution as swaps
@@ -8,7 +8,10 @@ use Rattle.lq_pred.specs.declared.symbol.Symbol.{Symbol}
 use Rattle.lq_pred.specs.declared.symbol.Symbol.TheVariants.{Value}
 pub use Rattle.lq_substitution.specs.Runs.{atom_view, swap_view, run_swaps, run_list, runs_view, swaps_view}
 use Rattle.lq_substitution.specs.Listed.{listed_items}
-use Rattle.lq_substitution.specs.Scopes.{grown, list_at}
+pub use Rattle.lq_substitution.specs.Placed.{inner_view}
+use Rattle.lq_substitution.specs.Placed.{patterns_of, place_list, places_of}
+use Rattle.lq_substitution.specs.Scopes.{list_at}
+use Rattle.lq_substitution.specs.Tables.{table_lists}
 use Rattle.lq_substitution.specs.declared.parts.Part.{Part}
 use Rattle.lq_substitution.specs.declared.parts.Part.TheVariants as part
 use Rattle.lq_substitution.specs.declared.parts.Parts.{Parts}
@@ -28,18 +31,22 @@ subst_view by = swaps_view (swap_items by)
 
 -- the symbols of each scope, by its number
 abbrev pub scope_lists : Scopes → List (List Symbol)
-scope_lists all = grown ([] ∷ []) all.entries.items
+scope_lists all = table_lists all.table
 
 abbrev pub scope_at : Scopes → ℕ → List Symbol
 scope_at all i = list_at (scope_lists all) i
 
--- the scope of each unknown, by its number
-abbrev pub unknown_scopes : Scopes → List ℕ
-unknown_scopes all = all.unknowns.items
+-- the symbols of each unknown's scope, by its number
+abbrev pub unknown_lists : Scopes → List (List Symbol)
+unknown_lists all = map (place_list (scope_lists all)) (places_of all.places)
+
+-- of each pattern, for each of its unknowns whether its scope stands behind the one at which the pattern is used, and its symbols
+abbrev pub pattern_lists : Scopes → List (List (Bool × List Symbol))
+pattern_lists all = map (map (inner_view (scope_lists all))) (patterns_of all.places)
 
 -- of which symbols the instances of an unknown may speak
 abbrev pub scopes_view : Scopes → parts.Scopes
-scopes_view all u = Value ∷ scope_at all (slice_index_or (unknown_scopes all) u 0)
+scopes_view all u = Value ∷ list_at (unknown_lists all) u
 
 -- ---- parts
 

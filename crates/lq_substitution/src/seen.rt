@@ -1,8 +1,8 @@
 // Symbols that were met, to be found quickly where they come in order.
 ghost use Rattle.lq_substitution.specs.Scopes.{AreBetween};
 
-use crate::scopes::rank;
 use crate::swaps::is_same_symbol;
+use crate::tables::rank;
 use lq_pred::Symbol;
 use std::alloc::{AllocError, Global};
 

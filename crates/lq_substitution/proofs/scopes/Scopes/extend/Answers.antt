@@ -1,33 +1,31 @@
-use Rattle.std.proofs.Common.{◌≡◌, length, vec_len, [], ◌∷◌, arith, ◌∙◌, ap, is_ok}
-use Rattle.lq_substitution.specs.Scopes.{grown, list_at}
-use Rattle.lq_substitution.specs.declared.scopes.Entry.{Entry}
-use Rattle.lq_substitution.proofs.Growing.{length-grown, grown-push, below-pushed, shown-within, within-pushed}
-use Rattle.lq_substitution.proofs.Jumps.{jumps-pushed}
+use Rattle.std.proofs.Common.{[], ◌∷◌, ◌++◌}
+use Rattle.lq_substitution.specs.Placed.{patterns_of, places_of}
+use Rattle.lq_substitution.specs.Scopes.{left}
+use Rattle.lq_substitution.specs.Tables.{table_lists}
+use Rattle.lq_substitution.specs.Views.{scope_at}
+use Rattle.lq_substitution.proofs.Copying.{table-inner, table-patterns, table-places, table-there}
 use Rattle.lq_substitution.proofs.scopes.Scopes.extend.Goals as goal
 
 pub invariant_of-self : goal.invariant_of-self
 invariant_of-self c =
-    let old = c.args.self.now.entries.items in
-    let new = c.push.new.self.items in
     let self = c.args.self.now in
-    let e : Entry = record { parent = c.args.parent; symbol = c.args.symbol; hidden = c.args.hidden; highest = c.highest_of-highest.result; jump = c.jump_of-jump.result } in
-    let k = length-grown ([] ∷ []) old in
-    let r = c.requires in
-    let all = shown-within e (list_at (grown ([] ∷ []) old) c.args.parent) c.highest_of-highest.ensures.parent c.highest_of-highest.ensures.symbol in
+    let x = left c.args.hidden (scope_at self c.args.parent) ++ c.args.symbol ∷ [] in
+    let e = c.extend.ensures in
     record {
-      parents = below-pushed (is_ok c.push.result) old new e c.push.ensures.items self.parents (omega arith);
-      within = within-pushed (is_ok c.push.result) old new e c.push.ensures.items self.parents self.within (omega arith) all;
-      jumps = jumps-pushed (is_ok c.push.result) old new e c.push.ensures.items self.parents self.jumps (omega arith)
-          ((let j = c.jump_of-jump.ensures.earlier in omega arith), c.jump_of-jump.ensures.agree);
+      there = table-there (table_lists self.table) x (table_lists c.extend.new.self) c.extend.result e.added e.kept (places_of self.places) self.there;
+      inner = table-inner (table_lists self.table) x (table_lists c.extend.new.self) c.extend.result e.added e.kept (patterns_of self.places) self.inner;
     }
 
-pub returns-clause-added : goal.returns-clause-added
-returns-clause-added c =
-    let e : Entry = record { parent = c.args.parent; symbol = c.args.symbol; hidden = c.args.hidden; highest = c.highest_of-highest.result; jump = c.jump_of-jump.result } in
-    ap (grown ([] ∷ [])) c.in_ok-push.ensures.items ∙ grown-push ([] ∷ []) c.args.self.now.entries.items e
+pub returns-clause-unknowns : goal.returns-clause-unknowns
+returns-clause-unknowns c =
+    let self = c.args.self.now in
+    let x = left c.args.hidden (scope_at self c.args.parent) ++ c.args.symbol ∷ [] in
+    let e = c.extend.ensures in
+    table-places (table_lists self.table) x (table_lists c.extend.new.self) c.extend.result e.added e.kept (places_of self.places) self.there
 
-pub returns-clause-number : goal.returns-clause-number
-returns-clause-number c =
-    let v : vec_len c.args.self.now.entries ≡ length c.args.self.now.entries.items = c.args.self.now.entries.ok.0 in
-    let k = length-grown ([] ∷ []) c.args.self.now.entries.items in
-    let n = c.len.ensures in omega arith
+pub returns-clause-patterns : goal.returns-clause-patterns
+returns-clause-patterns c =
+    let self = c.args.self.now in
+    let x = left c.args.hidden (scope_at self c.args.parent) ++ c.args.symbol ∷ [] in
+    let e = c.extend.ensures in
+    table-patterns (table_lists self.table) x (table_lists c.extend.new.self) c.extend.result e.added e.kept (patterns_of self.places) self.inner

@@ -1,11 +1,15 @@
-use Rattle.std.proofs.Common.{◌<◌, ◌∙◌, sym, subst}
-use Rattle.lq_substitution.specs.Scopes.{rank}
-use Rattle.lq_substitution.specs.Views.{scope_at}
-use Rattle.lq_substitution.proofs.Growing.{above}
+use Rattle.std.proofs.Common.{◌∙◌, List, ◌||◌, ap, ap₂, sym}
+use Rattle.lq_parts.specs.Substitution.{is_in}
+use Rattle.lq_pred.specs.declared.symbol.Symbol.{Symbol}
+use Rattle.lq_substitution.specs.Placed.{place_list, places_of}
+use Rattle.lq_substitution.specs.Views.{scope_lists}
+use Rattle.lq_substitution.proofs.Placing.{nothing-at}
 use Rattle.lq_substitution.proofs.scopes.Scopes.has.Goals as goal
 
-pub returns-then-entry-wanted : goal.returns-then-entry-wanted
-returns-then-entry-wanted c =
-    let e = c.in-Some.entry in
-    let less : e.highest < rank c.args.symbol = subst (λ k. e.highest < k) c.rank-wanted.ensures c.if-entry-wanted.true in
-    sym (above e.highest (scope_at c.args.self.now c.loop-entry.at) c.args.symbol c.in-Some.ensures.within less) ∙ c.loop-entry.invariant
+pub returns-in-None : goal.returns-in-None
+returns-in-None c =
+    let self = c.args.self.now in
+    sym
+    (ap₂ (λ a b. a || b) (sym c.is_same_symbol.ensures ∙ c.if-is_same_symbol.false)
+    (ap (λ (xs : List Symbol). is_in xs c.args.symbol)
+    (nothing-at (place_list (scope_lists self)) (places_of self.places) c.args.unknown (sym c.in-None.ensures))))

@@ -1,0 +1,4 @@
+pub mod Longer
+pub mod Completing
+pub mod Counted
+pub mod Summed
