@@ -2,15 +2,15 @@
 use Rattle.std.proofs.Common.{◌≡◌, ◌∙◌, ℕ, suc, ◌+◌, ◌<◌, ◌≤◌, List, [], ◌∷◌, ◌++◌, All, drop, get_or, length, map, refl, sym, ap, ap₂, subst, append_assoc, arith}
 use Rattle.std.proofs.Math.Seq.{drop-cons}
 use Rattle.std.proofs.lemmas.List.{append-nil, drop_all, map_push}
-use Rattle.std.proofs.lemmas.List.Elements.{All-head, All-push, All-tail, All-weaker}
+use Rattle.std.proofs.lemmas.List.Elements.{All-head, All-nil, All-push, All-tail, All-weaker}
 use Rattle.std.specs.declared.alloc.Global.{Global}
 use Rattle.std.specs.declared.vec.Vec.{Vec}
-use Rattle.lq_fresh.specs.Growing.{made_both, made_count, scope_kept}
+use Rattle.lq_fresh.specs.Growing.{made_both, made_count, made_nothing, scope_kept}
 use Rattle.lq_fresh.specs.Views.{all_types, unknowns_of, Describes, IsGrown, IsMade, Longer}
 use Rattle.lq_fresh.specs.Walking.{AreTemplates}
 use Rattle.lq_fresh.specs.declared.fields.Datatypes as known
 use Rattle.lq_fresh.specs.declared.templates.Templates.{Templates}
-use Rattle.lq_fresh.proofs.Walked.{grown_both, rows_kept, rows_there}
+use Rattle.lq_fresh.proofs.Walked.{grown_both, grown_none, rows_kept, rows_there}
 use Rattle.lq_instances.specs.Scopes.{Scope}
 use Rattle.lq_parts.specs.Part.{Scopes}
 use Rattle.lq_pointed.specs.PointView.{name_view, point_view, points_view}
@@ -110,6 +110,13 @@ rows_mapped S a b (v ∷ rows) g h =
     (rows_mapped S a b rows g (All-tail (λ (row : Vec ℕ Global). All (λ r. r < count_of a.types) row.items) v rows h))
 
 module _ (D : known.Datatypes) where
+  pub points_begin : (old : Templates) (all : List p.Point) → PointsDone D old old [] all all
+  points_begin old all = record {
+    there = All-nil (λ (row : Vec ℕ Global). All (λ r. r < count_of old.types) row.items);
+    grown = grown_none old;
+    part = λ P d. record { unknowns = []; made = made_nothing old; all = refl; types = λ S. refl };
+  }
+
   pub points_next : (old mid new : Templates) (rows longer : Rows) (v : Vec ℕ Global) (all left rest : List p.Point) (q r : p.Point)
       → PointsDone D old mid rows all left → left ≡ q ∷ rest → r ≡ q
       → AreTemplates D mid new v.items (point_wanted (length (unknowns_of mid)) r) → longer ≡ rows ++ v ∷ []

@@ -1,11 +1,11 @@
 mod Adding
 mod Alone
 pub mod Cells
+mod Copying
 mod Differing
 mod Following
 pub mod Known
 mod Loops
-mod Numbering
 mod Plains
 pub mod Rows
 pub mod Walked

@@ -29,7 +29,7 @@ use Rattle.lq_tree.specs.MlType.{MlType, MlTypes}
 use Rattle.lq_tree.specs.Types.{Signature}
 use Rattle.lq_fresh.specs.Fields.{Field, cells_of_constructors, shapes_of}
 use Rattle.lq_fresh.specs.Growing.{Longer-refl, Longer-trans, made_both, made_count, made_nothing, top_parts, top_unknowns}
-use Rattle.lq_fresh.specs.Views.{all_types, constructors_of, scopes_of, shape_if, unknowns_of, Describes, IsGrown, IsMade}
+use Rattle.lq_fresh.specs.Views.{all_types, constructors_of, patterns_of, scopes_of, shape_if, unknowns_of, Describes, IsGrown, IsMade}
 use Rattle.lq_fresh.specs.Walking.{arguments_wanted, components_wanted, form_wanted, template_wanted, AllWanted, AreTemplates, IsForm, IsTemplate, Wanted}
 use Rattle.lq_fresh.specs.declared.fields.Datatypes.{Datatypes}
 use Rattle.lq_fresh.specs.declared.templates.Templates.{Templates}
@@ -38,16 +38,17 @@ use Rattle.lq_fresh.proofs.Cells.{constructors_same}
 -- ---- tables that grow
 
 pub grown_none : (a : Templates) → IsGrown a a
-grown_none a = record { types = Extends-refl a.types.rows.items; scopes = Longer-refl (scopes_of a) }
+grown_none a = record { types = Extends-refl a.types.rows.items; scopes = Longer-refl (scopes_of a); patterns = Longer-refl (patterns_of a) }
 
 pub grown_both : (a b c : Templates) → IsGrown a b → IsGrown b c → IsGrown a c
 grown_both a b c p q = record {
   types = Extends-trans a.types.rows.items b.types.rows.items c.types.rows.items p.types q.types;
   scopes = Longer-trans (scopes_of a) (scopes_of b) (scopes_of c) p.scopes q.scopes;
+  patterns = Longer-trans (patterns_of a) (patterns_of b) (patterns_of c) p.patterns q.patterns;
 }
 
 pub grown_made : (a b : Templates) (us : List Unknown) → IsMade a b us → IsGrown a b
-grown_made a b us p = record { types = p.types; scopes = p.scopes }
+grown_made a b us p = record { types = p.types; scopes = p.scopes; patterns = p.patterns }
 
 pub row_there : (a b : Templates) (r : ℕ) → IsGrown a b → r < count_of a.types → r < count_of b.types
 row_there a b r p h = extends-there a.types.rows.items b.types.rows.items r p.types h

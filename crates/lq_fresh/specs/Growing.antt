@@ -9,7 +9,7 @@ use Rattle.lq_sorted.specs.Views.{shape_view}
 use Rattle.lq_sorted.specs.declared.shape.Shape.{Shape}
 use Rattle.lq_templates.specs.Cells.{one_unknown}
 use Rattle.lq_templates.specs.Scopes.{Unknown}
-use Rattle.lq_fresh.specs.Views.{scopes_of, unknowns_of, Longer, IsMade}
+use Rattle.lq_fresh.specs.Views.{patterns_of, scopes_of, unknowns_of, Longer, IsMade}
 use Rattle.lq_fresh.specs.declared.templates.Templates.{Templates}
 
 -- the parts of a top with the unknown of this number, where predicates speak of the shape
@@ -35,10 +35,10 @@ pub scope_there : (old new : List instances.Scope) (i : ℕ) → Longer old new 
 scope_there old new i l h =
     let e : length new ≡ length (old ++ l.added) = ap length l.is in let k = length-append old l.added in omega (arith, e, k, h)
 
-pub Longer-refl : (a : List instances.Scope) → Longer a a
+pub Longer-refl : {A : Type 0} (a : List A) → Longer a a
 Longer-refl a = record { added = []; is = sym (append-nil a) }
 
-pub Longer-trans : (a b c : List instances.Scope) → Longer a b → Longer b c → Longer a c
+pub Longer-trans : {A : Type 0} (a b c : List A) → Longer a b → Longer b c → Longer a c
 Longer-trans a b c p q = record { added = p.added ++ q.added; is = q.is ∙ (ap (λ l. l ++ q.added) p.is ∙ append_assoc a p.added q.added) }
 
 -- the last scope of a longer table
@@ -50,12 +50,18 @@ scope_pushed (x ∷ all) Γ = scope_pushed all Γ
 
 pub made_nothing : (a : Templates) → IsMade a a []
 made_nothing a =
-    record { types = Extends-refl a.types.rows.items; scopes = Longer-refl (scopes_of a); unknowns = sym (append-nil (unknowns_of a)) }
+    record {
+      types = Extends-refl a.types.rows.items;
+      scopes = Longer-refl (scopes_of a);
+      patterns = Longer-refl (patterns_of a);
+      unknowns = sym (append-nil (unknowns_of a));
+    }
 
 pub made_both : (a b c : Templates) (us vs : List Unknown) → IsMade a b us → IsMade b c vs → IsMade a c (us ++ vs)
 made_both a b c us vs p q = record {
   types = Extends-trans a.types.rows.items b.types.rows.items c.types.rows.items p.types q.types;
   scopes = Longer-trans (scopes_of a) (scopes_of b) (scopes_of c) p.scopes q.scopes;
+  patterns = Longer-trans (patterns_of a) (patterns_of b) (patterns_of c) p.patterns q.patterns;
   unknowns = q.unknowns ∙ (ap (λ l. l ++ vs) p.unknowns ∙ append_assoc (unknowns_of a) us vs);
 }
 

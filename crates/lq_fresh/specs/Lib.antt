@@ -1,11 +1,10 @@
 -- Fresh templates in tables: definitions.
 pub mod Fields
-pub mod Inside
 pub mod Views
 pub mod Defined
 pub mod Growing
 pub mod Laws
-pub mod Numbered
+pub mod Patterns
 pub mod Standing
 pub mod There
 pub mod Walking

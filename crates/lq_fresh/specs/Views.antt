@@ -2,17 +2,16 @@
 use Rattle.std.specs.Prelude.{◌≡◌, ℕ, ◌++◌, List, [], map, slice_index_or, Option, Some, None}
 use Rattle.lq_instances.specs.Scopes as instances
 use Rattle.lq_instances.specs.Scopes.{scope_in}
-use Rattle.lq_instances.specs.Views as instances_views
 use Rattle.lq_refined.specs.Refined.{Refined}
 use Rattle.lq_refinements.specs.Whole.{types_of, Grows}
 use Rattle.lq_parts.specs.Part.{Scopes}
 use Rattle.lq_sorted.specs.Views.{shape_view}
 use Rattle.lq_sorted.specs.declared.shape.Shape.{Shape}
+use Rattle.lq_shared_unknowns.specs.Views as shared
 use Rattle.lq_sorts.specs.Shapes as shapes
 use Rattle.lq_templates.specs.Scopes.{Unknown}
 use Rattle.lq_tree.specs.Types.{Signature}
 use Rattle.lq_fresh.specs.Fields as fields
-use Rattle.lq_fresh.specs.Inside.{scopes_in}
 use Rattle.lq_fresh.specs.Fields.{AreConstructors}
 use Rattle.lq_fresh.specs.declared.fields.Constructor.{Constructor}
 use Rattle.lq_fresh.specs.declared.fields.Datatypes.{Datatypes}
@@ -40,32 +39,38 @@ constructors_of D d = slice_index_or (map (λ row. map constructor_view row.item
 -- ---- templates
 
 abbrev pub scopes_of : Templates → List instances.Scope
-scopes_of t = scopes_in t.unknowns
+scopes_of t = shared.table_of t.unknowns
 
 abbrev pub scope_at : Templates → ℕ → instances.Scope
 scope_at t i = scope_in (scopes_of t) i
 
 -- the unknowns, by their numbers
 abbrev pub unknowns_of : Templates → List Unknown
-unknowns_of t = instances_views.unknowns_view t.unknowns
+unknowns_of t = shared.shared_view t.unknowns
+
+-- lists of unknowns, of which some of the unknowns are copies
+abbrev pub patterns_of : Templates → List (List Unknown)
+patterns_of t = shared.patterns_of t.unknowns
 
 abbrev pub all_types : Scopes → Templates → List Refined
 all_types scopes t = types_of scopes t.types
 
-pub record Longer (old new : List instances.Scope) : Type 0 where
-  pub added : List instances.Scope
+pub record Longer {A : Type 0} (old new : List A) : Type 0 where
+  pub added : List A
   pub is : new ≡ old ++ added
 
--- the types, scopes and unknowns stay, and there are more of them, these unknowns among them
+-- the types, scopes, patterns and unknowns stay, and there are more of them, these unknowns among them
 pub record IsMade (old new : Templates) (us : List Unknown) : Type 0 where
   pub types : Grows old.types new.types
   pub scopes : Longer (scopes_of old) (scopes_of new)
+  pub patterns : Longer (patterns_of old) (patterns_of new)
   pub unknowns : unknowns_of new ≡ unknowns_of old ++ us
 
--- the same of types and scopes alone
+-- the same of types, scopes and patterns alone
 pub record IsGrown (old new : Templates) : Type 0 where
   pub types : Grows old.types new.types
   pub scopes : Longer (scopes_of old) (scopes_of new)
+  pub patterns : Longer (patterns_of old) (patterns_of new)
 
 -- the datatypes are those of what constructors stand for, and of the constructors of each datatype in their order
 abbrev pub Describes : Datatypes → Signature → (ℕ → List ℕ) → Type 0

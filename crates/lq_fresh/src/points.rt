@@ -1,5 +1,6 @@
 // The templates of points.
 ghost use Rattle.std.specs.Prelude.{◌≡◌, ◌<◌, All, IfOk, OnOk, length, map};
+ghost use Rattle.lq_fresh.specs.Patterns.{ArePatterns};
 ghost use Rattle.lq_fresh.specs.Views.{scope_at, scopes_of, unknowns_of, Describes, IsGrown, IsMade};
 ghost use Rattle.lq_fresh.specs.Walking.{AreTemplates};
 ghost use Rattle.lq_fresh.specs.There.{IsThere};
@@ -12,6 +13,7 @@ ghost use Rattle.lq_types.specs.Nodes.{at as type_at};
 ghost use Rattle.lq_types.specs.Whole.{types_of};
 
 use crate::empty::{constant, emptied, inside};
+use crate::patterns::{Patterns, all_shared, shared};
 use crate::plain::each_plain;
 use crate::simple::Given;
 use crate::templates::Templates;
@@ -23,6 +25,7 @@ use std::alloc::{AllocError, Global};
 fn whole(
     alloc: Global,
     templates: &mut Templates,
+    patterns: &mut Patterns,
     given: &Given<'_>,
     names: &[Option<Binder>],
     scope: u64,
@@ -30,10 +33,17 @@ fn whole(
 ) -> Result<Vec<usize>, AllocError>
     requires type_there { at < length (types_of given.now.types.now) }
     requires scope { scope < length (scopes_of templates.old) }
-    ensures { IfOk result (λ rows. AreTemplates given.now.datatypes.now templates.old templates.new rows.items
+    requires patterns { ArePatterns given.now.datatypes.now (types_of given.now.types.now) templates.old patterns.old }
+    ensures templates { IfOk result (λ rows. AreTemplates given.now.datatypes.now templates.old templates.new rows.items
         (point_wanted (length (unknowns_of templates.old)) (whole (scope_at templates.old scope) (map name_view names.now)
         (type_at (types_of given.now.types.now) at)))) }
+    ensures patterns { OnOk result (ArePatterns given.now.datatypes.now (types_of given.now.types.now) templates.new patterns.new) }
 {
+    if names.is_empty() {
+        let row = shared(alloc, templates, patterns, given, at, scope)?;
+        let rows = vec![in alloc; row]?;
+        return Ok(rows);
+    }
     let row = templates.fresh(alloc, given, at, names, scope)?;
     let rows = vec![in alloc; row]?;
     Ok(rows)
@@ -100,17 +110,21 @@ fn absent(
 fn rows_of(
     alloc: Global,
     templates: &mut Templates,
+    patterns: &mut Patterns,
     given: &Given<'_>,
     point: &Point,
 ) -> Result<Vec<usize>, AllocError>
-    requires { IsThere (length (scopes_of templates.old)) (length (types_of given.now.types.now)) point.now }
-    ensures { IfOk result (λ rows. AreTemplates given.now.datatypes.now templates.old templates.new rows.items
+    requires there { IsThere (length (scopes_of templates.old)) (length (types_of given.now.types.now)) point.now }
+    requires patterns { ArePatterns given.now.datatypes.now (types_of given.now.types.now) templates.old patterns.old }
+    ensures templates { IfOk result (λ rows. AreTemplates given.now.datatypes.now templates.old templates.new rows.items
         (point_wanted (length (unknowns_of templates.old))
         (point_view (scopes_of templates.old) (types_of given.now.types.now) point.now))) }
+    ensures patterns { OnOk result (ArePatterns given.now.datatypes.now (types_of given.now.types.now) templates.new patterns.new) }
 {
     match point {
         Point::Whole(scope, names, at) => {
-            let rows = whole(alloc, templates, given, names.as_slice(), *scope, *at)?;
+            let names = names.as_slice();
+            let rows = whole(alloc, templates, patterns, given, names, *scope, *at)?;
             Ok(rows)
         }
         Point::Inner(scope, at) => {
@@ -126,7 +140,8 @@ fn rows_of(
             Ok(rows)
         }
         Point::Each(scope, parts) => {
-            let rows = templates.arguments(alloc, given, parts.as_slice(), *scope)?;
+            let parts = parts.as_slice();
+            let rows = all_shared(alloc, templates, patterns, given, parts, *scope)?;
             Ok(rows)
         }
         Point::Idle(parts) => {
@@ -154,9 +169,10 @@ fn all_rows(
     ensures there { IfOk result (λ rows. AreRows templates.new rows.items) }
     ensures grown { OnOk result (IsGrown templates.old templates.new) }
 {
+    let mut patterns = Patterns::new(alloc, given.types)?;
     let mut made = Vec::new(alloc);
     for point in points {
-        let rows = rows_of(alloc, templates, given, point)?;
+        let rows = rows_of(alloc, templates, &mut patterns, given, point)?;
         made.push(rows)?;
     }
     Ok(made)

@@ -1,9 +1,9 @@
 // Refined types with unknowns, and the scopes of the unknowns.
-ghost use Rattle.lq_fresh.specs.Inside.{AreInside};
 
-use lq_instances::{Scopes, Unknown, Unknowns, Visible};
+use lq_instances::{Scopes, Unknown, Visible};
 use lq_pred::Symbol;
 use lq_refinements::{Form, RefinedTypes};
+use lq_shared_unknowns::SharedUnknowns;
 use lq_sorted::Shape;
 use lq_substitution::{Part, Parts, Subst};
 use std::alloc::{AllocError, Global};
@@ -11,9 +11,8 @@ use std::alloc::{AllocError, Global};
 /// Refined types in a table, and their unknowns, each with its scope and its shape.
 #[derive(Drop)]
 pub struct Templates {
-    types: RefinedTypes,
-    unknowns: Unknowns,
-    ghost inside: { AreInside unknowns },
+    pub(crate) types: RefinedTypes,
+    pub(crate) unknowns: SharedUnknowns,
 }
 
 impl Templates {
@@ -38,10 +37,7 @@ impl Templates {
     {
         Templates {
             types: RefinedTypes::new(alloc),
-            unknowns: Unknowns {
-                scopes,
-                unknowns: Vec::new(alloc),
-            },
+            unknowns: SharedUnknowns::over(alloc, scopes),
         }
     }
 
@@ -53,14 +49,14 @@ impl Templates {
     }
 
     /// The unknowns with their scopes.
-    pub fn unknowns(&self) -> &Unknowns
+    pub fn unknowns(&self) -> &SharedUnknowns
         ensures { result.now ≡ self.now.unknowns }
     {
         &self.unknowns
     }
 
     /// The types, and the unknowns with their scopes, by themselves.
-    pub fn into_parts(self) -> (RefinedTypes, Unknowns)
+    pub fn into_parts(self) -> (RefinedTypes, SharedUnknowns)
         ensures types { result.0 ≡ self.types }
         ensures unknowns { result.1 ≡ self.unknowns }
     {
@@ -82,7 +78,7 @@ impl Templates {
     {
         match shape {
             Some(shape) => {
-                let added = self.unknowns.scopes.add(scope, Visible { symbol, shape })?;
+                let added = self.unknowns.add_scope(scope, Visible { symbol, shape })?;
                 Ok(added)
             }
             None => Ok(scope),
@@ -96,8 +92,7 @@ impl Templates {
         ensures made { OnOk result (IsMade self.old self.new ((scope_at self.old scope, shape_view shape) ∷ [])) }
         ensures kept { self.new.types ≡ self.old.types }
     {
-        let number = self.unknowns.unknowns.len() as u64;
-        self.unknowns.unknowns.push(Unknown { scope, shape })?;
+        let number = self.unknowns.push(Unknown { scope, shape })?;
         Ok(number)
     }
 

@@ -11,8 +11,6 @@ use Rattle.lq_fresh.specs.Defined.{ordered_in, ConstructorsDiffer}
 use Rattle.lq_fresh.specs.Views.{unknowns_of}
 use Rattle.lq_fresh.specs.declared.templates.Templates.{Templates}
 use Rattle.lq_instances.specs.Scopes.{scope_in}
-use Rattle.lq_instances.specs.Views.{unknowns_view}
-use Rattle.lq_instances.specs.declared.unknowns.Unknowns.{Unknowns}
 use Rattle.lq_fresh.specs.Standing.{rows_at, rows_at-below, types_at-rows}
 use Rattle.lq_fresh.specs.Wanted.{rows_types, AreRows, Rows}
 use Rattle.lq_parts.specs.Part.{Scopes}
@@ -25,6 +23,8 @@ use Rattle.lq_refinements.specs.Whole.{count_of, types_of, Grows}
 use Rattle.lq_refinements.specs.declared.table.RefinedTypes.{RefinedTypes}
 use Rattle.lq_scenes.specs.Scenes as scenes
 use Rattle.lq_scoped.specs.Signature.{DataTree, signature_in}
+use Rattle.lq_shared_unknowns.specs.Views.{shared_view}
+use Rattle.lq_shared_unknowns.specs.declared.unknowns.SharedUnknowns.{SharedUnknowns}
 use Rattle.lq_sorted.specs.Sorted.{Measure}
 use Rattle.lq_split.specs.Fields.{AreThere, KnowsFields}
 use Rattle.lq_split.specs.Growing.{all-grown}
@@ -73,8 +73,8 @@ abbrev scopes_from : List Unknown → Scopes
 scopes_from us = λ u. symbols_in (scope_in (scopes_of us) u)
 
 module _ (ds : List DataTree) (ms : List Measure) (n : Annotation) (is : List ItemTree) (t : Templates) (rows : Rows) (made : IsMadeFor ds ms n is t rows) where
-  pub scopes_same : (u : Unknowns) (S : Scopes) → u ≡ t.unknowns → S ≡ scopes_from (unknowns_view u) → S ≡ (basis_for ds ms n is).setting.scopes
-  scopes_same u S same h = h ∙ ap scopes_from (ap unknowns_view same ∙ made.unknowns_are)
+  pub scopes_same : (u : SharedUnknowns) (S : Scopes) → u ≡ t.unknowns → S ≡ scopes_from (shared_view u) → S ≡ (basis_for ds ms n is).setting.scopes
+  scopes_same u S same h = h ∙ ap scopes_from (ap shared_view same ∙ made.unknowns_are)
 
   module _ (b : Basis) (types : RefinedTypes) (grows : Grows t.types types) (templates_same : b.templates.now ≡ rows) where
     pub basis_there : AreThere (count_of types) b.fields.now → IsThere (count_of types) b

@@ -2,6 +2,7 @@
 #![tactic(auto)]
 
 mod error;
+mod found;
 mod made;
 mod problem;
 

@@ -17,19 +17,20 @@ ghost use Rattle.lq_problem.specs.Posed.{basis_for, read_of, templates_for, unkn
 ghost use Rattle.lq_problem.specs.Refusing.{IsRefused};
 
 use crate::error::ProblemError;
+use crate::found::{find_first, find_last};
 use crate::made::{Made, templates_of};
 use lq_checking::Basis;
 use lq_declared::declare;
-use lq_fresh::unknown_scopes;
 use lq_generate::generate;
 use lq_implications::Implications;
-use lq_instances::{Instances, all_instances};
+use lq_instances::Instances;
 use lq_normalize::NormalProgram;
 use lq_notes::Noted;
 use lq_pointed::Item;
 use lq_refinements::RefinedTypes;
 use lq_sorted::{ScopedMeasure, ScopedQualifier};
 use lq_substitution::Scopes;
+use lq_unknown_scopes::unknown_scopes;
 use std::alloc::Global;
 
 /// What is to be solved for a program: its implications over the instances of its unknowns, and the templates that the solution is put into.
@@ -95,8 +96,8 @@ pub fn pose(
         rows,
     } = templates_of(alloc, noted, normal)?;
     let (mut types, unknowns) = templates.into_parts();
-    let instances = all_instances(alloc, qualifiers, measures, &unknowns)?;
     let scopes = unknown_scopes(alloc, &unknowns)?;
+    let found = find_first(alloc, qualifiers, measures, unknowns)?;
     let datatypes = noted.program().annotated().scoped().datatypes();
     let known = declare(alloc, &mut types, datatypes, measures)?;
     let basis = Basis {
@@ -106,6 +107,7 @@ pub fn pose(
         templates: &rows,
     };
     let generated = generate(alloc, types, &basis, &program)?;
+    let instances = find_last(alloc, qualifiers, measures, found)?;
     Ok(Problem {
         program,
         types: generated.types,

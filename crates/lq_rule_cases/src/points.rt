@@ -6,7 +6,6 @@ use crate::case::Case;
 use crate::posing::{Labelled, Typed, labelled_case, one_line, text_from, tree_of};
 use crate::texts::text_of;
 use lq_assignment::Assignment;
-use lq_fresh::unknown_scopes;
 use lq_instances::{Unknowns, Visible};
 use lq_name::{Binder, NameTable};
 use lq_pointed::Point;
@@ -14,9 +13,11 @@ use lq_pred::{Pred, Preds, Symbol};
 use lq_pretty::push_symbol;
 use lq_problem::{Made, templates_of};
 use lq_refinements::RefinedTypes;
+use lq_shared_unknowns::SharedUnknowns;
 use lq_sorted::Shape;
 use lq_substitution::Scopes;
 use lq_type_text::push_type;
+use lq_unknown_scopes::unknown_scopes;
 use std::alloc::{AllocError, Global};
 
 // A predicate for each unknown that is called `k` and its number, behind the binders.
@@ -131,10 +132,11 @@ fn lines_of(
     points: &[Point],
     rows: &[Vec<usize>],
     types: &mut RefinedTypes,
-    unknowns: &Unknowns,
+    unknowns: SharedUnknowns,
 ) -> Result<Vec<String>, AllocError> {
+    let scopes = unknown_scopes(alloc, &unknowns)?;
+    let unknowns = unknowns.flat(alloc)?;
     let assignment = named_unknowns(alloc, labels, unknowns.unknowns.len())?;
-    let scopes = unknown_scopes(alloc, unknowns)?;
     let mut lines = Vec::new(alloc);
     for at in 0..rows.len() {
         let idle = if at < points.len() && is_idle(&points[at]) {
@@ -154,7 +156,7 @@ fn lines_of(
         )?;
         lines.push(line)?;
     }
-    add_unknowns(alloc, &mut lines, labels, unknowns)?;
+    add_unknowns(alloc, &mut lines, labels, &unknowns)?;
     Ok(lines)
 }
 
@@ -168,7 +170,7 @@ fn lines_for(alloc: Global, labels: &mut Labels, typed: &Typed) -> Result<Vec<St
         rows,
     } = templates_of(alloc, &typed.noted, &typed.normal)?;
     let (mut types, unknowns) = templates.into_parts();
-    lines_of(alloc, labels, &points, &rows, &mut types, &unknowns)
+    lines_of(alloc, labels, &points, &rows, &mut types, unknowns)
 }
 
 /// The templates of the points of a case, and the scopes of its unknowns, a line each.

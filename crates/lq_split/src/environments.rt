@@ -17,7 +17,7 @@ use lq_substitution::Scopes;
 use std::alloc::{AllocError, Global};
 
 /// The number of an environment in which the symbol has the type besides what is known in this one. The type may still have something to be
-/// done to it.
+/// done to it. What is looked at meanwhile is let go again.
 pub fn with_name(
     alloc: Global,
     list: &mut Implications,
@@ -38,6 +38,7 @@ pub fn with_name(
     ensures count { implication_count list.new ≡ implication_count list.old }
     ensures grows { Grows types.old types.new }
 {
+    let len = types.len();
     let exposed = types.expose(alloc, scopes, at)?;
     let name = TypedName {
         scopes,
@@ -52,6 +53,7 @@ pub fn with_name(
         symbol: _,
         at: _,
     } = name;
+    types.truncate(len);
     added
 }
 

@@ -1,7 +1,7 @@
-use Rattle.std.proofs.Common.{length, ap}
+use Rattle.std.proofs.Common.{ℕ, List, length, sym, ap, subst}
 use Rattle.lq_fresh.specs.Growing.{scope_kept}
 use Rattle.lq_fresh.specs.Views.{scope_at, scopes_of, unknowns_of}
-use Rattle.lq_fresh.proofs.Rows.{parts_end, rows_all}
+use Rattle.lq_fresh.proofs.Rows.{parts_end, rows_all, rows_begin, RowsDone}
 use Rattle.lq_points.specs.Templates.{all_emptied}
 use Rattle.lq_types.specs.Heads.{each}
 use Rattle.lq_types.specs.Nodes as types
@@ -9,6 +9,16 @@ use Rattle.lq_types.specs.Whole.{types_of}
 use Rattle.lq_fresh.specs.Wanted.{all_emptied_wanted, unmeasured}
 use Rattle.lq_fresh.proofs.Alone.{emptied_next, emptied_rest}
 use Rattle.lq_fresh.proofs.empty.each_emptied.Goals as goal
+
+pub loop-at-init : goal.loop-at-init
+loop-at-init c =
+    let D = c.args.given.now.datatypes.now in
+    let old = c.args.templates.now in
+    let F = types.at (types_of c.args.given.now.types.now) in
+    let ps = c.args.parts.now in
+    let Γ = scope_at old c.args.scope in
+    subst (λ (rs : List ℕ). RowsDone D old old rs (all_emptied_wanted (length (unknowns_of old)) Γ (each F ps)) (emptied_rest D F ps Γ 0))
+    (sym c.new-made.ensures.items) (rows_begin D old (emptied_rest D F ps Γ 0))
 
 pub loop-at-preserved : goal.loop-at-preserved
 loop-at-preserved c =

@@ -4,19 +4,20 @@ use Rattle.lq_annotated.specs.Whole as annotated
 use Rattle.lq_checks.specs.Listing.{implications_of}
 use Rattle.lq_checks.specs.Ready.{IsReady}
 use Rattle.lq_generate.specs.Refusing as generate
-use Rattle.lq_instances.specs.Instances.{total_count}
-use Rattle.lq_instances.specs.Views.{unknowns_view}
+use Rattle.lq_instances.specs.Instances.{all_instances_of, total_count}
+use Rattle.lq_instances.specs.Views.{measure_name}
 use Rattle.lq_normalize.specs.Made.{normal_view}
 use Rattle.lq_notes.specs.Noted.{annotation_of}
 use Rattle.lq_pointed.specs.BlockView.{program_view}
 use Rattle.lq_refinements.specs.Growing.{Extends-trans}
 use Rattle.lq_refinements.specs.Whole.{Grows}
 use Rattle.lq_scoped.specs.Views.{data_view}
+use Rattle.lq_shared_unknowns.specs.Views.{shared_view}
 use Rattle.lq_sorted.specs.Views.{measure_view, qualifier_view}
 use Rattle.lq_substitution.specs.Views.{scopes_view}
 use Rattle.lq_problem.specs.Posed.{basis_for, datatypes_of, read_of, unknowns_for}
 use Rattle.lq_problem.specs.Refusing.{IsRefused}
-use Rattle.lq_problem.proofs.Refused.{refused_as}
+use Rattle.lq_problem.proofs.Refused.{refused_as, refused_by_count}
 use Rattle.lq_problem.proofs.Standing.{basis_stands, basis_there, declared_same, rows_below, rows_kept, scopes_same, IsMadeFor}
 use Rattle.lq_problem.proofs.problem.pose.Goals as goal
 
@@ -68,6 +69,30 @@ generate-requires-clause-ready c =
     let P = basis_for s.datatypes ms n is in
     (P, stands, subst (IsReady P []) (sym (ap program_view c.deref-2.ensures.value ∙ c.in_ok-program.ensures.program)) c.requires.ready)
 
+pub returns-in_err-found-clause-refused : goal.returns-in_err-found-clause-refused
+returns-in_err-found-clause-refused c =
+    let m = c.args.noted.now in
+    let s = annotated.program_of m.program.annotated in
+    let ms = map measure_view c.args.measures.now in
+    let n = annotation_of m in
+    let is = (normal_view c.args.normal.now).items in
+    let t = c.in_ok-program.field-0.templates in
+    let rows = c.in_ok-program.field-0.rows.items in
+    let D = datatypes_of s.datatypes ms in
+    let made : IsMadeFor s.datatypes ms n is t rows = record {
+      templates_are = λ S. c.in_ok-program.ensures.templates D refl refl S;
+      unknowns_are = c.in_ok-program.ensures.unknowns D refl refl;
+      there = c.in_ok-program.ensures.there;
+    } in
+    let qs = map qualifier_view c.args.qualifiers.now in
+    let us = unknowns_for s.datatypes ms n is in
+    let all = implications_of (basis_for s.datatypes ms n is) [] (read_of n is) in
+    let p = err_from_is_err_and c.from_residual-in_err-found.result c.from_residual-in_err-found.ensures.1 in
+    let refused =
+    refused_by_count qs _ us all c.in_err-found.field-0.0 (ap shared_view c.into_parts-types.ensures.unknowns ∙ made.unknowns_are)
+    c.in_err-found.ensures.past in
+    subst (λ r. IfErr r (IsRefused qs us all)) (sym p.1) (subst (IsRefused qs us all) (sym p.2) refused)
+
 pub returns-in_err-generated-clause-refused : goal.returns-in_err-generated-clause-refused
 returns-in_err-generated-clause-refused c =
     let m = c.args.noted.now in
@@ -100,7 +125,7 @@ returns-in_err-generated-clause-refused c =
     let us = unknowns_for s.datatypes ms n is in
     let all = implications_of P [] (read_of n is) in
     let within =
-    subst (λ l. total_count qs l ≤ 262144) (ap unknowns_view c.into_parts-types.ensures.unknowns ∙ made.unknowns_are) c.in_ok-instances.ensures.within in
+    subst (λ l. total_count qs l ≤ 262144) (ap shared_view c.into_parts-types.ensures.unknowns ∙ made.unknowns_are) c.in_ok-found.ensures.within in
     let e = c.in_err-generated.field-0.0 in
     let same_program = ap program_view c.deref-2.ensures.value ∙ c.in_ok-program.ensures.program in
     let refused = subst (λ q. generate.IsRefused (implications_of P [] q) e) same_program (c.in_err-generated.ensures.refused P stands) in
@@ -165,6 +190,25 @@ returns-clause-scopes c =
     } in
     scopes_same s.datatypes ms n is t rows made c.into_parts-types.result.1 (scopes_view c.in_ok-scopes.scopes) c.into_parts-types.ensures.unknowns c.in_ok-scopes.ensures
 
+pub returns-clause-instances : goal.returns-clause-instances
+returns-clause-instances c =
+    let m = c.args.noted.now in
+    let s = annotated.program_of m.program.annotated in
+    let ms = map measure_view c.args.measures.now in
+    let n = annotation_of m in
+    let is = (normal_view c.args.normal.now).items in
+    let t = c.in_ok-program.field-0.templates in
+    let rows = c.in_ok-program.field-0.rows.items in
+    let D = datatypes_of s.datatypes ms in
+    let made : IsMadeFor s.datatypes ms n is t rows = record {
+      templates_are = λ S. c.in_ok-program.ensures.templates D refl refl S;
+      unknowns_are = c.in_ok-program.ensures.unknowns D refl refl;
+      there = c.in_ok-program.ensures.there;
+    } in
+    c.in_ok-instances.ensures ∙ c.in_ok-found.ensures.found
+    ∙ ap (all_instances_of (map measure_name c.args.measures.now) (map qualifier_view c.args.qualifiers.now))
+    (ap shared_view c.into_parts-types.ensures.unknowns ∙ made.unknowns_are)
+
 pub returns-clause-implications : goal.returns-clause-implications
 returns-clause-implications c =
     let m = c.args.noted.now in
@@ -225,6 +269,6 @@ returns-clause-few c =
     let qs = map qualifier_view c.args.qualifiers.now in
     let us = unknowns_for s.datatypes ms n is in
     let within =
-    subst (λ l. total_count qs l ≤ 262144) (ap unknowns_view c.into_parts-types.ensures.unknowns ∙ made.unknowns_are) c.in_ok-instances.ensures.within in
+    subst (λ l. total_count qs l ≤ 262144) (ap shared_view c.into_parts-types.ensures.unknowns ∙ made.unknowns_are) c.in_ok-found.ensures.within in
     let same_program = ap program_view c.deref-2.ensures.value ∙ c.in_ok-program.ensures.program in
     (within, subst (λ q. length (implications_of P [] q) ≤ 262144) same_program (c.in_ok-generated.ensures.few P stands))

@@ -1,12 +1,12 @@
 use Rattle.std.proofs.Common.{◌∙◌, [], ◌∷◌, ◌++◌, append-nil, sym, ap}
 use Rattle.lq_instances.specs.Scopes.{Scope, scope_in}
-use Rattle.lq_instances.specs.Views.{scopes_view}
 use Rattle.lq_refinements.specs.Growing.{Extends-refl}
+use Rattle.lq_shared_unknowns.specs.Views as shared
 use Rattle.lq_sorted.specs.Views.{shape_view}
 use Rattle.lq_templates.specs.Scopes.{with_symbol}
 use Rattle.lq_fresh.specs.Growing.{scope_pushed}
-use Rattle.lq_fresh.specs.Views.{scopes_of, shape_if, unknowns_of, Longer}
-use Rattle.lq_fresh.proofs.Adding.{symbol_spoken, views_kept}
+use Rattle.lq_fresh.specs.Views.{patterns_of, scopes_of, shape_if, unknowns_of, Longer}
+use Rattle.lq_fresh.proofs.Adding.{symbol_spoken}
 use Rattle.lq_fresh.proofs.templates.Templates.with_symbol.Goals as goal
 
 pub returns-in_ok-added-in-Some-clause-scope : goal.returns-in_ok-added-in-Some-clause-scope
@@ -24,11 +24,12 @@ pub returns-in_ok-added-in-Some-clause-made : goal.returns-in_ok-added-in-Some-c
 returns-in_ok-added-in-Some-clause-made c =
     let self = c.args.self.now in
     let old = scopes_of self in
-    let new = scopes_view c.add.new.self in
+    let new = shared.table_of c.add_scope.new.self in
     let X : Scope = scope_in old c.args.scope ++ (c.args.symbol, shape_view c.in-Some.shape) ∷ [] in
     let l : Longer old new = record { added = X ∷ []; is = c.in_ok-added-in-Some.ensures.added } in
     record {
       types = Extends-refl self.types.rows.items;
       scopes = l;
-      unknowns = views_kept old new self.unknowns.unknowns.items l self.inside ∙ sym (append-nil (unknowns_of self));
+      patterns = record { added = []; is = c.add_scope.ensures.patterns ∙ sym (append-nil (patterns_of self)) };
+      unknowns = c.add_scope.ensures.unknowns ∙ sym (append-nil (unknowns_of self));
     }
