@@ -6,84 +6,13 @@ ghost use Rattle.lq_pred.specs.NnfView.{nnfs_view};
 ghost use Rattle.lq_pred.specs.TermView.{sum_of};
 ghost use Rattle.lq_search.specs.Splits.{IsOpen};
 
+use crate::notes::FlagNotes;
 use crate::order::Order;
 use indexmap::IndexSet;
 use lq_case::PathState;
 use lq_path::{Choice, meets_any};
-use lq_pred::{Nnf, Nnfs, Term};
+use lq_pred::Term;
 use std::alloc::Global;
-
-/// Whether a literal never holds, or says of a flag the opposite of what facts say.
-fn is_refuted(state: &PathState, literal: &Nnf) -> bool {
-    match literal {
-        Nnf::No => true,
-        Nnf::Flag(flag, value) => match state.flag(*flag) {
-            Some(given) => given.value != *value,
-            None => false,
-        },
-        Nnf::Yes | Nnf::Row(_) | Nnf::Same(_, _, _) | Nnf::All(_) | Nnf::Any(_) => false,
-    }
-}
-
-/// Whether one of some literals is refuted.
-fn has_refuted(state: &PathState, literals: &Nnfs) -> bool {
-    for literal in literals.as_slice() {
-        if is_refuted(state, literal) {
-            return true;
-        }
-    }
-    false
-}
-
-/// Whether a member, or a part of it, is refuted.
-fn is_dead(state: &PathState, member: &Nnf) -> bool {
-    match member {
-        Nnf::All(all) => has_refuted(state, all),
-        Nnf::Yes | Nnf::No | Nnf::Row(_) | Nnf::Flag(_, _) | Nnf::Same(_, _, _) | Nnf::Any(_) => {
-            is_refuted(state, member)
-        }
-    }
-}
-
-/// Whether a member is a flag as facts say it, or always holds.
-fn is_known(state: &PathState, member: &Nnf) -> bool {
-    match member {
-        Nnf::Yes => true,
-        Nnf::Flag(flag, value) => match state.flag(*flag) {
-            Some(given) => given.value == *value,
-            None => false,
-        },
-        Nnf::No | Nnf::Row(_) | Nnf::Same(_, _, _) | Nnf::All(_) | Nnf::Any(_) => false,
-    }
-}
-
-/// Whether at most one member isn't dead, and none is known.
-pub(crate) fn is_forced(state: &PathState, members: &Nnfs) -> bool {
-    let mut alive = false;
-    for member in members.as_slice() {
-        if is_known(state, member) {
-            return false;
-        }
-        if !is_dead(state, member) {
-            if alive {
-                return false;
-            }
-            alive = true;
-        }
-    }
-    true
-}
-
-/// How many members aren't dead.
-fn count_alive(state: &PathState, members: &Nnfs) -> usize {
-    let mut count: usize = 0;
-    for member in members.as_slice() {
-        if !is_dead(state, member) {
-            count = count.saturating_add(1);
-        }
-    }
-    count
-}
 
 /// Whether no member of a choice was taken.
 pub(crate) fn is_open(choices: &[Choice<'_>], at: usize) -> bool
@@ -95,19 +24,21 @@ pub(crate) fn is_open(choices: &[Choice<'_>], at: usize) -> bool
 
 /// A choice of which no member was taken and at most one isn't dead: the first one at or behind a place, or else before it.
 pub(crate) fn forced_choice(
+    alloc: Global,
     state: &PathState,
     choices: &[Choice<'_>],
     start: usize,
 ) -> Option<usize>
     ensures { IfSome result (IsOpen choices.now) }
 {
+    let mut notes = FlagNotes::new(alloc);
     for at in start..choices.len() {
-        if is_open(choices, at) && is_forced(state, choices[at].members) {
+        if is_open(choices, at) && notes.forces(state, choices[at].members) {
             return Some(at);
         }
     }
     for at in 0..start.min(choices.len()) {
-        if is_open(choices, at) && is_forced(state, choices[at].members) {
+        if is_open(choices, at) && notes.forces(state, choices[at].members) {
             return Some(at);
         }
     }
@@ -123,13 +54,19 @@ struct Ranked {
 }
 
 /// How a choice ranks.
-fn rank_of(state: &PathState, choices: &[Choice<'_>], order: &Order, at: usize) -> Ranked
+fn rank_of(
+    notes: &mut FlagNotes,
+    state: &PathState,
+    choices: &[Choice<'_>],
+    order: &Order,
+    at: usize,
+) -> Ranked
     requires { at < length choices.now }
     ensures { result.at ≡ at }
 {
     Ranked {
         at,
-        alive: count_alive(state, choices[at].members),
+        alive: notes.count_alive(state, choices[at].members),
         weight: order.weight(at),
     }
 }
@@ -141,6 +78,7 @@ fn is_before(one: Ranked, other: Ranked) -> bool {
 
 /// The choice at a place where it is neither done nor met and comes before another one, which is open.
 fn better(
+    notes: &mut FlagNotes,
     state: &PathState,
     objects: &IndexSet<Term>,
     choices: &[Choice<'_>],
@@ -159,7 +97,7 @@ fn better(
     if !is_open(choices, at) {
         return best;
     }
-    let other = rank_of(state, choices, order, at);
+    let other = rank_of(notes, state, choices, order, at);
     if !is_before(other, best) || meets_any(state, objects, choices[at].members) {
         return best;
     }
@@ -169,6 +107,7 @@ fn better(
 /// Of an open choice and those behind it that aren't done or met: the first one of the heaviest of those with the fewest members that
 /// aren't dead.
 pub(crate) fn best_choice(
+    alloc: Global,
     state: &PathState,
     objects: &IndexSet<Term>,
     choices: &[Choice<'_>],
@@ -183,9 +122,10 @@ pub(crate) fn best_choice(
     requires within { first < length choices.now }
     ensures { IsOpen choices.now result }
 {
-    let mut best = rank_of(state, choices, order, first);
+    let mut notes = FlagNotes::new(alloc);
+    let mut best = rank_of(&mut notes, state, choices, order, first);
     for at in first + 1..choices.len() {
-        best = better(state, objects, choices, order, best, at);
+        best = better(&mut notes, state, objects, choices, order, best, at);
     }
     best.at
 }

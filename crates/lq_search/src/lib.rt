@@ -8,6 +8,7 @@ mod counting;
 mod givens;
 mod inner;
 mod laws;
+mod notes;
 mod open;
 mod opening;
 mod order;

@@ -11,6 +11,7 @@ use crate::choosing::best_choice;
 use crate::givens::Givens;
 use crate::opening::first_open;
 use crate::search_path::SearchPath;
+use std::alloc::Global;
 
 /// A choice or a pair of the path, by its place.
 #[derive(Clone, Copy)]
@@ -20,7 +21,7 @@ pub(crate) enum Open {
 }
 
 /// A choice, or else the first pair, of which no member was taken and none is known to be met.
-pub(crate) fn next_open(givens: &Givens<'_>, path: &SearchPath<'_>) -> Option<Open>
+pub(crate) fn next_open(alloc: Global, givens: &Givens<'_>, path: &SearchPath<'_>) -> Option<Open>
     requires given { AreGiven (scope_of givens.now) givens.now.pairs.now }
     requires ready { IsReady (scope_of givens.now) givens.now.pairs.now path.now }
     requires solved { is_solved path.now.state.rows ≡ true }
@@ -32,7 +33,14 @@ pub(crate) fn next_open(givens: &Givens<'_>, path: &SearchPath<'_>) -> Option<Op
 {
     let objects = givens.objects.as_set();
     if let Some(first) = first_open(&path.state, objects, &path.choices) {
-        let best = best_choice(&path.state, objects, &path.choices, &path.order, first);
+        let best = best_choice(
+            alloc,
+            &path.state,
+            objects,
+            &path.choices,
+            &path.order,
+            first,
+        );
         return Some(Open::Choice(best));
     }
     match first_open(&path.state, objects, &path.pairs) {

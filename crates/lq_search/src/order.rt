@@ -1,4 +1,5 @@
 // Which of the open choices is split first.
+use crate::branch::Split;
 use std::alloc::Global;
 
 const FIRST_GAIN: u64 = 1 << 10;
@@ -7,8 +8,8 @@ const LARGE_GAIN: u64 = 1 << 52;
 
 const SCALE: u64 = 1 << 40;
 
-/// How often splits of choices were refuted, by their places, where later ones count more, and the place of the last choice that was
-/// forced. These are numbers that choose between open choices, and no clause speaks of them.
+/// How often splits of choices were refuted by a tree for each member, by their places, where later ones count more, and the place of the
+/// last choice that was forced. These are numbers that choose between open choices, and no clause speaks of them.
 #[derive(Drop)]
 pub struct Order {
     weights: Vec<u64>,
@@ -45,8 +46,17 @@ impl Order {
         }
     }
 
-    /// Makes the choice at a place heavier. Where memory is wanting it stays as it is.
-    pub(crate) fn add(&mut self, at: usize) {
+    /// The split of the choice at a place was refuted, which makes the choice heavier where each member has a tree of its own: a choice of
+    /// which no member is used has no part in what was refuted.
+    pub(crate) fn refuted(&mut self, at: usize, split: &Split) {
+        match split {
+            Split::Each(_) => self.add(at),
+            Split::Whole(_) => (),
+        }
+    }
+
+    // Makes the choice at a place heavier. Where memory is wanting it stays as it is.
+    fn add(&mut self, at: usize) {
         for _ in self.weights.len()..at.saturating_add(1) {
             let Ok(()) = self.weights.push(0) else {
                 return;

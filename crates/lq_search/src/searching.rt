@@ -15,7 +15,7 @@ ghost use Rattle.lq_search.specs.Splits.{IsOpen};
 ghost use Rattle.lq_search.specs.Stopping.{HandsFrom, ReachesFrom, StopsFrom};
 
 use crate::branch::{Branch, Split, any_tree, apart_tree, branch_of, leaf_around, tree_around};
-use crate::choosing::{forced_choice, is_forced};
+use crate::choosing::forced_choice;
 use crate::counting::Counts;
 use crate::givens::Givens;
 use crate::open::{Open, next_open};
@@ -90,14 +90,14 @@ fn search_on<'a>(
         givens.now.pairs.now path.old) }
 {
     path.state.facts_are_few();
-    if let Some(at) = forced_choice(&path.state, &path.choices, path.order.forced()) {
-        return split_choice(alloc, givens, path, at);
+    if let Some(at) = forced_choice(alloc, &path.state, &path.choices, path.order.forced()) {
+        return split_choice(alloc, givens, path, at, true);
     }
     if let Some(clash) = path.state.check()? {
         return Ok(Some(ProofTree::Leaf(clash)));
     }
-    match next_open(givens, path) {
-        Some(Open::Choice(at)) => split_choice(alloc, givens, path, at),
+    match next_open(alloc, givens, path) {
+        Some(Open::Choice(at)) => split_choice(alloc, givens, path, at, false),
         Some(Open::Pair(at)) => split_probed(alloc, givens, path, at),
         None => Ok(None),
     }
@@ -131,13 +131,14 @@ fn split_probed<'a>(
     split_pair(alloc, givens, path, at)
 }
 
-/// Splits a choice of which no member was taken.
+/// Splits a choice of which no member was taken, and which may be forced.
 #[cycle(search)]
 fn split_choice<'a>(
     alloc: Global,
     givens: &Givens<'a>,
     path: &mut SearchPath<'a>,
     at: usize,
+    is_forced: bool,
 ) -> Result<Option<ProofTree>, LinearStop>
     requires given { AreGiven (scope_of givens.now) givens.now.pairs.now }
     requires ready { IsReady (scope_of givens.now) givens.now.pairs.now path.old }
@@ -155,12 +156,12 @@ fn split_choice<'a>(
         givens.now.pairs.now path.old) }
 {
     let members = path.choices[at].members;
-    path.order.split(at, is_forced(&path.state, members));
+    path.order.split(at, is_forced);
     set_done(&mut path.choices, at, true);
     match refute_each(alloc, givens, path, members)? {
         Some(split) => {
             set_done(&mut path.choices, at, false);
-            path.order.add(at);
+            path.order.refuted(at, &split);
             Ok(Some(any_tree(at, split)))
         }
         None => Ok(None),
