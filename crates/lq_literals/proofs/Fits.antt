@@ -8,7 +8,7 @@ use Rattle.lq_pred.specs.Comparison.{Comparison, CanGather}
 use Rattle.lq_pred.specs.Formula.{Formula, truth, falsity, flag, compare, objects, negation, conjunction, disjunction, equivalence}
 use Rattle.lq_pred.specs.Literals.{Signs, positive, negative, both, opposite, comparisons_of, comparisons_in, literals_of, each_literals, implication_literals, all_pairs}
 use Rattle.lq_pred.specs.Reading.{Reading, yes, no, row, flag_is, objects_are, all_of, any_of, Readings, none, more, AllFitIn, EachFits, reading_of, comparison_reading}
-use Rattle.lq_literals.specs.Gathered.{CanBeGathered, AllGathered}
+use Rattle.lq_literals.specs.Gathered.{CanBeGathered, AllGathered, PredicatesGather}
 use Rattle.lq_literals.specs.Leaves.{Leaf, leaves_of, each_leaves, leaves_in}
 use Rattle.lq_literals.specs.Sources.{Source, leaf_source, row_source, sources_of, literals_in}
 
@@ -101,6 +101,12 @@ all_gathered (s ∷ ss) h =
 pub sources_gathered : (i : ClosedImplication) → AllGathered (sources_of i) ↔ CanBeGathered i
 sources_gathered i =
     (λ h. subst (All CanGather) (sources_literals i) (gathered_all (sources_of i) h), λ h. all_gathered (sources_of i) (subst (All CanGather) (sym (sources_literals i)) h))
+
+-- the leaves have the literals of the predicates
+pub predicates_gathered : (i : ClosedImplication) → PredicatesGather i → AllGathered (map leaf_source (leaves_in i))
+predicates_gathered i h =
+    all_gathered (map leaf_source (leaves_in i))
+    (subst (All CanGather) (sym (two_are (each_leaves i.hypotheses) (leaves_of negative i.goal) _ _ (of_each i.hypotheses) (of_formula negative i.goal))) h)
 
 -- ---- a formula, with the signs with which it is read
 

@@ -3,12 +3,16 @@ use Rattle.std.specs.Prelude.{◌≡◌, ◌+◌, ℕ, List, [], ◌∷◌, ◌+
 use Rattle.lq_pred.specs.Comparison.{Comparison, CanGather, row_constant}
 use Rattle.lq_pred.specs.ClosedImplication.{ClosedImplication}
 use Rattle.lq_pred.specs.Formula.{Formula}
-use Rattle.lq_pred.specs.Literals.{implication_literals}
+use Rattle.lq_pred.specs.Literals.{each_literals, implication_literals, literals_of, negative}
 use Rattle.lq_literals.specs.Sources.{Source}
 
 -- each literal of the implication can be gathered
 abbrev pub CanBeGathered : ClosedImplication → Type 0
 CanBeGathered i = All CanGather (implication_literals i)
+
+-- each literal of the hypotheses and of the negated goal can be gathered, whatever the rows for applications
+abbrev pub PredicatesGather : ClosedImplication → Type 0
+PredicatesGather i = All CanGather (each_literals i.hypotheses ++ literals_of negative i.goal)
 
 -- each literal of each of these predicates can be gathered
 abbrev pub AllGathered : List Source → Type 0

@@ -12,4 +12,4 @@ mod ungathered;
 pub use copying::{copy_implication, copy_row};
 pub use laws::sources_have_the_literals;
 pub use parts::{applications, flags, objects};
-pub use ungathered::first_past;
+pub use ungathered::{first_past, first_past_application};

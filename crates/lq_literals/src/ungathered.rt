@@ -1,10 +1,12 @@
 // The first comparison of an implication that can't be gathered.
 ghost use Rattle.std.specs.Prelude.{◌≡◌, All, IsTrue, IfOk, IfSome, IfNone, true, false, map};
+ghost use Rattle.lq_pred.specs.ClosedImplication.{ClosedImplication, terms_in};
 ghost use Rattle.lq_pred.specs.Comparison.{CanGather};
 ghost use Rattle.lq_pred.specs.Literals.{literals_of};
 ghost use Rattle.lq_pred.specs.PredView.{formula_of, implication_of};
 ghost use Rattle.lq_pred.specs.Reading.{reading_of, AllFitIn};
-ghost use Rattle.lq_literals.specs.Gathered.{CanBeGathered, AllGathered, IsFirstPast};
+ghost use Rattle.lq_pred.specs.TableView.{terms_of};
+ghost use Rattle.lq_literals.specs.Gathered.{CanBeGathered, AllGathered, IsFirstPast, PredicatesGather};
 ghost use Rattle.lq_literals.specs.LeafView.{leaf_view, leaf_views};
 ghost use Rattle.lq_literals.specs.Sources.{leaf_source, sources_of};
 
@@ -100,4 +102,16 @@ pub fn first_past(alloc: Global, implication: &Closed) -> Result<Option<Pred>, A
     }
     let terms = implication.terms(alloc)?;
     first_past_pair(alloc, &terms, &mut table)
+}
+
+/// The first predicate of an implication whose predicates can all be gathered: `a = b` for two applications of one function, or `a < b` where
+/// a gets the 1. The terms are those of the implication. None is the answer exactly where each literal can be gathered.
+pub fn first_past_application(alloc: Global, terms: &TermTable) -> Result<Option<Pred>, AllocError>
+    ensures some { IfOk result (λ found. IfSome found (λ pred. (i : ClosedImplication) → terms_of terms.now ≡ terms_in i
+        → PredicatesGather i → IsFirstPast (sources_of i) (formula_of pred))) }
+    ensures none { IfOk result (λ found. IfNone found ((i : ClosedImplication) → terms_of terms.now ≡ terms_in i
+        → PredicatesGather i → CanBeGathered i)) }
+{
+    let mut table = TermTable::new(alloc)?;
+    first_past_pair(alloc, terms, &mut table)
 }
