@@ -1,13 +1,13 @@
 -- A reading that is both of two.
 use Rattle.std.proofs.Common.{◌≡◌, ℕ, zero, suc, List, [], ◌∷◌, ◌++◌, Some, get_or, length, map, slice_get, sym, ap₂, subst, arith}
-use Rattle.lq_combine.specs.Path.{Path, row_fact, taken}
+use Rattle.lq_combine.specs.Path.{Path, row_fact}
 use Rattle.lq_linear.specs.Row.{Row}
 use Rattle.lq_path.specs.SearchPath.{Begins}
 use Rattle.lq_pred.specs.NnfView.{nnf_view, readings_of}
 use Rattle.lq_pred.specs.Reading.{Readings, more, none}
 use Rattle.lq_pred.specs.Sum.{Sum}
 use Rattle.lq_pred.specs.declared.nnf.Nnf.{Nnf}
-use Rattle.lq_search.specs.Stopping.{MayTake, of_choice, of_equation, of_fact, of_way}
+use Rattle.lq_search.specs.Stopping.{of_choice, of_equation, of_fact, of_way}
 use Rattle.lq_search.proofs.Stops.{TakesNoMore}
 
 pub two_seen : (items : List Nnf) (a b : Nnf) → length items ≡ 2 → a ≡ get_or items 0 a → b ≡ get_or items 1 b → readings_of (map nnf_view items) ≡ more (nnf_view a) (more (nnf_view b) none)

@@ -1,11 +1,16 @@
 -- The opening path of an implication is that of all of its readings.
-use Rattle.std.proofs.Common.{◌≡◌, List, [], ◌∷◌, ◌++◌, true, false, refl, sym, ap, subst, ◌∙◌}
+use Rattle.std.proofs.Common.{◌≡◌, List, [], ◌∷◌, ◌++◌, All, true, false, refl, sym, ap, subst, ◌∙◌}
+use Rattle.std.proofs.lemmas.List.Elements.{All-append}
 use Rattle.lq_combine.specs.Path.{AreReadings, IsOpening, Path, each_taken, list_taken, nothing, taken}
 use Rattle.lq_linear.specs.Row.{Row}
+use Rattle.lq_literals.specs.Gathered.{PredicatesGather}
+use Rattle.lq_literals.proofs.Fits.{all_left, all_right, fit}
 use Rattle.lq_pred.specs.ClosedImplication.{ClosedImplication}
+use Rattle.lq_pred.specs.Comparison.{CanGather}
 use Rattle.lq_pred.specs.Formula.{Formula}
+use Rattle.lq_pred.specs.Literals.{each_literals, literals_of, negative, positive}
 use Rattle.lq_pred.specs.NnfView.{readings_of}
-use Rattle.lq_pred.specs.Reading.{Gathers, Reading, reading_of}
+use Rattle.lq_pred.specs.Reading.{AllFitIn, Gathers, Reading, reading_of}
 use Rattle.lq_pred.specs.Sum.{Sum}
 use Rattle.lq_search.specs.Scope.{AreWithin, IsWithin, Scope}
 use Rattle.lq_prove.specs.Openings.{IsOpeningReading}
@@ -30,6 +35,17 @@ readings_push terms [] [] p r a g = (g, tt)
 readings_push terms (q ∷ ps) (x ∷ rs) p r a g = (a.0, readings_push terms ps rs p r a.1 g)
 readings_push terms [] (x ∷ rs) p r a g = absurd a
 readings_push terms (q ∷ ps) [] p r a g = absurd a
+
+-- the literals of one predicate more
+pub literals_push : (ps : List Formula) (p : Formula) → All CanGather (each_literals ps) → AllFitIn (reading_of true p) → All CanGather (each_literals (ps ++ p ∷ []))
+literals_push [] p h f = All-append CanGather (literals_of positive p) [] ((fit p).as_true.1 f) h
+literals_push (q ∷ ps) p h f =
+    All-append CanGather (literals_of positive q) (each_literals (ps ++ p ∷ [])) (all_left CanGather (literals_of positive q) (each_literals ps) h)
+    (literals_push ps p (all_right CanGather (literals_of positive q) (each_literals ps) h) f)
+
+-- and those of the negated goal
+pub predicates_gather : (i : ClosedImplication) → All CanGather (each_literals i.hypotheses) → AllFitIn (reading_of false i.goal) → PredicatesGather i
+predicates_gather i h f = All-append CanGather (each_literals i.hypotheses) (literals_of negative i.goal) h ((fit i.goal).as_false.1 f)
 
 each_within : RowsAreWithin → (s : Scope) (ps : List Formula) (rs : List (Reading Row)) → EachHasNames s ps → AreReadings s.terms ps rs → AreWithin s (readings_of rs)
 each_within w s [] [] h a = tt

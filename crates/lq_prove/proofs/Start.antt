@@ -1,6 +1,6 @@
 -- A path without facts and choices, on which no way of a pair was taken.
-use Rattle.std.proofs.Common.{◌≡◌, ℕ, List, [], ◌∷◌, All, Bool, true, false, ◌⊎◌, inl, inr, length, sym, ap, ap₂, subst, ◌∙◌, arith}
-use Rattle.std.proofs.lemmas.List.Elements.{All-cons, All-head, All-nil, All-same, All-tail}
+use Rattle.std.proofs.Common.{◌≡◌, ℕ, List, [], All, false, length, sym, ap, ap₂, subst, ◌∙◌, arith}
+use Rattle.std.proofs.lemmas.List.Elements.{All-nil, All-same}
 use Rattle.lq_case.specs.PathState.{PathState, facts_in, objects_in}
 use Rattle.lq_case.specs.RowState.{terms_of as row_terms}
 use Rattle.lq_combine.specs.Path.{nothing}
@@ -8,19 +8,17 @@ use Rattle.lq_combine.specs.Proves.{rows_among}
 use Rattle.lq_diff.specs.Table.{constants}
 use Rattle.lq_equating.specs.Naming.{AllTold, name_in}
 use Rattle.lq_equating.proofs.Told.{all_told_none}
-use Rattle.lq_linear.specs.Row.{Valuation}
 use Rattle.lq_path.specs.SearchPath.{choices_of}
 use Rattle.lq_path.specs.declared.choice.Choice.{Choice}
 use Rattle.lq_pred.specs.NnfView.{nnfs_view}
-use Rattle.lq_pred.specs.Points.{Point}
 use Rattle.lq_pred.specs.Sum.{Sum}
 use Rattle.lq_search.specs.Scope.{AllMayHold, AreWithin, Scope}
 use Rattle.lq_search.specs.SearchPath.{IsMet, IsReady, path_of, ways_of}
 use Rattle.lq_search.specs.Sizes.{most_of_each}
-use Rattle.lq_search.specs.Splits.{IsDoneOrMet}
 use Rattle.lq_search.specs.Stopping.{most_on, most_open}
 use Rattle.lq_search.specs.declared.pair.Pair.{Pair}
 use Rattle.lq_search.specs.declared.search_path.SearchPath.{SearchPath}
+use Rattle.lq_search.proofs.Ready.{open_met}
 use Rattle.lq_search.proofs.Sizes.{most_open-open}
 
 pub record IsStart (s : Scope) (pairs : List Pair) (p : SearchPath) : Type 0 where
@@ -41,17 +39,6 @@ start_by s pairs state p e facts terms count choices ways still = record {
   pairs_are = ways;
   open_still = still;
 }
-
-open_met : (v : Valuation) (p : Point) (cs : List Choice) → All (λ (c : Choice). c.is_done ≡ false) cs → All (IsDoneOrMet v p) cs → All (IsMet v p) cs
-open_met v p [] o h = All-nil (IsMet v p)
-open_met v p (c ∷ cs) o h =
-    All-cons (IsMet v p) c cs (by c.is_done (All-head (λ (x : Choice). x.is_done ≡ false) c cs o) (All-head (IsDoneOrMet v p) c cs h))
-    (open_met v p cs (All-tail (λ (x : Choice). x.is_done ≡ false) c cs o) (All-tail (IsDoneOrMet v p) c cs h))
-  where
-    by : (b : Bool) → b ≡ false → (b ≡ true) ⊎ IsMet v p c → IsMet v p c
-    by true e d = cc
-    by false e (inl f) = cc
-    by false e (inr m) = m
 
 pub start_path : (s : Scope) (pairs : List Pair) (p : SearchPath) → IsStart s pairs p → path_of s p ≡ nothing
 start_path s pairs p h = ap₂ (λ f c. record { facts = f; choices = c }) (h.facts (name_in s.objects)) (ap choices_of h.choices_are)

@@ -22,7 +22,7 @@ use Rattle.lq_pred.specs.Formula.{Formula}
 use Rattle.lq_pred.specs.Literals.{all_pairs, comparisons_of, each_literals, implication_literals, literals_of, negative, pair_rows, positive}
 use Rattle.lq_pred.specs.NnfView.{nnfs_view, readings_of}
 use Rattle.lq_pred.specs.PredView.{formula_of}
-use Rattle.lq_pred.specs.Reading.{Gathers, Reading, Readings, more, none, reading_of, row}
+use Rattle.lq_pred.specs.Reading.{Reading, Readings, more, none, reading_of, row}
 use Rattle.lq_pred.specs.Sum.{Sum}
 use Rattle.lq_pred.specs.declared.pred.Pred.{Pred}
 use Rattle.lq_pred.specs.declared.pred.Stop.{Stop}
@@ -36,7 +36,8 @@ use Rattle.lq_search.specs.declared.pair.Pair.{Pair}
 use Rattle.lq_search.proofs.PairSizes.{condition_of, sizes-append}
 use Rattle.lq_search.proofs.Stops.{choice_has, fact_has}
 use Rattle.lq_prove.specs.Openings.{IsOpeningReading}
-use Rattle.lq_prove.specs.Stopping.{AreItsFacts, IsDifferenceImplication, IsItsRow, IsPointStop, IsRowIn, IsSmallDifference, IsSpentOn, IsStopOf, StopsOnFacts, StopsProving, StopsSmall}
+use Rattle.lq_prove.specs.Small.{IsNoNumber}
+use Rattle.lq_prove.specs.Stopping.{AreItsFacts, IsDifferenceImplication, IsItsRow, IsPointStop, IsRowIn, IsSmallDifference, IsSpentOn, IsStopOf, StopsOnFacts, StopsProving, StopsReading, StopsSmall}
 use Rattle.lq_prove.proofs.Literals.{equation_row, gathered_most, gathered_row, pair_among, row_in_more, under_sign}
 
 -- ---- the sizes of the opening reading
@@ -256,3 +257,17 @@ small_stops limit i Memory h s = tt
 pub if_small : {X : Type 0} (limit : ℕ) (i : ClosedImplication) (r : Result X Stop) → IfErr r (StopsProving limit i) → IfErr r (λ stop. IsSmallDifference i → StopsSmall stop)
 if_small {X} limit i (Ok x) h = tt
 if_small {X} limit i (Err stop) h = small_stops limit i stop h
+
+-- ---- stops before anything is proved
+
+pub reading_stops : (limit : ℕ) (i : ClosedImplication) (stop : Stop) → StopsReading i stop → StopsProving limit i stop
+reading_stops limit i (Gather p) h = h
+reading_stops limit i (Number e) h = absurd h
+reading_stops limit i (Pivots k) h = absurd h
+reading_stops limit i Memory h = tt
+
+pub reading_small : (i : ClosedImplication) (stop : Stop) → StopsReading i stop → StopsSmall stop × IsNoNumber stop
+reading_small i (Gather p) h = (tt, tt)
+reading_small i (Number e) h = absurd h
+reading_small i (Pivots k) h = absurd h
+reading_small i Memory h = (tt, tt)

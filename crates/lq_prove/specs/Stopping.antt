@@ -121,6 +121,13 @@ StopsProving limit i (Number e) = CanBeGathered i × (StopsOnFacts limit i (line
 StopsProving limit i (Pivots k) = CanBeGathered i × (IsDifferenceImplication i → ⊥) × (k ≡ limit) × IsSpentOn limit i
 StopsProving limit i Memory = Unit {0}
 
+-- before anything is proved: the first predicate that can't be gathered, or want of memory
+abbrev pub StopsReading : ClosedImplication → Stop → Type 0
+StopsReading i (Gather p) = IsFirstPast (sources_of i) (formula_of p)
+StopsReading i (Number e) = ⊥
+StopsReading i (Pivots k) = ⊥
+StopsReading i Memory = Unit {0}
+
 -- a stop of an engine is that of a proof
 abbrev pub IsStopOf : LinearStop → Stop → Type 0
 IsStopOf (linear.Number e) (Number f) = e ≡ f

@@ -9,5 +9,6 @@ mod readings;
 mod standing;
 
 pub use answer::Answer;
+pub use names::object_table;
 pub use proving::{prove, valid};
-pub use standing::{Asked, Standing};
+pub use standing::{Asked, Ended, Standing};

@@ -18,7 +18,7 @@ fn named_at(named: &IndexSet<Term>, at: usize) -> &Term
 }
 
 /// Those of which terms are lengths or measures, and the named ones.
-pub(crate) fn object_table(
+pub fn object_table(
     alloc: Global,
     named: &IndexSet<Term>,
     table: &TermTable,

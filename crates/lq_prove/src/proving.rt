@@ -14,7 +14,7 @@ ghost use Rattle.lq_pred.specs.TableView.{terms_of};
 ghost use Rattle.lq_prove.specs.Answers.{IfFails, IfValid, IsCounterexample, IsReadable, ProvesImplication};
 ghost use Rattle.lq_prove.specs.Openings.{IsOpeningReading};
 ghost use Rattle.lq_prove.specs.Small.{IsNoNumber, IsSmallImplication};
-ghost use Rattle.lq_prove.specs.Stopping.{IsSmallDifference, IsStopOf, StopsProving, StopsSmall};
+ghost use Rattle.lq_prove.specs.Stopping.{IsSmallDifference, IsStopOf, StopsProving, StopsReading, StopsSmall};
 ghost use Rattle.lq_prove.specs.Standing.{IsStanding};
 ghost use Rattle.lq_search.specs.Pairs.{AreAllPairs, AreOrdered};
 ghost use Rattle.lq_search.specs.Scope.{IsWithin};
@@ -29,7 +29,7 @@ use crate::readings::{halves, opening_reading};
 use crate::standing::{Asked, Standing};
 use lq_combine::proved_implications_are_valid;
 use lq_linear::LinearStop;
-use lq_literals::{first_past, flags, objects, sources_have_the_literals};
+use lq_literals::{first_past, first_past_application, flags, objects, sources_have_the_literals};
 use lq_pred::{Closed, Nnf, Stop, TermTable, rows_say_what_comparisons_say};
 use lq_search::{Givens, all_pairs};
 use lq_small::{rows_are_there, small_rows_fit};
@@ -83,7 +83,7 @@ fn prove_standing<'a>(
     };
     match asked {
         Asked::Proved(tree, _) => Ok(Answer::Valid(tree)),
-        Asked::Open(met) => match point_of(alloc, implication, reading, givens, &met) {
+        Asked::Open(ended) => match point_of(alloc, implication, reading, givens, &ended.path) {
             Ok(point) => Ok(Answer::Fails(point)),
             Err(stop) => Err(stop),
         },
@@ -207,17 +207,35 @@ pub fn prove(
     prove_given(alloc, implication, reading, &givens, limit)
 }
 
-/// The same by the implication alone, each literal of which can be gathered. No term has two numbers.
-fn prove_gathered(alloc: Global, implication: &Closed, limit: u64) -> Result<Answer, Stop>
-    requires gathers { CanBeGathered (implication_of implication.now) }
-    ensures tree { IfOk result (λ answer. IfValid answer (λ t. ProvesImplication (implication_of implication.now)
-        (tree_view t))) }
-    ensures point { IfOk result (λ answer. IfFails answer (λ p. IsCounterexample (implication_of implication.now)
-        (as_point p))) }
-    ensures readable { IfOk result (λ answer. IfFails answer (IsReadable (implication_of implication.now))) }
+/// What is made of an implication before it is proved: the reading of its hypotheses and its negated goal, and two tables of its terms.
+#[derive(Drop)]
+struct Gathered {
+    reading: Nnf,
+    table: TermTable,
+    copied: TermTable,
+}
+
+/// Why an implication isn't proved of which some literal can't be gathered.
+fn first_stop(alloc: Global, implication: &Closed) -> Stop
+    requires { CanBeGathered (implication_of implication.now) → ⊥ }
+    ensures { StopsReading (implication_of implication.now) result }
+{
+    match first_past(alloc, implication) {
+        Ok(Some(pred)) => Stop::Gather(pred),
+        Ok(None) => unreachable!(),
+        Err(AllocError) => Stop::Memory,
+    }
+}
+
+/// What is made of an implication each literal of which can be gathered. No term has two numbers.
+fn gather_implication(alloc: Global, implication: &Closed) -> Result<Gathered, Stop>
+    ensures gathers { OnOk result (CanBeGathered (implication_of implication.now)) }
+    ensures terms { IfOk result (λ g. terms_of g.table ≡ terms_in (implication_of implication.now)) }
+    ensures copied { IfOk result (λ g. terms_of g.copied ≡ terms_in (implication_of implication.now)) }
+    ensures opening { IfOk result (λ g. IsOpeningReading (terms_in (implication_of implication.now))
+        (implication_of implication.now) (nnf_view g.reading)) }
     ensures distinct { OnOk result (IsTrue (all_differ (terms_in (implication_of implication.now)))) }
-    ensures stop { IfErr result (StopsProving limit (implication_of implication.now)) }
-    ensures fits { IfErr result (λ stop. IsSmallImplication (implication_of implication.now) → IsNoNumber stop) }
+    ensures stop { IfErr result (StopsReading (implication_of implication.now)) }
 {
     let Ok(table) = implication.terms(alloc) else {
         return Err(Stop::Memory);
@@ -226,10 +244,19 @@ fn prove_gathered(alloc: Global, implication: &Closed, limit: u64) -> Result<Ans
     let Ok(mut copied) = implication.terms(alloc) else {
         return Err(Stop::Memory);
     };
-    let Ok(reading) = opening_reading(alloc, implication, &mut copied) else {
-        return Err(Stop::Memory);
-    };
-    prove(alloc, implication, &reading, &table, copied, limit)
+    match opening_reading(alloc, implication, &mut copied) {
+        Ok(Some(reading)) => match first_past_application(alloc, &table) {
+            Ok(Some(pred)) => Err(Stop::Gather(pred)),
+            Ok(None) => Ok(Gathered {
+                reading,
+                table,
+                copied,
+            }),
+            Err(AllocError) => Err(Stop::Memory),
+        },
+        Ok(None) => Err(first_stop(alloc, implication)),
+        Err(AllocError) => Err(Stop::Memory),
+    }
 }
 
 /// Whether an implication is valid: with a tree that proves it, or with a point that meets its hypotheses and its negated goal. Where a
@@ -249,9 +276,14 @@ pub fn valid(alloc: Global, implication: &Closed, limit: u64) -> Result<Answer, 
 {
     proved_implications_are_valid();
     sources_have_the_literals();
-    match first_past(alloc, implication) {
-        Ok(Some(pred)) => Err(Stop::Gather(pred)),
-        Ok(None) => prove_gathered(alloc, implication, limit),
-        Err(AllocError) => Err(Stop::Memory),
+    match gather_implication(alloc, implication) {
+        Ok(
+            Gathered {
+                reading,
+                table,
+                copied,
+            },
+        ) => prove(alloc, implication, &reading, &table, copied, limit),
+        Err(stop) => Err(stop),
     }
 }

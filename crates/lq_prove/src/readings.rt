@@ -1,6 +1,6 @@
 // The tightened readings of an implication.
-ghost use Rattle.std.specs.Prelude.{◌≡◌, IfOk, IfSome, OnOk};
-ghost use Rattle.lq_literals.specs.Gathered.{CanBeGathered};
+ghost use Rattle.std.specs.Prelude.{◌≡◌, IfNone, IfOk, IfSome, OnSome};
+ghost use Rattle.lq_literals.specs.Gathered.{CanBeGathered, PredicatesGather};
 ghost use Rattle.lq_pred.specs.ClosedImplication.{terms_in};
 ghost use Rattle.lq_pred.specs.NnfView.{nnf_view};
 ghost use Rattle.lq_pred.specs.PredView.{formula_of, implication_of};
@@ -11,23 +11,24 @@ ghost use Rattle.lq_prove.specs.Openings.{IsOpeningReading};
 use lq_pred::{Closed, GatherError, Nnf, Nnfs, Pred, TermTable, tighten};
 use std::alloc::{AllocError, Global};
 
-/// The reading of a predicate, or of its negation, whose terms the table has.
+/// The reading of a predicate, or of its negation, whose terms the table has, and None where a comparison in it can't be gathered.
 fn read(
     alloc: Global,
     pred: &Pred,
     positive: bool,
     table: &mut TermTable,
-) -> Result<Nnf, AllocError>
-    requires numbered { formula_numbered (terms_of table.old) (formula_of pred.now) ≡ terms_of table.old }
-    requires fits { AllFitIn (reading_of positive (formula_of pred.now)) }
-    ensures same { OnOk result (terms_of table.new ≡ terms_of table.old) }
-    ensures reading { IfOk result (λ reading. Gathers (terms_of table.old) (reading_of positive (formula_of pred.now))
-        (nnf_view reading)) }
+) -> Result<Option<Nnf>, AllocError>
+    requires { formula_numbered (terms_of table.old) (formula_of pred.now) ≡ terms_of table.old }
+    ensures same { IfOk result (λ found. OnSome found (terms_of table.new ≡ terms_of table.old)) }
+    ensures reading { IfOk result (λ found. IfSome found (λ reading. Gathers (terms_of table.old)
+        (reading_of positive (formula_of pred.now)) (nnf_view reading))) }
+    ensures fits { IfOk result (λ found. OnSome found (AllFitIn (reading_of positive (formula_of pred.now)))) }
+    ensures past { IfOk result (λ found. IfNone found (AllFitIn (reading_of positive (formula_of pred.now)) → ⊥)) }
 {
     match tighten(alloc, pred, positive, table) {
-        Ok(reading) => Ok(reading),
+        Ok(reading) => Ok(Some(reading)),
+        Err(GatherError::Past) => Ok(None),
         Err(GatherError::Memory) => Err(AllocError),
-        Err(GatherError::Past) => unreachable!(),
     }
 }
 
@@ -60,22 +61,29 @@ pub(crate) fn halves(reading: &Nnf) -> Option<(&Nnf, &Nnf)>
     }
 }
 
-/// All of the readings of the hypotheses and the reading of the negated goal, over the terms of the implication, which the table has.
+/// All of the readings of the hypotheses and the reading of the negated goal, over the terms of the implication, which the table has. None is
+/// the answer where a comparison in them can't be gathered.
 pub(crate) fn opening_reading(
     alloc: Global,
     implication: &Closed,
     table: &mut TermTable,
-) -> Result<Nnf, AllocError>
-    requires gathers { CanBeGathered (implication_of implication.now) }
-    requires table { terms_of table.old ≡ terms_in (implication_of implication.now) }
-    ensures same { OnOk result (terms_of table.new ≡ terms_of table.old) }
-    ensures opening { IfOk result (λ reading. IsOpeningReading (terms_in (implication_of implication.now))
-        (implication_of implication.now) (nnf_view reading)) }
+) -> Result<Option<Nnf>, AllocError>
+    requires { terms_of table.old ≡ terms_in (implication_of implication.now) }
+    ensures same { IfOk result (λ found. OnSome found (terms_of table.new ≡ terms_of table.old)) }
+    ensures opening { IfOk result (λ found. IfSome found (λ reading. IsOpeningReading (terms_in (implication_of implication.now))
+        (implication_of implication.now) (nnf_view reading))) }
+    ensures gathers { IfOk result (λ found. OnSome found (PredicatesGather (implication_of implication.now))) }
+    ensures past { IfOk result (λ found. IfNone found (CanBeGathered (implication_of implication.now) → ⊥)) }
 {
     let mut hypotheses = Nnfs::new(alloc)?;
     for pred in implication.hypotheses.as_slice() {
-        hypotheses.push(read(alloc, pred, true, table)?)?;
+        match read(alloc, pred, true, table)? {
+            Some(reading) => hypotheses.push(reading)?,
+            None => return Ok(None),
+        }
     }
-    let goal = read(alloc, &implication.goal, false, table)?;
-    Ok(both(alloc, Nnf::All(hypotheses), goal)?)
+    match read(alloc, &implication.goal, false, table)? {
+        Some(goal) => Ok(Some(both(alloc, Nnf::All(hypotheses), goal)?)),
+        None => Ok(None),
+    }
 }

@@ -6,9 +6,12 @@ ghost use Rattle.lq_combine.specs.Path.{nothing, taken};
 ghost use Rattle.lq_combine.specs.Proves.{Proves};
 ghost use Rattle.lq_combine.specs.TreeView.{tree_view};
 ghost use Rattle.lq_equating.specs.Equating.{numbering_by};
+ghost use Rattle.lq_linear.specs.Row.{Row};
 ghost use Rattle.lq_pred.specs.NnfView.{nnf_view};
+ghost use Rattle.lq_pred.specs.Reading.{Reading};
 ghost use Rattle.lq_pred.specs.Sum.{Sum};
-ghost use Rattle.lq_prove.specs.Standing.{IfOpen, IfProved, IsStanding, StandsAgain, path_on};
+ghost use Rattle.lq_prove.specs.declared.standing.Standing.{Standing};
+ghost use Rattle.lq_prove.specs.Standing.{BeginsWith, CanGoBack, IfOpen, IfProved, IsStanding, StandsAgain, path_on};
 ghost use Rattle.lq_search.specs.Scope.{IsWithin};
 ghost use Rattle.lq_search.specs.SearchPath.{AreGiven, EndsMet, IsBack, IsTaken, scope_of, ways_of};
 ghost use Rattle.lq_search.specs.Sizes.{most_of_each};
@@ -18,7 +21,7 @@ use lq_case::PathState;
 use lq_combine::ProofTree;
 use lq_linear::LinearStop;
 use lq_pred::Nnf;
-use lq_search::{Givens, SearchPath, Searched, search_reading, take_reading};
+use lq_search::{Counts, Givens, SearchPath, Searched, search_reading, take_reading};
 use std::alloc::{AllocError, Global};
 
 /// Readings that stand while goals are asked: their facts and choices on a path, over the terms, objects, flags and pairs that are given. Each
@@ -34,8 +37,40 @@ pub struct Standing<'a> {
 pub enum Asked<'a> {
     /// What stands and the goal's reading can't all hold, by the tree. The same readings stand again.
     Proved(ProofTree, Standing<'a>),
-    /// Nothing is left to split, and the values of the path are a point. The readings no longer stand alone there.
-    Open(SearchPath<'a>),
+    /// Nothing is left to split, and the values of the path are a point.
+    Open(Ended<'a>),
+}
+
+/// The path with which a question ended, on which nothing is left to split. The readings that stood before the question begin it.
+#[derive(Drop)]
+pub struct Ended<'a> {
+    givens: Givens<'a>,
+    pub(crate) path: SearchPath<'a>,
+    before: Counts,
+}
+
+impl<'a> Ended<'a> {
+    /// The path, whose values are a point.
+    pub fn path(&self) -> &SearchPath<'a>
+        ensures { result.now ≡ self.now.path }
+    {
+        &self.path
+    }
+
+    /// The readings that stood before the question stand again, for the next goal.
+    pub fn again(self) -> Standing<'a>
+        requires { CanGoBack self }
+        ensures { (goal : Reading Row) (old : Standing) → IsStanding old → BeginsWith goal old self.entry
+            → StandsAgain goal old result }
+    {
+        let Ended {
+            givens,
+            mut path,
+            before,
+        } = self;
+        path.reopen(before);
+        Standing { givens, path }
+    }
 }
 
 /// A state without facts.
@@ -107,10 +142,13 @@ impl<'a> Standing<'a> {
         ensures tree { IfOk result (λ asked. IfProved asked (λ t s. Proves (numbering_by (scope_of self.entry.givens).terms)
             (taken (path_on self.entry) (nnf_view goal.now)) (tree_view t))) }
         ensures again { IfOk result (λ asked. IfProved asked (λ t s. StandsAgain (nnf_view goal.now) self.entry s)) }
-        ensures met { IfOk result (λ asked. IfOpen asked (EndsMet (scope_of self.entry.givens) self.entry.givens.pairs.now
-            (taken (path_on self.entry) (nnf_view goal.now)))) }
-        ensures reached { IfOk result (λ asked. IfOpen asked (ReachesFrom (nnf_view goal.now) (scope_of self.entry.givens)
-            self.entry.givens.pairs.now self.entry.path)) }
+        ensures back { IfOk result (λ asked. IfProved asked (λ t s. IsBack self.entry.path s.path)) }
+        ensures met { IfOk result (λ asked. IfOpen asked (λ e. EndsMet (scope_of self.entry.givens)
+            self.entry.givens.pairs.now (taken (path_on self.entry) (nnf_view goal.now)) e.path)) }
+        ensures reached { IfOk result (λ asked. IfOpen asked (λ e. ReachesFrom (nnf_view goal.now)
+            (scope_of self.entry.givens) self.entry.givens.pairs.now self.entry.path e.path)) }
+        ensures begins { IfOk result (λ asked. IfOpen asked (BeginsWith (nnf_view goal.now) self.entry)) }
+        ensures can_go_back { IfOk result (λ asked. IfOpen asked CanGoBack) }
         ensures stop { IfErr result (StopsFrom (nnf_view goal.now) (scope_of self.entry.givens)
             self.entry.givens.pairs.now self.entry.path) }
     {
@@ -126,7 +164,11 @@ impl<'a> Standing<'a> {
                 met.back_to(before);
                 Ok(Asked::Proved(tree, Standing { givens, path: met }))
             }
-            None => Ok(Asked::Open(met)),
+            None => Ok(Asked::Open(Ended {
+                givens,
+                path: met,
+                before,
+            })),
         }
     }
 }

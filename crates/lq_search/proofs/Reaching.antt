@@ -1,5 +1,5 @@
 -- Where a search stops or ends from one path, it does so from the path before.
-use Rattle.std.proofs.Common.{◌≡◌, ◌∙◌, ℕ, ◌+◌, ◌^◌, ◌<◌, ◌≤◌, List, ◌++◌, true, false, Option, Some, None, Result, Ok, Err, IfErr, IfNone, IfOk, get_or, length, set, slice_get, sym, ap, subst, arith}
+use Rattle.std.proofs.Common.{◌≡◌, ◌∙◌, ℕ, ◌+◌, ◌^◌, ◌<◌, ◌≤◌, List, [], ◌++◌, true, false, Option, Some, None, Result, Ok, Err, IfErr, IfNone, IfOk, get_or, length, map, set, slice_get, refl, sym, ap, subst, append_assoc, append-nil, arith}
 use Rattle.std.proofs.lemmas.List.{length-append}
 use Rattle.lq_case.specs.PathState.{HandsMore, HasHanded, HasStops, KeepsHanded, PathState, facts_in}
 use Rattle.lq_case.specs.RowState.{terms_of}
@@ -9,7 +9,7 @@ use Rattle.lq_combine.specs.Path.{Fact, Path, taken}
 use Rattle.lq_combine.specs.Proves.{rows_among}
 use Rattle.lq_diff.specs.Stops.{StopsBy}
 use Rattle.lq_diff.specs.Table.{constants}
-use Rattle.lq_equating.specs.Equating.{AddsEquations}
+use Rattle.lq_equating.specs.Equating.{AddsEquations, Grows, equation_fact}
 use Rattle.lq_equating.specs.Naming.{name_in}
 use Rattle.lq_linear.specs.Row.{Row}
 use Rattle.lq_linear.specs.declared.engine.LinearStop.{LinearStop}
@@ -22,7 +22,7 @@ use Rattle.lq_pred.specs.declared.nnf.Nnf.{Nnf}
 use Rattle.lq_pred.specs.declared.nnf.Nnfs.{Nnfs}
 use Rattle.lq_pruning.proofs.Taking as taking
 use Rattle.lq_search.specs.Scope.{Scope}
-use Rattle.lq_search.specs.SearchPath.{IsBack, IsTaken, facts_of, path_of, ways_of}
+use Rattle.lq_search.specs.SearchPath.{IsBack, IsTaken, KeepsFacts, facts_of, path_of, ways_of}
 use Rattle.lq_search.specs.Sizes.{most, row_size}
 use Rattle.lq_search.specs.Stopping.{HandsFrom, MayReach, MayTake, ReachesFrom, StopsFrom, StopsSearch, most_on, most_open}
 use Rattle.lq_search.specs.declared.pair.Pair.{Pair}
@@ -33,19 +33,41 @@ use Rattle.lq_search.proofs.Steps.{members_at, path_back}
 use Rattle.lq_search.proofs.Stops.{TakesNoMore, choice_takes, equations_take, may_stop, member_takes, reached_before, reached_here, standing_take, stops_before, stops_here, way_takes}
 use Rattle.lq_search.proofs.Weights.{with_done}
 
+-- ---- facts are kept
+
+grows_by : (a b more : List Fact) → b ≡ a ++ more → Grows a b
+grows_by a b more e = record { more = more; is = e }
+
+pub keeps_then : (s t u : PathState) → KeepsFacts s t → KeepsFacts t u → KeepsFacts s u
+keeps_then s t u h k = record {
+  facts = λ name.
+      let a = h.facts name in let b = k.facts name in
+      grows_by (facts_in name s) (facts_in name u) (a.more ++ b.more) (b.is ∙ ap (λ l. l ++ b.more) a.is ∙ append_assoc (facts_in name s) a.more b.more);
+  limits = (k.limits.0 ∙ h.limits.0, k.limits.1 ∙ h.limits.1, k.limits.2 ∙ h.limits.2);
+}
+
+pub keeps_back : (p q : SearchPath) → IsBack p q → KeepsFacts p.state q.state
+keeps_back p q b = record {
+  facts = λ name. grows_by (facts_in name p.state) (facts_in name q.state) [] (b.facts name ∙ sym (append-nil (facts_in name p.state)));
+  limits = b.limits;
+}
+
+keeps_same : (s t : PathState) → t ≡ s → KeepsFacts s t
+keeps_same s t e = subst (KeepsFacts s) (sym e)
+    (record { facts = λ name. grows_by (facts_in name s) (facts_in name s) [] (sym (append-nil (facts_in name s))); limits = (refl, refl, refl) })
+
 -- from the path p with the reading t the search goes on from q with r
 pub record IsStep (s : Scope) (pairs : List Pair) (t : Reading Row) (p : SearchPath) (r : Reading Row) (q : SearchPath) : Type 0 where
   pub takes : TakesNoMore s.terms (ways_of pairs) (taken (path_of s q) r) (taken (path_of s p) t)
   pub sizes : most_on s q + most row_size r ≤ most_on s p + most row_size t
-  pub terms : terms_of q.state.rows ≡ terms_of p.state.rows
-  pub limit : q.state.rows.pivots ≡ p.state.rows.pivots
+  pub kept : KeepsFacts p.state q.state
   pub handed : HandsFrom t s pairs p q
 
 pub stops_step : (s : Scope) (pairs : List Pair) (t : Reading Row) (p : SearchPath) (r : Reading Row) (q : SearchPath) (stop : LinearStop) → IsStep s pairs t p r q
     → StopsFrom r s pairs q stop → StopsFrom t s pairs p stop
 stops_step s pairs t p r q stop i h = λ ever e.
     stops_before s.terms (terms_of q.state.rows) q.state.rows.pivots (terms_of p.state.rows) p.state.rows.pivots ever i.handed.more (ways_of pairs) (taken (path_of s q) r) (taken (path_of s p) t)
-    (most_on s q + most row_size r) (most_on s p + most row_size t) stop i.terms i.limit i.takes i.handed.each i.sizes (h (ever ++ i.handed.more) (i.handed.handed ever e))
+    (most_on s q + most row_size r) (most_on s p + most row_size t) stop i.kept.limits.0 i.kept.limits.1 i.takes i.handed.each i.sizes (h (ever ++ i.handed.more) (i.handed.handed ever e))
 
 pub hands_step : (s : Scope) (pairs : List Pair) (t : Reading Row) (p : SearchPath) (r : Reading Row) (q x : SearchPath) → IsStep s pairs t p r q → HandsFrom r s pairs q x
     → HandsFrom t s pairs p x
@@ -68,6 +90,7 @@ keeps_by s t e = subst (KeepsHanded s) (sym e) (λ ever h. h)
 pub reached_step : (s : Scope) (pairs : List Pair) (t : Reading Row) (p : SearchPath) (r : Reading Row) (q x : SearchPath) → IsStep s pairs t p r q
     → ReachesFrom r s pairs q x → ReachesFrom t s pairs p x
 reached_step s pairs t p r q x i h = record {
+  kept = keeps_then p.state q.state x.state i.kept h.kept;
   facts = reached_before s.terms (ways_of pairs) (taken (path_of s q) r) (taken (path_of s p) t) (most_on s q + most row_size r) (most_on s p + most row_size t) (facts_of s x) i.takes i.sizes h.facts;
   handed = hands_step s pairs t p r q x i h.handed;
 }
@@ -77,22 +100,21 @@ reached_step s pairs t p r q x i h = record {
 same_path : (ts : List Sum) (ways : List (Readings Row)) (p q : Path) → p ≡ q → TakesNoMore ts ways p q
 same_path ts ways p q e = subst (TakesNoMore ts ways p) e (λ r m. m)
 
-pub step_equated : (s : Scope) (pairs : List Pair) (p q : SearchPath) → AddsEquations s.terms (facts_of s p) (facts_of s q) → q.choices.items ≡ p.choices.items → q.pairs.items ≡ p.pairs.items
+pub step_equated : (s : Scope) (pairs : List Pair) (p q : SearchPath) → ((name : ℕ → Sum) → AddsEquations s.terms (facts_in name p.state) (facts_in name q.state)) → q.choices.items ≡ p.choices.items → q.pairs.items ≡ p.pairs.items
     → SameLimits q.state p.state → KeepsHanded p.state q.state → IsStep s pairs yes p yes q
-step_equated s pairs p q a c d l k = record {
+step_equated s pairs p q adds c d l k = let a = adds (name_in s.objects) in record {
   takes = equations_take s.terms (ways_of pairs) (path_of s p) (path_of s q) a (ap choices_of c);
   sizes = let m = most_equated s p q a c d in omega (arith, m);
-  terms = l.0;
-  limit = l.1;
+  kept = record { facts = λ name. grows_by (facts_in name p.state) (facts_in name q.state) (map equation_fact (adds name).pairs) (adds name).is; limits = l };
   handed = hands_same yes s pairs p q k;
 }
 
-pub step_taken : (s : Scope) (pairs : List Pair) (r : Reading Row) (p q : SearchPath) → IsTaken s r p q → KeepsHanded p.state q.state → IsStep s pairs r p yes q
-step_taken s pairs r p q t k = record {
+pub step_taken : (s : Scope) (pairs : List Pair) (r : Reading Row) (p q : SearchPath) → IsTaken s r p q → ((name : ℕ → Sum) → Grows (facts_in name p.state) (facts_in name q.state)) → KeepsHanded p.state q.state
+    → IsStep s pairs r p yes q
+step_taken s pairs r p q t g k = record {
   takes = same_path s.terms (ways_of pairs) (path_of s q) (taken (path_of s p) r) t.path;
   sizes = let m = most_taken s r p q t in omega (arith, m);
-  terms = t.limits.0;
-  limit = t.limits.1;
+  kept = record { facts = g; limits = t.limits };
   handed = hands_same r s pairs p q k;
 }
 
@@ -102,8 +124,7 @@ step_member s pairs p q members items i n e l is b h = record {
   takes = subst (λ x. TakesNoMore s.terms (ways_of pairs) (taken x (nnf_view n)) (taken (path_of s p) (any_of (nnfs_view members)))) (sym (path_back s p q b))
       (member_takes s.terms (ways_of pairs) (path_of s p) members items i n e l is);
   sizes = let m = most_back s p q b in let k = member_most members items i n e l is in omega (arith, m, k);
-  terms = b.limits.0;
-  limit = b.limits.1;
+  kept = keeps_back p q b;
   handed = h;
 }
 
@@ -116,8 +137,7 @@ step_marked s pairs p q at c st here is_open is same = record {
   takes = subst (λ x. TakesNoMore s.terms (ways_of pairs) (taken x (any_of (nnfs_view c.members.now))) (path_of s p)) (sym path)
       (choice_takes s.terms (ways_of pairs) (path_of s p) at (nnfs_view c.members.now) (members_at p.choices.items at c here));
   sizes = let f = same_facts s p q st in let m = most_open-marked p.choices.items at c here is_open in let k = ap most_open is in let d = ap most_open same in omega (arith, f, m, k, d);
-  terms = ap (λ (x : PathState). terms_of x.rows) st;
-  limit = ap (λ (x : PathState). x.rows.pivots) st;
+  kept = keeps_same p.state q.state st;
   handed = hands_same yes s pairs p q (keeps_by p.state q.state st);
 }
   where
@@ -132,8 +152,7 @@ step_pair_marked s pairs p q at c members ways e st here is_open is same = subst
   takes = subst (λ x. TakesNoMore s.terms (ways_of pairs) (taken x (any_of (nnfs_view c.members.now))) (path_of s p)) (sym path)
       (way_takes s.terms (ways_of pairs) (path_of s p) at (nnfs_view c.members.now) (ap (λ l. slice_get l at) (sym ways) ∙ members_at p.pairs.items at c here));
   sizes = let f = same_facts s p q st in let m = most_open-marked p.pairs.items at c here is_open in let k = ap most_open is in let d = ap most_open same in omega (arith, f, m, k, d);
-  terms = ap (λ (x : PathState). terms_of x.rows) st;
-  limit = ap (λ (x : PathState). x.rows.pivots) st;
+  kept = keeps_same p.state q.state st;
   handed = hands_same yes s pairs p q (keeps_by p.state q.state st);
 })
   where
@@ -165,8 +184,7 @@ pub step_checked : (s : Scope) (pairs : List Pair) (p q : SearchPath) → IsBack
 step_checked s pairs p q b h = record {
   takes = same_path s.terms (ways_of pairs) (path_of s q) (path_of s p) (path_back s p q b);
   sizes = let m = most_back s p q b in omega (arith, m);
-  terms = b.limits.0;
-  limit = b.limits.1;
+  kept = keeps_back p q b;
   handed = check_hands s pairs p q h;
 }
 
@@ -175,15 +193,14 @@ pub step_kept : (s : Scope) (pairs : List Pair) (p q : SearchPath) → IsBack p 
 step_kept s pairs p q b k = record {
   takes = same_path s.terms (ways_of pairs) (path_of s q) (path_of s p) (path_back s p q b);
   sizes = let m = most_back s p q b in omega (arith, m);
-  terms = b.limits.0;
-  limit = b.limits.1;
+  kept = keeps_back p q b;
   handed = hands_same yes s pairs p q k;
 }
 
-pub checked_reaches : (s : Scope) (pairs : List Pair) (p q : SearchPath) → facts_of s q ≡ facts_of s p → HandsMore (Stands (rows_among (facts_of s p))) p.state q.state
-    → ReachesFrom yes s pairs p q
-checked_reaches s pairs p q e h = record {
-  facts = subst (λ f. MayReach s.terms (path_of s p) (ways_of pairs) (most_on s p + most row_size yes) f) (sym e) (reached_here s.terms (path_of s p) (ways_of pairs) (most_on s p + most row_size yes) (omega arith));
+pub checked_reaches : (s : Scope) (pairs : List Pair) (p q : SearchPath) → IsBack p q → HandsMore (Stands (rows_among (facts_of s p))) p.state q.state → ReachesFrom yes s pairs p q
+checked_reaches s pairs p q b h = record {
+  kept = keeps_back p q b;
+  facts = subst (λ f. MayReach s.terms (path_of s p) (ways_of pairs) (most_on s p + most row_size yes) f) (sym (b.facts (name_in s.objects))) (reached_here s.terms (path_of s p) (ways_of pairs) (most_on s p + most row_size yes) (omega arith));
   handed = check_hands s pairs p q h;
 }
 

@@ -24,7 +24,7 @@ use Rattle.lq_pred.specs.Sum.{Sum, whole}
 use Rattle.lq_pruning.proofs.Taking as taking
 use Rattle.lq_search.specs.Parts.{AddsOpen, facts_of as part_facts, path_by}
 use Rattle.lq_search.specs.Scope.{AllMayHold, AreWithin, IsWithin, Scope}
-use Rattle.lq_search.specs.SearchPath.{AreMet, IsBack, IsCovered, IsMet, IsReady, IsReadyFor, IsReadyForAny, IsReadyWhen, IsTaken, facts_of, path_of}
+use Rattle.lq_search.specs.SearchPath.{AreAllOpen, AreMet, IsBack, IsCovered, IsMet, IsReady, IsReadyFor, IsReadyForAny, IsReadyWhen, IsTaken, facts_of, path_of}
 use Rattle.lq_search.specs.Splits.{IsDoneOrMet}
 use Rattle.lq_search.specs.declared.pair.Pair.{Pair}
 use Rattle.lq_search.specs.declared.parts.Part.{Part}
@@ -252,7 +252,7 @@ new_choices s r p q t =
     (sym (map-append (λ (c : Choice). nnfs_view c.members.now) p.choices.items t.adds.more) ∙ ap choices_of (sym t.adds.is)
     ∙ ap (λ (x : Path). x.choices) (t.path ∙ taking.taken_is (path_of s p) r))
 
-open_met : (v : Valuation) (p : Point) (cs : List Choice) → All (λ (c : Choice). c.is_done ≡ false) cs → All (IsDoneOrMet v p) cs → All (IsMet v p) cs
+pub open_met : (v : Valuation) (p : Point) (cs : List Choice) → All (λ (c : Choice). c.is_done ≡ false) cs → All (IsDoneOrMet v p) cs → All (IsMet v p) cs
 open_met v p [] o h = All-nil (IsMet v p)
 open_met v p (c ∷ cs) o h =
     All-cons (IsMet v p) c cs (by c.is_done (All-head (λ (x : Choice). x.is_done ≡ false) c cs o) (All-head (IsDoneOrMet v p) c cs h))
@@ -292,3 +292,27 @@ ready_taken s pairs r p q ready within t = record {
         pairs_are = subst (All (IsMet v x)) (sym t.pairs_are) met.pairs_are;
       };
 }
+
+-- ---- what was taken is open again
+
+-- the facts are as before, the choices and pairs have the same members, and none was taken
+pub record IsReopened (p q : SearchPath) : Type 0 where
+  pub facts : (name : ℕ → Sum) → facts_in name q.state ≡ facts_in name p.state
+  pub choices_are : choices_of q.choices.items ≡ choices_of p.choices.items
+  pub pairs_are : choices_of q.pairs.items ≡ choices_of p.pairs.items
+  pub open_still : AreAllOpen q
+  pub limits : SameLimits q.state p.state
+
+pub ready_reopened : (s : Scope) (pairs : List Pair) (p q : SearchPath) → IsReady s pairs p → IsReopened p q → IsReady s pairs q
+ready_reopened s pairs p q r b =
+    let facts : facts_of s q ≡ facts_of s p = b.facts (name_in s.objects) in
+    let about : objects_in q.state ≡ objects_in p.state = objects_back p.state q.state b.facts in record {
+      terms_are = b.limits.0 ∙ r.terms_are;
+      count = b.limits.2 ∙ r.count;
+      may_hold = subst AllMayHold (sym facts) r.may_hold;
+      choices_in = by_members (AreWithin s) p.choices.items q.choices.items b.choices_are r.choices_in;
+      pairs_are = b.pairs_are ∙ r.pairs_are;
+      told = subst (λ l. AllTold s.objects l (facts_of s q)) (sym about) (subst (AllTold s.objects (objects_in p.state)) (sym facts) r.told);
+      covered = λ v x g h d e.
+          record { choices_are = open_met v x q.choices.items b.open_still.choices_are d; pairs_are = open_met v x q.pairs.items b.open_still.pairs_are e };
+    }

@@ -1,6 +1,6 @@
 -- The path of a search: what always holds of it, and when nothing is left to split.
-use Rattle.std.specs.Prelude.{◌≡◌, ℕ, true, Bool, List, ◌++◌, All, Some, length, map, slice_get, slice_set}
-use Rattle.lq_case.specs.PathState.{AllFlagsHold, NoObjectsClash, facts_in, objects_in}
+use Rattle.std.specs.Prelude.{◌≡◌, ℕ, true, false, Bool, List, ◌++◌, All, Some, length, map, slice_get, slice_set}
+use Rattle.lq_case.specs.PathState.{AllFlagsHold, NoObjectsClash, PathState, facts_in, objects_in}
 use Rattle.lq_case.specs.RowState.{is_solved, row_point, terms_of as row_terms}
 use Rattle.lq_combine.specs.Met.{AllHold}
 use Rattle.lq_combine.specs.Path.{Fact, Path, taken}
@@ -104,6 +104,16 @@ pub record IsBack (old new : SearchPath) : Type 0 where
   pub choices_are : new.choices.items ≡ old.choices.items
   pub pairs_are : new.pairs.items ≡ old.pairs.items
   pub limits : SameLimits new.state old.state
+
+-- the facts have more behind them at most, and the limits are as before
+pub record KeepsFacts (old new : PathState) : Type 0 where
+  pub facts : (name : ℕ → Sum) → Grows (facts_in name old) (facts_in name new)
+  pub limits : SameLimits new old
+
+-- no member of a choice and no way of a pair was taken
+pub record AreAllOpen (p : SearchPath) : Type 0 where
+  pub choices_are : All (λ c. c.is_done ≡ false) p.choices.items
+  pub pairs_are : All (λ c. c.is_done ≡ false) p.pairs.items
 
 -- Values solve the rows, no flags and no objects clash, lengths and measures of one object are equal, and of each choice and each pair a member
 -- was taken or is met where flags and objects are as the facts say.

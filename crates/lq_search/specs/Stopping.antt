@@ -14,7 +14,7 @@ use Rattle.lq_pred.specs.NnfView.{nnfs_view}
 use Rattle.lq_pred.specs.Reading.{Reading, yes, no, row, flag_is, objects_are, all_of, any_of, Readings, none, more}
 use Rattle.lq_pred.specs.Sum.{Sum}
 use Rattle.lq_search.specs.Scope.{Scope}
-use Rattle.lq_search.specs.SearchPath.{facts_of, path_of, ways_of}
+use Rattle.lq_search.specs.SearchPath.{KeepsFacts, facts_of, path_of, ways_of}
 use Rattle.lq_search.specs.Sizes.{most, most_of_any, row_size}
 use Rattle.lq_search.specs.declared.pair.Pair.{Pair}
 use Rattle.lq_search.specs.declared.search_path.SearchPath.{SearchPath}
@@ -89,7 +89,8 @@ StopsFrom r s pairs p stop =
 abbrev pub HandsFrom : Reading Row → Scope → List Pair → SearchPath → SearchPath → Type 0
 HandsFrom r s pairs p q = HandsMore (MayTake s.terms (taken (path_of s p) r) (ways_of pairs)) p.state q.state
 
--- and the rows that were handed until then
+-- the rows that were handed until then, and the facts of the path, which are kept
 pub record ReachesFrom (r : Reading Row) (s : Scope) (pairs : List Pair) (p q : SearchPath) : Type 0 where
+  pub kept : KeepsFacts p.state q.state
   pub facts : MayReach s.terms (taken (path_of s p) r) (ways_of pairs) (most_on s p + most row_size r) (facts_of s q)
   pub handed : HandsFrom r s pairs p q

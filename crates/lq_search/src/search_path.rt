@@ -3,7 +3,7 @@ ghost use Rattle.std.specs.Prelude.{◌≡◌, ◌<◌, ◌≤◌, ℕ, [], All,
 ghost use Rattle.lq_case.specs.PathState.{KeepsHanded, facts_in};
 ghost use Rattle.lq_path.specs.SearchPath.{SameLimits, choices_of};
 ghost use Rattle.lq_pred.specs.Sum.{Sum};
-ghost use Rattle.lq_search.specs.SearchPath.{SetsDone, ways_of};
+ghost use Rattle.lq_search.specs.SearchPath.{AreAllOpen, SetsDone, ways_of};
 
 use crate::counting::Counts;
 use crate::order::Order;
@@ -71,6 +71,31 @@ impl<'a> SearchPath<'a> {
     {
         self.state.back_to(Mark(counts.facts));
         self.choices.truncate(counts.choices as usize);
+    }
+
+    /// Keeps so many of the first facts and choices, where no member of a choice was taken and no way of a pair.
+    pub fn reopen(&mut self, counts: Counts)
+        requires { (name : ℕ → Sum) → counts.facts ≤ length (facts_in name self.old.state) }
+        ensures facts { (name : ℕ → Sum) → facts_in name self.new.state ≡ take counts.facts (facts_in name self.old.state) }
+        ensures limits { SameLimits self.new.state self.old.state }
+        ensures handed { KeepsHanded self.old.state self.new.state }
+        ensures choices { choices_of self.new.choices.items ≡ choices_of (take counts.choices self.old.choices.items) }
+        ensures pairs { choices_of self.new.pairs.items ≡ choices_of self.old.pairs.items }
+        ensures open_still { AreAllOpen self.new }
+    {
+        self.back_to(counts);
+        open_all(&mut self.choices);
+        open_all(&mut self.pairs);
+    }
+}
+
+/// No member of a choice was taken.
+fn open_all(choices: &mut Vec<Choice<'_>>)
+    ensures members { choices_of choices.new.items ≡ choices_of choices.old.items }
+    ensures open_still { All (λ c. c.is_done ≡ false) choices.new.items }
+{
+    for at in 0..choices.len() {
+        set_done(choices, at, false);
     }
 }
 

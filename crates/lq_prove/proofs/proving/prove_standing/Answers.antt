@@ -30,8 +30,8 @@ point_of-requires-clause-met c =
     let g = nnf_view c.args.goal.now in
     let st = c.args.standing in
     let pairs = c.args.givens.now.pairs.now in
-    subst (λ p. EndsMet s pairs p c.in-Open.met) c.requires.parts
-    (subst (λ x. EndsMet (scope_of x) x.pairs.now (taken (path_of (scope_of x) st.path) g) c.in-Open.met) c.requires.givens (rw c.in-Open.is at c.in-Ok.ensures.met))
+    subst (λ p. EndsMet s pairs p c.in-Open.ended.path) c.requires.parts
+    (subst (λ x. EndsMet (scope_of x) x.pairs.now (taken (path_of (scope_of x) st.path) g) c.in-Open.ended.path) c.requires.givens (rw c.in-Open.is at c.in-Ok.ensures.met))
 
 pub returns-in-Proved-clause-tree : goal.returns-in-Proved-clause-tree
 returns-in-Proved-clause-tree c =
@@ -57,8 +57,8 @@ point_of-requires-clause-facts c =
     let n = sizes (all_pairs s.terms) in
     let preds = pred_items c.args.implication.now.hypotheses in
     let le = subst (λ ts. n ≤ sizes (all_pairs ts)) c.requires.terms (omega arith) in
-    let facts = facts_of s c.in-Open.met in
-    let reached = subst (λ x. ReachesFrom g (scope_of x) x.pairs.now st.path c.in-Open.met) c.requires.givens (rw c.in-Open.is at c.in-Ok.ensures.reached) in
+    let facts = facts_of s c.in-Open.ended.path in
+    let reached = subst (λ x. ReachesFrom g (scope_of x) x.pairs.now st.path c.in-Open.ended.path) c.requires.givens (rw c.in-Open.is at c.in-Ok.ensures.reached) in
     its_facts i preds r pairs n facts (begins s.terms i preds r pairs c.requires.terms refl c.requires.opening c.requires.given.each c.requires.ordered) le
     (subst (λ ts. MayReach ts (taken nothing r) (ways_of pairs) (n + most row_size r) facts) c.requires.terms
     (reached_more s.terms (ways_of pairs) (taken (path_of s st.path) g) (taken nothing r) (most_on s st.path + most row_size g) (n + most row_size r) facts c.requires.parts c.requires.sizes reached.facts))
@@ -72,7 +72,7 @@ point_of-requires-clause-handed c =
     let st = c.args.standing in
     let pairs = c.args.givens.now.pairs.now in
     let preds = pred_items c.args.implication.now.hypotheses in
-    let reached = subst (λ x. ReachesFrom g (scope_of x) x.pairs.now st.path c.in-Open.met) c.requires.givens (rw c.in-Open.is at c.in-Ok.ensures.reached) in
+    let reached = subst (λ x. ReachesFrom g (scope_of x) x.pairs.now st.path c.in-Open.ended.path) c.requires.givens (rw c.in-Open.is at c.in-Ok.ensures.reached) in
     let begun = begins s.terms i preds r pairs c.requires.terms refl c.requires.opening c.requires.given.each c.requires.ordered in
     record {
       ever = reached.handed.more;

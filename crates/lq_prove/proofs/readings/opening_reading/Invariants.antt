@@ -1,5 +1,7 @@
-use Rattle.std.proofs.Common.{◌≡◌, map, take}
+use Rattle.std.proofs.Common.{◌≡◌, All, map, take}
 use Rattle.lq_combine.specs.Path.{AreReadings}
+use Rattle.lq_pred.specs.Comparison.{CanGather}
+use Rattle.lq_pred.specs.Literals.{each_literals}
 use Rattle.lq_pred.specs.NnfView.{nnf_items, nnf_view}
 use Rattle.lq_pred.specs.PredView.{formula_of}
 use Rattle.lq_pred.specs.TableView.{terms_of}
@@ -9,4 +11,5 @@ abbrev pub invariant-loop-pred : goal.invariant-loop-pred
 invariant-loop-pred l = record {
   same : terms_of l.table ≡ terms_of l.fn.table;
   readings : AreReadings (terms_of l.table) (map formula_of (take l.pred-index l.pred-items)) (map nnf_view (nnf_items l.hypotheses));
+  gathers : All CanGather (each_literals (map formula_of (take l.pred-index l.pred-items)));
 }

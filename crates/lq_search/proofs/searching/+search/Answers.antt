@@ -355,7 +355,7 @@ search-returns-in_err-tree-clause-stop t c =
     let p = c.args.path.now in
     let e = c.in_ok-joints.ensures in
     let q : SearchPath = record { state = c.equate_all.new.state; choices = p.choices; pairs = p.pairs; order = p.order } in
-    let step = step_equated s c.args.givens.now.pairs.now p q (e.adds (name_in s.objects)) refl refl e.limits e.handed in
+    let step = step_equated s c.args.givens.now.pairs.now p q e.adds refl refl e.limits e.handed in
     rw (r.1, r.2) (stops_step s c.args.givens.now.pairs.now yes p yes q c.in_err-tree.field-0.0 step c.in_err-tree.ensures.stop)
 
 pub search-returns-in-None-clause-reached : goal.search-returns-in-None-clause-reached
@@ -364,7 +364,7 @@ search-returns-in-None-clause-reached t c =
     let p = c.args.path.now in
     let e = c.in_ok-joints.ensures in
     let q : SearchPath = record { state = c.equate_all.new.state; choices = p.choices; pairs = p.pairs; order = p.order } in
-    let step = step_equated s c.args.givens.now.pairs.now p q (e.adds (name_in s.objects)) refl refl e.limits e.handed in
+    let step = step_equated s c.args.givens.now.pairs.now p q e.adds refl refl e.limits e.handed in
     reached_step s c.args.givens.now.pairs.now yes p yes q c.search_on.new.path step (rw c.in-None.is at c.in_ok-tree.ensures.reached)
 
 pub search_on-returns-in_err-clash-clause-stop : goal.search_on-returns-in_err-clash-clause-stop
@@ -379,7 +379,9 @@ search_on-returns-in-None-clause-reached t c =
     let s = scope_of c.args.givens.now in
     let p = c.args.path.now in
     let q : SearchPath = record { state = c.check.new.self; choices = p.choices; pairs = p.pairs; order = p.order } in
-    checked_reaches s c.args.givens.now.pairs.now p q (c.in_ok-clash.ensures.facts (name_in s.objects)) (c.check.ensures.handed (name_in s.objects))
+    let e = c.in_ok-clash.ensures in
+    let back : IsBack p q = record { facts = e.facts; choices_are = refl; pairs_are = refl; limits = e.limits } in
+    checked_reaches s c.args.givens.now.pairs.now p q back (c.check.ensures.handed (name_in s.objects))
 
 pub refute_each-returns-in_err-refute_with-clause-stop : goal.refute_each-returns-in_err-refute_with-clause-stop
 refute_each-returns-in_err-refute_with-clause-stop t c =
@@ -410,7 +412,7 @@ search_with-returns-clause-reached t c =
     let pairs = c.args.givens.now.pairs.now in
     let q = c.take_reading.new.path in
     let e = c.in_ok-leaf.ensures in
-    if_ok_none c.search.result (λ h. reached_step s pairs r p yes q c.search.new.path (step_taken s pairs r p q (rw c.in_default.is at e.taken) e.handed) h) c.search.ensures.reached
+    if_ok_none c.search.result (λ h. reached_step s pairs r p yes q c.search.new.path (step_taken s pairs r p q (rw c.in_default.is at e.taken) e.longer.facts e.handed) h) c.search.ensures.reached
 
 pub search_with-returns-clause-stop : goal.search_with-returns-clause-stop
 search_with-returns-clause-stop t c =
@@ -420,7 +422,7 @@ search_with-returns-clause-stop t c =
     let pairs = c.args.givens.now.pairs.now in
     let q = c.take_reading.new.path in
     let e = c.in_ok-leaf.ensures in
-    if_err_more c.search.result (λ stop h. stops_step s pairs r p yes q stop (step_taken s pairs r p q (rw c.in_default.is at e.taken) e.handed) h) c.search.ensures.stop
+    if_err_more c.search.result (λ stop h. stops_step s pairs r p yes q stop (step_taken s pairs r p q (rw c.in_default.is at e.taken) e.longer.facts e.handed) h) c.search.ensures.stop
 
 pub split_choice-any_tree-requires : goal.split_choice-any_tree-requires
 split_choice-any_tree-requires t c =
@@ -535,7 +537,7 @@ search_with-returns-clause-handed t c =
     let pairs = c.args.givens.now.pairs.now in
     let q = c.take_reading.new.path in
     let e = c.in_ok-leaf.ensures in
-    if_ok_some c.search.result (λ h. hands_step s pairs r p yes q c.search.new.path (step_taken s pairs r p q (rw c.in_default.is at e.taken) e.handed) h) c.search.ensures.handed
+    if_ok_some c.search.result (λ h. hands_step s pairs r p yes q c.search.new.path (step_taken s pairs r p q (rw c.in_default.is at e.taken) e.longer.facts e.handed) h) c.search.ensures.handed
 
 pub split_choice-returns-in-Some-clause-handed : goal.split_choice-returns-in-Some-clause-handed
 split_choice-returns-in-Some-clause-handed t c =
@@ -576,7 +578,7 @@ search-returns-in_ok-tree_around-in-Some-2-clause-handed t c =
     let p = c.args.path.now in
     let e = c.in_ok-joints.ensures in
     let q : SearchPath = record { state = c.equate_all.new.state; choices = p.choices; pairs = p.pairs; order = p.order } in
-    let step = step_equated s pairs p q (e.adds (name_in s.objects)) refl refl e.limits c.equate_all.ensures.handed in
+    let step = step_equated s pairs p q e.adds refl refl e.limits c.equate_all.ensures.handed in
     hands_more yes s pairs p c.search_on.new.path c.back_to-in-Some-2.new.self
     (hands_step s pairs yes p yes q c.search_on.new.path step (rw c.in-Some-2.is at c.in_ok-tree.ensures.handed)) c.back_to-in-Some-2.ensures.handed
 

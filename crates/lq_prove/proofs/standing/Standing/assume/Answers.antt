@@ -1,6 +1,7 @@
+use Rattle.lq_pred.specs.NnfView.{nnf_view}
 use Rattle.lq_search.specs.SearchPath.{Always, scope_of}
 use Rattle.lq_search.proofs.Ready.{ready_back}
-use Rattle.lq_prove.proofs.Assumed.{IsCut, cut_back}
+use Rattle.lq_prove.proofs.Assumed.{IsCut, cut_back, open_back, open_taken}
 use Rattle.lq_prove.proofs.standing.Standing.assume.Goals as goal
 
 pub returns-in-Some-clause-standing : goal.returns-in-Some-clause-standing
@@ -19,7 +20,19 @@ returns-in-Some-clause-standing c =
       pairs = c.back_to.ensures.pairs;
       limits = c.back_to.ensures.limits;
     } in
+    let back = cut_back p q r c.in_ok-leaf.ensures.longer cut in
     record {
       given = c.requires.standing.given;
-      ready = ready_back Always s c.args.self.now.givens.pairs.now p r c.requires.standing.ready (cut_back p q r c.in_ok-leaf.ensures.longer cut);
+      ready = ready_back Always s c.args.self.now.givens.pairs.now p r c.requires.standing.ready back;
+      open_still = open_back p r back c.requires.standing.open_still;
+    }
+
+pub returns-in-None-clause-standing : goal.returns-in-None-clause-standing
+returns-in-None-clause-standing c =
+    let s = scope_of c.args.self.now.givens in
+    let e = c.in_ok-leaf.ensures in
+    record {
+      given = c.requires.standing.given;
+      ready = rw c.in-None.is at e.ready;
+      open_still = open_taken s (nnf_view c.args.reading.now) c.args.self.now.path c.take_reading.new.path (rw c.in-None.is at e.taken) c.requires.standing.open_still;
     }

@@ -1,5 +1,7 @@
-use Rattle.std.proofs.Common.{◌∙◌, [], ap, subst, sym}
+use Rattle.std.proofs.Common.{◌≡◌, ◌∙◌, [], false, ap, subst, sym}
+use Rattle.std.proofs.lemmas.List.Elements.{All-nil, All-same}
 use Rattle.lq_case.specs.PathState.{HasHanded, PathState}
+use Rattle.lq_path.specs.declared.choice.Choice.{Choice}
 use Rattle.lq_search.specs.SearchPath.{scope_of}
 use Rattle.lq_prove.proofs.Start.{start_by, start_most, start_path, start_ready}
 use Rattle.lq_prove.proofs.standing.Standing.new.Goals as goal
@@ -11,7 +13,11 @@ returns-clause-standing c =
     let a = c.in_ok-state.ensures in
     let e = c.in_ok-path.ensures in
     let is = start_by s pairs c.in_ok-state.state c.in_ok-path.path e.state a.facts a.terms a.count e.choices e.pairs e.open_still in
-    record { given = c.requires.given; ready = start_ready s pairs c.in_ok-path.path is }
+    record {
+      given = c.requires.given;
+      ready = start_ready s pairs c.in_ok-path.path is;
+      open_still = record { choices_are = All-same (λ (x : Choice). x.is_done ≡ false) c.in_ok-path.path.choices.items [] e.choices (All-nil (λ (x : Choice). x.is_done ≡ false)); pairs_are = e.open_still };
+    }
 
 pub returns-clause-nothing : goal.returns-clause-nothing
 returns-clause-nothing c =
