@@ -1,28 +1,13 @@
 // A case and its answer.
 use crate::error::CaseError;
+use crate::goals::goals_text;
+use crate::listing::{listed, push_gap};
 use crate::proving::{nodes_text, point_text, valid_text, within_text};
 use crate::reading::implication_of;
 use lq_literals::{applications, copy_implication, first_past, flags, objects};
 use lq_notation::{push_past, push_pred, push_symbol, push_term};
 use lq_pred::Closed;
 use std::alloc::{AllocError, Global};
-
-// What stands before an item of a list.
-fn push_gap(out: &mut String) -> Result<(), AllocError> {
-    if out.is_empty() {
-        Ok(())
-    } else {
-        out.push_str("; ")
-    }
-}
-
-// A list, or that it is empty.
-fn listed(alloc: Global, out: String) -> Result<String, AllocError> {
-    if out.is_empty() {
-        return String::from_str(alloc, "none");
-    }
-    Ok(out)
-}
 
 fn past_text(alloc: Global, implication: &Closed) -> Result<String, AllocError> {
     let mut out = String::new(alloc);
@@ -83,8 +68,10 @@ fn found(alloc: Global, line: &str) -> Result<String, CaseError> {
     let Some((kind, rest)) = line.split_once(' ') else {
         return Err(CaseError::NotACase);
     };
-    if kind == "within" {
-        return within_text(alloc, rest);
+    match kind {
+        "within" => return within_text(alloc, rest),
+        "goals" => return goals_text(alloc, rest),
+        _ => {}
     }
     let implication = implication_of(alloc, rest)?;
     let copied = copy_implication(alloc, &implication)?;

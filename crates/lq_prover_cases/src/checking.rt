@@ -3,9 +3,10 @@ use crate::applied::Applications;
 use crate::clashes::{are_joined, clashes};
 use crate::error::CaseError;
 use crate::nodes::Nodes;
-use crate::path::{Path, take};
+use crate::opening::opening;
+use crate::path::{Path, path_of, take};
 use lq_combine::{CaseProof, ProofTree, Tags, Trees};
-use lq_pred::{Closed, Nnf, Nnfs, TermTable, tighten};
+use lq_pred::{Closed, Nnf, Nnfs, TermTable};
 use std::alloc::Global;
 
 /// What a check knows beside the tree and the path.
@@ -130,29 +131,14 @@ fn add_joined<'a>(
     Ok(true)
 }
 
-/// The readings of the hypotheses in order, and then that of the negated goal.
-fn opening(alloc: Global, implication: &Closed) -> Result<Nnfs, CaseError> {
-    let mut table = implication.terms(alloc)?;
-    let mut readings = Nnfs::new(alloc)?;
-    for pred in implication.hypotheses.as_slice() {
-        readings.push(tighten(alloc, pred, true, &mut table)?)?;
-    }
-    readings.push(tighten(alloc, &implication.goal, false, &mut table)?)?;
-    Ok(readings)
-}
-
-/// The forms of a tree's nodes where it proves the path on which readings were taken, and None where it doesn't.
-fn nodes_with<'a>(
+/// The forms of a tree's nodes where it proves a path, and None where it doesn't. The terms are those of the implication.
+pub(crate) fn nodes_with<'a>(
     alloc: Global,
     implication: &Closed,
     tree: &ProofTree,
-    readings: &'a Nnfs,
+    mut path: Path<'a>,
     terms: &'a TermTable,
 ) -> Result<Option<Nodes>, CaseError> {
-    let mut path = Path::new(alloc);
-    for reading in readings.as_slice() {
-        take(reading, &mut path)?;
-    }
     let mut check = Check {
         alloc,
         applications: Applications::new(alloc, implication, terms)?,
@@ -173,5 +159,6 @@ pub(crate) fn nodes_of_proof(
 ) -> Result<Option<Nodes>, CaseError> {
     let readings = opening(alloc, implication)?;
     let terms = implication.terms(alloc)?;
-    nodes_with(alloc, implication, tree, &readings, &terms)
+    let path = path_of(alloc, readings.as_slice(), readings.len())?;
+    nodes_with(alloc, implication, tree, path, &terms)
 }

@@ -3,11 +3,15 @@
 #![tactic(auto)]
 
 mod applied;
+mod asking;
 mod case;
 mod checking;
 mod clashes;
 mod error;
+mod goals;
+mod listing;
 mod nodes;
+mod opening;
 mod path;
 mod proving;
 mod reading;

@@ -105,3 +105,16 @@ fn take_all<'a>(all: &'a Nnfs, path: &mut Path<'a>) -> Result<(), AllocError> {
     }
     Ok(())
 }
+
+/// The path on which the first readings were taken, so many.
+pub(crate) fn path_of<'a>(
+    alloc: Global,
+    readings: &'a [Nnf],
+    count: usize,
+) -> Result<Path<'a>, AllocError> {
+    let mut path = Path::new(alloc);
+    for reading in readings.iter().take(count) {
+        take(reading, &mut path)?;
+    }
+    Ok(path)
+}

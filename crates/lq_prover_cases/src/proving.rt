@@ -14,7 +14,7 @@ use std::alloc::Global;
 use std::fmt::Write;
 
 /// How many pivots a check makes where a case doesn't say.
-const PIVOTS: u64 = 67_108_864;
+pub(crate) const PIVOTS: u64 = 67_108_864;
 
 /// What is told of an answer.
 #[derive(Clone, Copy, PartialEq, Eq)]
@@ -26,7 +26,8 @@ enum Told {
     Numbers,
 }
 
-fn stopped(alloc: Global, stop: Stop) -> Result<String, CaseError> {
+/// Why there is no answer.
+pub(crate) fn stopped(alloc: Global, stop: Stop) -> Result<String, CaseError> {
     let mut out = String::new(alloc);
     match stop {
         Stop::Number(past) => push_past(&mut out, &past)?,

@@ -1,7 +1,7 @@
 // Implications as a case writes them: each operator behind its arguments, the hypotheses in order and the goal last.
 use crate::error::{CaseError, given};
 use lq_notation::Stacks;
-use lq_pred::{Closed, Preds};
+use lq_pred::{Closed, Pred, Preds};
 use std::alloc::{AllocError, Global};
 use std::fmt::Write;
 
@@ -61,8 +61,8 @@ fn word_in_round(alloc: Global, word: &str, round: u32) -> Result<String, AllocE
     Ok(out)
 }
 
-/// The implication of a text.
-pub(crate) fn implication_of(alloc: Global, text: &str) -> Result<Closed, CaseError> {
+// The predicates of a text but the last one, and that one.
+fn preds_of(alloc: Global, text: &str) -> Result<(Vec<Pred>, Pred), CaseError> {
     let mut reader = Reader {
         alloc,
         stacks: Stacks::new(alloc),
@@ -72,10 +72,31 @@ pub(crate) fn implication_of(alloc: Global, text: &str) -> Result<Closed, CaseEr
     if !stacks.terms.is_empty() {
         return Err(CaseError::NotACase);
     }
-    let goal = stacks.pred()?;
+    let last = stacks.pred()?;
+    Ok((stacks.preds, last))
+}
+
+/// The implication of a text.
+pub(crate) fn implication_of(alloc: Global, text: &str) -> Result<Closed, CaseError> {
+    let (preds, goal) = preds_of(alloc, text)?;
     let mut hypotheses = Preds::new(alloc)?;
-    for pred in stacks.preds {
+    for pred in preds {
         hypotheses.push(pred)?;
+    }
+    Ok(Closed { hypotheses, goal })
+}
+
+/// The implication of a text that has so many hypotheses, and several goals behind them: all but the last one are hypotheses too, negated as
+/// they are asked.
+pub(crate) fn goals_of(alloc: Global, text: &str, count: usize) -> Result<Closed, CaseError> {
+    let (preds, goal) = preds_of(alloc, text)?;
+    let mut hypotheses = Preds::new(alloc)?;
+    for (at, pred) in preds.into_iter().enumerate() {
+        if at < count {
+            hypotheses.push(pred)?;
+        } else {
+            hypotheses.push(Pred::Not(Box::new(alloc, pred)?))?;
+        }
     }
     Ok(Closed { hypotheses, goal })
 }

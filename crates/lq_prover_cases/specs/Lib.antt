@@ -1,0 +1,2 @@
+-- What readings speak of.
+pub mod Speaking
