@@ -1,5 +1,0 @@
-use Rattle.lq_annotated.proofs.Seen.{seen_are_weak}
-use Rattle.lq_annotated.proofs.laws.seen_are_weak.Goals as goal
-
-pub returns : goal.returns
-returns c = seen_are_weak c.scoped_visits_are_in.ensures c.solved_is_principal.ensures

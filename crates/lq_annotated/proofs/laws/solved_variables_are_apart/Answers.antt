@@ -1,5 +1,0 @@
-use Rattle.lq_annotated.proofs.Apart.{solved_variables_are_apart}
-use Rattle.lq_annotated.proofs.laws.solved_variables_are_apart.Goals as goal
-
-pub returns : goal.returns
-returns c = solved_variables_are_apart c.visits_are_rules.ensures c.renamed_are_principal.ensures c.solved_is_principal.ensures

@@ -1,6 +1,0 @@
-use Rattle.std.proofs.Common.{◌≡◌, map, take}
-use Rattle.lq_annotated.specs.Numbering.{value_or_zero}
-use Rattle.lq_annotated.proofs.numbering.values_of.Given as goal
-
-abbrev pub invariant-loop-name : goal.invariant-loop-name
-invariant-loop-name l = l.values.items ≡ map value_or_zero (take l.name-index l.names)

@@ -1,7 +1,0 @@
-use Rattle.std.proofs.Common.{take}
-use Rattle.lq_asking.specs.Through.{Steps}
-use Rattle.lq_asking.proofs.Stepping.{items_on}
-use Rattle.lq_asking.proofs.program.ask_all.Given as goal
-
-abbrev pub invariant-loop-item : goal.invariant-loop-item
-invariant-loop-item l = Steps l.basis l.initial.walk l.walk 0 l.env (items_on (take l.item-index l.program))

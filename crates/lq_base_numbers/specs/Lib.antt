@@ -1,0 +1,3 @@
+-- Rationals, whole numbers and their 128-bit forms, and exact fractions over `i128`.
+pub mod Fractions
+pub mod Rationals

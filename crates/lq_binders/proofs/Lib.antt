@@ -1,4 +1,0 @@
--- Lemmas.
-mod Apart
-mod Counting
-mod Times

@@ -1,6 +1,0 @@
-//! What the numbers of binders say of a scoped program.
-#![tactic(auto)]
-
-mod laws;
-
-pub use laws::{scoped_are_apart, scoped_bind_once};

@@ -1,7 +1,0 @@
-use Rattle.std.proofs.Common.{◌≤◌}
-use Rattle.lq_block.specs.declared.atom.AtomNode.{size-AtomNode}
-use Rattle.lq_block.proofs.dropping.+drop_node.Given as goal
-
--- what is left is no deeper than what was handed in
-abbrev pub invariant-loop-left : goal.invariant-loop-left
-invariant-loop-left l = size-AtomNode l.left ≤ size-AtomNode l.initial.left

@@ -1,3 +1,0 @@
--- Lemmas.
-mod Names
-mod Demands

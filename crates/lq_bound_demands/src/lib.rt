@@ -1,6 +1,0 @@
-//! That what a program is asked for speaks of bound names: laws.
-#![tactic(auto)]
-
-mod laws;
-
-pub use laws::demands_are_bound;

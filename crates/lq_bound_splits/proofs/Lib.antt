@@ -1,5 +1,0 @@
--- Lemmas.
-mod Forms
-mod Parts
-mod Matrices
-mod Splits

@@ -1,6 +1,0 @@
-//! That the implications of a subtyping speak of bound names: laws.
-#![tactic(auto)]
-
-mod laws;
-
-pub use laws::{hypotheses_are_over, splits_are_bound};

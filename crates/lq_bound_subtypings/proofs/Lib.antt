@@ -1,8 +1,0 @@
--- Lemmas.
-mod Arms
-mod Cases
-mod Blocks
-mod Programs
-mod Implications
-mod Differ
-mod Normal

@@ -1,7 +1,0 @@
-use Rattle.lq_bound_subtypings.proofs.Normal.{normal_posed}
-use Rattle.lq_bound_subtypings.proofs.laws.normal_forms_are_posed.Goals as goal
-
-pub returns : goal.returns
-returns c =
-    normal_posed c.templates_are_in_scope.ensures c.scopes_are_of_unknowns.ensures c.templates_are_of_points.ensures c.what_is_read_is_typed.ensures
-    c.templates_are_written.ensures c.definitions_are_nameless.ensures

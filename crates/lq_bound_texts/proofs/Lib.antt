@@ -1,3 +1,0 @@
--- Lemmas.
-pub mod Dues
-mod Staged

@@ -1,7 +1,0 @@
-use Rattle.std.proofs.Common.{◌≡◌, take}
-use Rattle.lq_linear.specs.Row.{sum_at}
-use Rattle.lq_num.specs.Value.{value_of}
-use Rattle.lq_case.proofs.holding.level_by.Given as goal
-
-abbrev pub invariant-loop-term : goal.invariant-loop-term
-invariant-loop-term g l = value_of l.total ≡ sum_at (g.E.LinearEngine.point l.engine) (take l.term-index l.term-items)

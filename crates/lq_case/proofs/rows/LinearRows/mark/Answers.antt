@@ -1,9 +1,0 @@
-use Rattle.std.proofs.Common.{◌≡◌, ◌∙◌, ap, sym, length, vec_len}
-use Rattle.lq_case.specs.RowState.{RowState}
-use Rattle.lq_case.proofs.Kept.{tagged-length}
-use Rattle.lq_case.proofs.rows.LinearRows.mark.Goals as goal
-
-pub returns : goal.returns
-returns c =
-    let v : vec_len c.self.inside.rows ≡ length c.self.inside.rows.items = c.self.inside.rows.ok.0 in
-    c.len.ensures ∙ v ∙ sym (tagged-length c.self.inside.rows.items) ∙ ap (λ (s : RowState). length s.rows) c.self.view_is

@@ -1,0 +1,4 @@
+-- Cases.
+pub mod DifferencesLemmas
+mod EnginesLemmas
+pub mod SimplexLemmas

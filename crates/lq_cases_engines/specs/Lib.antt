@@ -1,0 +1,4 @@
+-- Cases.
+pub mod Differences
+pub mod Engines
+pub mod Simplex

@@ -1,0 +1,20 @@
+-- Tableaux whose rows stand under the tags from 0 on.
+use Rattle.std.specs.Prelude.{◌≡◌, ◌≢◌, ℕ, suc, [], ◌∷◌}
+use Rattle.lq_logic_rows.specs.Row.{Row}
+use Rattle.lq_logic_rows.specs.Answers.{Stopped}
+use Rattle.lq_logic_rows.specs.Contradiction.{Tagged}
+use Rattle.lq_logic_rows.specs.Difference.{TermsBelow}
+use Rattle.lq_prover_simplex.specs.Table.{Table, table_rows, table_last, table_limits}
+
+abbrev pub AreNumbered : ℕ → Tagged → Type 0
+AreNumbered n [] = Unit {0}
+AreNumbered n (r ∷ rows) = (r.0 ≡ n) × AreNumbered (suc n) rows
+
+-- a tableau of these limits that hasn't stopped
+pub record IsKept (t : Table) : Type 0 where
+  pub numbered : AreNumbered 0 (table_rows t)
+  pub limits : table_limits t ≡ 5 ∷ 1000 ∷ []
+  pub going : table_last t ≢ Stopped
+
+abbrev pub IsTaken : Row → Type 0
+IsTaken row = TermsBelow 5 row.parts

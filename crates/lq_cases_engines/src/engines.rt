@@ -1,0 +1,39 @@
+//! Answers cases of numbers, predicates, points and rows: reads the files that its arguments name, and prints each
+//! case with its answer. The README beside `src/` says how a case is written.
+
+mod askable;
+mod case;
+mod chains;
+mod engines;
+mod error;
+mod evidence;
+mod fractions;
+mod numbers;
+mod parsing;
+mod points;
+mod predicates;
+mod printing;
+mod rows;
+mod systems;
+mod words;
+
+use case::answer;
+use std::alloc::Global;
+use std::io;
+
+// A line as it stands where it is none of a case, and else with its answer behind it.
+fn print_line(rt: &impl Print, alloc: Global, line: &str) -> io::Result<()> {
+    if line.is_empty() || line.starts_with('#') {
+        return println!(rt; "{line}");
+    }
+    let found = answer(alloc, line)?;
+    println!(rt; "{line} -> {found}")
+}
+
+/// Prints the lines of a table, each with its answer.
+pub fn print_table(rt: &impl Print, alloc: Global, table: &str) -> io::Result<()> {
+    for line in table.lines() {
+        print_line(rt, alloc, line)?;
+    }
+    Ok(())
+}

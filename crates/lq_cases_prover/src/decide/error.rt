@@ -1,0 +1,53 @@
+// Why a line has no answer.
+use lq_base_numbers::fractions::NumberPast;
+use lq_cases_kit::WordError;
+use lq_logic_predicates::Pred;
+use std::alloc::{AllocError, AllocFailed};
+
+/// Why a line has no answer.
+#[derive(Drop)]
+pub(crate) enum CaseError {
+    /// The line isn't a case.
+    NotACase,
+    /// A literal can't be gathered, that of this predicate.
+    Ungathered(Pred),
+    /// An operation by which an answer is checked is past 128 bits.
+    Past(NumberPast),
+    /// There is no memory.
+    Memory,
+}
+
+impl From<AllocError> for CaseError {
+    fn from(_e: AllocError) -> CaseError {
+        CaseError::Memory
+    }
+}
+
+impl<T: Drop> From<AllocFailed<T>> for CaseError {
+    fn from(_e: AllocFailed<T>) -> CaseError {
+        CaseError::Memory
+    }
+}
+
+impl From<NumberPast> for CaseError {
+    fn from(past: NumberPast) -> CaseError {
+        CaseError::Past(past)
+    }
+}
+
+impl From<WordError> for CaseError {
+    fn from(e: WordError) -> CaseError {
+        match e {
+            WordError::Misplaced => CaseError::NotACase,
+            WordError::Memory => CaseError::Memory,
+        }
+    }
+}
+
+/// What is there, or else the line isn't a case.
+pub(crate) fn given<T>(found: Option<T>) -> Result<T, CaseError> {
+    match found {
+        Some(x) => Ok(x),
+        None => Err(CaseError::NotACase),
+    }
+}

@@ -1,0 +1,103 @@
+// The texts of cases with their names bound.
+ghost use Rattle.std.specs.Prelude.{IfOk, IfSome};
+ghost use Rattle.lq_cases_rules.specs.Cases.{IsBound, IsParsed};
+
+use crate::case::Case;
+use lq_base_names::{Name, NameTable, TextKind};
+use lq_generate_fresh::fresh::constructors_differ;
+use lq_text_front::texts::{ScopedTexts, resolve};
+use lq_text_front::trees::parsed_programs_have_places;
+use lq_text_lexer::{TEXT_LIMIT, lex};
+use lq_text_parser::parse::{parse_measures, parse_program, parse_quals};
+use lq_text_tree::{Measures, Program, Quals};
+use std::alloc::{AllocError, Global};
+
+// A table with so many names has room for those of a text.
+const ROOM: u32 = 1 << 31;
+
+fn program_of(
+    alloc: Global,
+    names: &mut NameTable,
+    text: &[u8],
+) -> Result<Option<Program>, AllocError>
+    ensures { IfOk result (λ found. IfSome found IsParsed) }
+{
+    parsed_programs_have_places();
+    if text.len() > TEXT_LIMIT || names.len() > ROOM {
+        return Ok(None);
+    }
+    let Ok(tokens) = lex(alloc, text, TextKind::Program) else {
+        return Ok(None);
+    };
+    match parse_program(alloc, &tokens, text, names) {
+        Ok(program) => Ok(Some(program)),
+        Err(_) => Ok(None),
+    }
+}
+
+fn measures_of(
+    alloc: Global,
+    names: &mut NameTable,
+    text: &[u8],
+) -> Result<Option<Measures>, AllocError> {
+    if text.len() > TEXT_LIMIT || names.len() > ROOM {
+        return Ok(None);
+    }
+    let Ok(tokens) = lex(alloc, text, TextKind::Measures) else {
+        return Ok(None);
+    };
+    match parse_measures(alloc, &tokens, text, names) {
+        Ok(measures) => Ok(Some(measures)),
+        Err(_) => Ok(None),
+    }
+}
+
+fn quals_of(
+    alloc: Global,
+    names: &mut NameTable,
+    text: &[u8],
+) -> Result<Option<Quals>, AllocError> {
+    if text.len() > TEXT_LIMIT || names.len() > ROOM {
+        return Ok(None);
+    }
+    let Ok(tokens) = lex(alloc, text, TextKind::Quals) else {
+        return Ok(None);
+    };
+    match parse_quals(alloc, &tokens, text, names) {
+        Ok(quals) => Ok(Some(quals)),
+        Err(_) => Ok(None),
+    }
+}
+
+/// The three texts of a case with their names bound, or None where one of them is none or anything is wrong with it.
+pub(crate) fn texts_of(
+    alloc: Global,
+    names: &mut NameTable,
+    case: &Case,
+) -> Result<Option<ScopedTexts>, AllocError>
+    ensures { IfOk result (λ found. IfSome found IsBound) }
+{
+    constructors_differ();
+    let Some(program) = program_of(alloc, names, case.program.as_bytes())? else {
+        return Ok(None);
+    };
+    let Some(measures) = measures_of(alloc, names, case.measures.as_bytes())? else {
+        return Ok(None);
+    };
+    let Some(qualifiers) = quals_of(alloc, names, case.qualifiers.as_bytes())? else {
+        return Ok(None);
+    };
+    match resolve(alloc, &program, &measures, &qualifiers, names) {
+        Ok(texts) => Ok(Some(texts)),
+        Err(_) => Ok(None),
+    }
+}
+
+/// The text of a name.
+pub(crate) fn text_of(names: &NameTable, name: Name) -> &str {
+    if name.0 < names.len() {
+        names.text(name)
+    } else {
+        "?"
+    }
+}

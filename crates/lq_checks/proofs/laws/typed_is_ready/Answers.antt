@@ -1,5 +1,0 @@
-use Rattle.lq_checks.proofs.Readying.{typed_ready}
-use Rattle.lq_checks.proofs.laws.typed_is_ready.Goals as goal
-
-pub returns : goal.returns
-returns c = λ P Q p are h d. typed_ready c.simple_types_are_kept.ensures P Q are p h d

@@ -1,8 +1,0 @@
--- All so far stand.
-use Rattle.std.proofs.Common.{length}
-use Rattle.lq_cong.specs.Core.{AllBelow}
-use Rattle.lq_cong.specs.Steps.{terms_of}
-use Rattle.lq_class_cases.proofs.commands.args_of.Given as goal
-
-abbrev pub invariant-loop-word : goal.invariant-loop-word
-invariant-loop-word l = AllBelow (length (terms_of l.classes)) l.args

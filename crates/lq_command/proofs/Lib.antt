@@ -1,4 +1,0 @@
--- The proofs of this crate.
-mod Rows
-mod Walking
-mod Parsing

@@ -1,7 +1,0 @@
--- The terms so far.
-use Rattle.lq_cong.specs.Standing.{core_of}
-use Rattle.lq_cong.specs.Implied.{Represents}
-use Rattle.lq_cong.proofs.state.State.representatives.Given as goal
-
-abbrev pub invariant-loop-term : goal.invariant-loop-term
-invariant-loop-term l = Represents (core_of l.self) l.term l.pairs

@@ -1,9 +1,0 @@
-use Rattle.std.proofs.Common.{◌≡◌, ◌-◌, ◌++◌, map, drop}
-use Rattle.lq_tree.specs.SimpleTypeView.{simple_types_items}
-use Rattle.lq_constructors.specs.Views.{tasks_view}
-use Rattle.lq_constructors.proofs.Rows.{entering}
-use Rattle.lq_constructors.proofs.tasks.enter_row.Given as goal
-
-abbrev pub invariant-loop-at : goal.invariant-loop-at
-invariant-loop-at l =
-    tasks_view l.tasks.items ≡ map entering (drop (l.count - l.at) (simple_types_items l.row)) ++ tasks_view l.initial.tasks.items

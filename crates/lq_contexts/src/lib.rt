@@ -1,8 +1,0 @@
-//! Environments in which names have types, and the implications between the tops of two types in one.
-#![tactic(auto)]
-
-mod comparing;
-mod naming;
-
-pub use comparing::tops;
-pub use naming::{TypedName, guarded, named};

@@ -1,3 +1,0 @@
--- Lemmas.
-mod Datatypes
-mod Written

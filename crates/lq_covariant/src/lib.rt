@@ -1,6 +1,0 @@
-//! That code 9 refuses what soundness can't have in definitions of datatypes.
-#![tactic(auto)]
-
-mod laws;
-
-pub use laws::named_programs_are_covariant;

@@ -1,8 +1,0 @@
-use Rattle.std.proofs.Common.{◌≡◌, map, take}
-use Rattle.lq_scoped.specs.Views.{data_view}
-use Rattle.lq_tree.specs.Items.{parsed_items}
-use Rattle.lq_datatypes.specs.Datatypes.{datatypes_in}
-use Rattle.lq_datatypes.proofs.datatypes.datatypes_of.Given as goal
-
-abbrev pub invariant-loop-item : goal.invariant-loop-item
-invariant-loop-item l = map data_view l.datatypes.items ≡ datatypes_in (parsed_items (take l.item-index l.items))

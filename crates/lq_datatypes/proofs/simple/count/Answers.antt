@@ -1,6 +1,0 @@
-use Rattle.std.proofs.Common.{◌∙◌}
-use Rattle.lq_datatypes.proofs.Rows.{row_count}
-use Rattle.lq_datatypes.proofs.simple.count.Goals as goal
-
-pub returns : goal.returns
-returns c = c.len.ensures ∙ row_count c.args.row.now

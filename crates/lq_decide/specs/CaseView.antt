@@ -1,8 +1,0 @@
--- The case that one of the code stands for.
-use Rattle.lq_decide.specs.Case.{Case, facts_of}
-use Rattle.lq_decide.specs.declared.literals.Literals.{Literals}
-use Rattle.lq_pred.specs.PredView.{implication_of}
-use Rattle.lq_pred.specs.TableView.{terms_of}
-
-abbrev pub case_of : Literals → Case
-case_of l = record { facts = facts_of l.facts; terms = terms_of l.table; implication = implication_of l.implication }

@@ -1,9 +1,0 @@
-use Rattle.std.proofs.Common.{◌≡◌, ℕ, ◌==◌, ◌++◌, [], cond, map, take}
-use Rattle.lq_checking.specs.Basis.{items_at}
-use Rattle.lq_pred.specs.PredView.{formula_of}
-use Rattle.lq_declared.proofs.building.add_equations.Given as goal
-
-abbrev pub invariant-loop-fact : goal.invariant-loop-fact
-invariant-loop-fact l =
-    (c : ℕ) → map formula_of (items_at l.equations.items c)
-    ≡ map formula_of (items_at l.fn.equations.items c) ++ cond (l.name.0 == c) (map formula_of (take l.fact-index l.fact-items)) []

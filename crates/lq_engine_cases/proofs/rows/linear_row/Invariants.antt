@@ -1,9 +1,0 @@
-use Rattle.std.proofs.Common.{◌≤◌}
-use Rattle.lq_engine_cases.specs.Rows.{IsBelow}
-use Rattle.lq_engine_cases.proofs.rows.linear_row.Given as goal
-
-abbrev pub invariant-loop-term : goal.invariant-loop-term
-invariant-loop-term l = record {
-  below : IsBelow l.next l.parts.items;
-  within : l.next ≤ 64;
-}

@@ -1,6 +1,0 @@
-//! Environments of implications: each names its parent and the hypothesis that it adds, so that what they share is held once.
-#![tactic(auto)]
-
-mod environments;
-
-pub use environments::{Environment, Environments};

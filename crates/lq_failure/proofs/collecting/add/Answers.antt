@@ -1,7 +1,0 @@
-use Rattle.std.proofs.Common.{ap, ◌∙◌}
-use Rattle.lq_failure.specs.Collected.{valued_views}
-use Rattle.lq_failure.proofs.Keys.{views_with}
-use Rattle.lq_failure.proofs.collecting.add.Goals as goal
-
-pub returns : goal.returns
-returns c = ap valued_views c.in_ok-insert.ensures.keys ∙ views_with c.args.seen.now.keys c.args.valued

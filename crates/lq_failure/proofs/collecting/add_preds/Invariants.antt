@@ -1,8 +1,0 @@
-use Rattle.std.proofs.Common.{◌≡◌, map, take}
-use Rattle.lq_pred.specs.PredView.{formula_of}
-use Rattle.lq_failure.specs.Collected.{valued_views, with_each}
-use Rattle.lq_failure.specs.Occurrences.{in_formulas, same_valued}
-use Rattle.lq_failure.proofs.collecting.add_preds.Given as goal
-
-abbrev pub invariant-loop-pred : goal.invariant-loop-pred
-invariant-loop-pred l = valued_views l.seen.keys ≡ with_each same_valued (valued_views l.fn.seen.keys) (in_formulas (map formula_of (take l.pred-index l.preds)))

@@ -1,8 +1,0 @@
-use Rattle.std.proofs.Common.{◌≡◌, take}
-use Rattle.std.specs.Prelude.{count_by}
-use Rattle.lq_implications.specs.Views.{implications_of}
-use Rattle.lq_failure.specs.Heads.{is_alike}
-use Rattle.lq_failure.proofs.counting.count.Given as goal
-
-abbrev pub invariant-loop-before : goal.invariant-loop-before
-invariant-loop-before l = l.number ≡ count_by (is_alike l.demands) (take l.before (implications_of l.implications))

@@ -1,6 +1,0 @@
-use Rattle.std.proofs.Common.{refl}
-use Rattle.lq_failure.proofs.Lines.{class_added}
-use Rattle.lq_failure.proofs.point_lines.class_number.Goals as goal
-
-pub returns-clause-number : goal.returns-clause-number
-returns-clause-number c = class_added c.args.classes.now.keys _ c.args.class _ _ c.in_ok-at.ensures.keys c.in_ok-at.ensures.index refl

@@ -1,9 +1,0 @@
--- Lemmas.
-mod Weights
-mod Nexts
-mod Costs
-mod Resolving
-mod Paying
-mod Few
-mod Below
-mod Texts

@@ -1,5 +1,0 @@
-use Rattle.lq_few_names.proofs.Few.{make-few}
-use Rattle.lq_few_names.proofs.laws.parsed_programs_make_few.Goals as goal
-
-pub returns : goal.returns
-returns c = make-few c.same_trees.ensures.programs c.parsed_programs_are_small.ensures

@@ -1,6 +1,0 @@
-//! Normal forms of texts bind few names: definitions and laws.
-#![tactic(auto)]
-
-mod laws;
-
-pub use laws::{normal_forms_bind_below, parsed_programs_make_few, short_texts_have_twins};

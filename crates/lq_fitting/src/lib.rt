@@ -1,8 +1,0 @@
-//! Whether all implications are known to be gatherable, all instances of their unknowns in place.
-#![tactic(auto)]
-
-mod environments;
-mod fitting;
-mod parts;
-
-pub use fitting::all_fit;

@@ -1,3 +1,0 @@
--- Lemmas.
-mod Inside
-mod Uses

@@ -1,7 +1,0 @@
--- Lemmas.
-mod Quiet
-mod Visits
-mod Source
-mod Keeping
-mod Reading
-mod Composing

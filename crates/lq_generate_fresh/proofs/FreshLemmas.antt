@@ -1,0 +1,11 @@
+pub mod Adding
+pub mod Alone
+pub mod Cells
+pub mod Copying
+pub mod Differing
+pub mod Following
+pub mod Known
+pub mod Loops
+pub mod Plains
+pub mod Rows
+pub mod Walked

@@ -1,0 +1,4 @@
+-- The walk over a program that makes its implications.
+pub mod GenerateLemmas
+pub mod ObligationsLemmas
+pub mod WalkLemmas

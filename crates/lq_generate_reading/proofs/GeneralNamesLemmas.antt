@@ -1,0 +1,3 @@
+-- Lemmas.
+pub mod Inside
+pub mod Uses

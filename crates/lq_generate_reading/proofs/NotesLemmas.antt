@@ -1,0 +1,4 @@
+-- Lemmas.
+pub mod Fronts
+pub mod Noting
+pub mod Slots

@@ -1,0 +1,14 @@
+pub mod ArmForms
+pub mod Binding
+pub mod BlockForms
+pub mod Composing
+pub mod Forms
+pub mod IdleSteps
+pub mod ItemForms
+pub mod Kept
+pub mod OwnForms
+pub mod LetForms
+pub mod Looping
+pub mod Made
+pub mod PatternRows
+pub mod Rows

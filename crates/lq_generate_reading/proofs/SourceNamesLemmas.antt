@@ -1,0 +1,4 @@
+pub mod Normal
+pub mod Pures
+pub mod Reading
+pub mod Resolving

@@ -1,5 +1,0 @@
-use Rattle.lq_in_scope.proofs.Reading.{program_read}
-use Rattle.lq_in_scope.proofs.laws.templates_are_in_scope.Goals as goal
-
-pub returns : goal.returns
-returns c = program_read c.templates_are_of_their_types.ensures

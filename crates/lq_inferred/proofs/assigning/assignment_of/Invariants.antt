@@ -1,9 +1,0 @@
-use Rattle.std.proofs.Common.{◌≡◌, take}
-use Rattle.lq_assignment.specs.Views.{instance_lists}
-use Rattle.lq_instances.specs.Views.{instances_view}
-use Rattle.lq_weakening.specs.Chosen.{chosen_in}
-use Rattle.lq_inferred.specs.Listed.{picked_from}
-use Rattle.lq_inferred.proofs.assigning.assignment_of.Given as goal
-
-abbrev pub invariant-loop-unknown : goal.invariant-loop-unknown
-invariant-loop-unknown l = instance_lists l.assignment ≡ picked_from (chosen_in l.chosen) 0 (take l.unknown (instances_view l.instances))

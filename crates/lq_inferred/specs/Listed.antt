@@ -1,9 +1,0 @@
--- Chosen instances, unknown by unknown.
-use Rattle.std.specs.Prelude.{ℕ, suc, List, [], ◌∷◌}
-use Rattle.lq_parts.specs.Flowing.{Selection, picked}
-use Rattle.lq_pred.specs.Formula.{Formula}
-
--- those of the unknown of this number and of the ones behind it
-abbrev pub picked_from : Selection → ℕ → List (List Formula) → List (List Formula)
-picked_from c u [] = []
-picked_from c u (l ∷ ls) = picked (c u) 0 l ∷ picked_from c (suc u) ls

@@ -1,8 +1,0 @@
-//! The types of a program's definitions as lines.
-#![tactic(auto)]
-
-mod assigning;
-mod lines;
-
-pub use assigning::assignment_of;
-pub use lines::types_text;

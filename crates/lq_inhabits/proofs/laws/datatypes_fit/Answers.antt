@@ -1,8 +1,0 @@
-use Rattle.lq_inhabits.proofs.Keeping.{data_below, field_below}
-use Rattle.lq_inhabits.proofs.laws.datatypes_fit.Goals as goal
-
-pub returns-clause-datatypes : goal.returns-clause-datatypes
-returns-clause-datatypes c = data_below
-
-pub returns-clause-fields : goal.returns-clause-fields
-returns-clause-fields c = λ S cov f o As Bs h. field_below S cov f o As Bs h

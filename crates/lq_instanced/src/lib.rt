@@ -1,6 +1,0 @@
-//! A type with types for its type variables has the inhabitants of the type at their closed types: definitions and laws.
-#![tactic(auto)]
-
-mod laws;
-
-pub use laws::{instances_fit, instances_stay};

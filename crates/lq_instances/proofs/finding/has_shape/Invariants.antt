@@ -1,7 +1,0 @@
-use Rattle.std.proofs.Common.{◌≡◌, [], map, take}
-use Rattle.lq_sorted.specs.Views.{qualifier_view, shape_view}
-use Rattle.lq_instances.specs.Instances.{of_shape}
-use Rattle.lq_instances.proofs.finding.has_shape.Given as goal
-
-abbrev pub invariant-loop-qualifier : goal.invariant-loop-qualifier
-invariant-loop-qualifier l = of_shape (map qualifier_view (take l.qualifier-index l.qualifiers)) (shape_view l.shape) ≡ []

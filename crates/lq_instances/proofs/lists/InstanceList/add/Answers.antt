@@ -1,8 +1,0 @@
-use Rattle.lq_instances.proofs.Keeping.{keys-with}
-use Rattle.lq_instances.specs.declared.instance.Instance.{Instance}
-use Rattle.lq_instances.proofs.lists.InstanceList.add.Goals as goal
-
-pub returns : goal.returns
-returns c =
-    let made : Instance = record { predicate = c.args.predicate } in
-    keys-with c.args.self.now.instances.keys c.insert.new.self.keys made c.in_ok-insert.ensures.keys

@@ -1,8 +1,0 @@
--- Lemmas.
-mod Parts
-mod Varying
-mod Walking
-mod Ahead
-mod Finding
-mod Going
-mod Reading

@@ -1,8 +1,0 @@
-use Rattle.std.proofs.Common.{◌≡◌, ℕ, false, length, slice_index_or}
-use Rattle.lq_instantiated.proofs.general.widen.Given as goal
-
-abbrev pub invariant-loop : goal.invariant-loop
-invariant-loop l = record {
-  long : length l.table.items ≡ l.counter;
-  same : (i : ℕ) → slice_index_or l.table.items i false ≡ slice_index_or l.fn.table.items i false;
-}

@@ -1,5 +1,0 @@
-use Rattle.lq_io.proofs.Listed.{none_before}
-use Rattle.lq_io.proofs.memory.MemFolder.new.Goals as goal
-
-pub returns-clause-failures : goal.returns-clause-failures
-returns-clause-failures c = none_before c.args.failing.items

@@ -1,7 +1,0 @@
--- Lemmas.
-mod Agreement
-mod Answering
-mod Safe
-mod Selections
-mod Texts
-mod Verdicts

@@ -1,6 +1,0 @@
-use Rattle.lq_kept.proofs.Readings.{stored_none}
-use Rattle.lq_kept.specs.Places.{formula_at}
-use Rattle.lq_kept.proofs.kept.Kept.clear.Goals as goal
-
-pub returns-clause-stored : goal.returns-clause-stored
-returns-clause-stored c = λ I es cs. stored_none (formula_at I es cs) c.reset.new.self.known c.new.result c.new.ensures

@@ -1,6 +1,0 @@
--- No level so far ends in the unknown.
-use Rattle.lq_kept.proofs.Levels.{NoneFirst}
-use Rattle.lq_kept.proofs.level.count_before.Given as goal
-
-abbrev pub invariant-loop-at : goal.invariant-loop-at
-invariant-loop-at l = NoneFirst l.levels l.at l.unknown

@@ -1,6 +1,0 @@
-use Rattle.std.proofs.Common.{take}
-use Rattle.lq_linear.specs.Difference.{TermsBelow}
-use Rattle.lq_known.proofs.clash.is_below.Given as goal
-
-abbrev pub invariant-loop-part : goal.invariant-loop-part
-invariant-loop-part l = TermsBelow l.room (take l.part-index l.parts)

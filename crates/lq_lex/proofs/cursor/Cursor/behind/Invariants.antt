@@ -1,6 +1,0 @@
-use Rattle.std.proofs.Common.{◌≡◌, ◌+◌}
-use Rattle.lq_lex.specs.Places.{StandsAt}
-use Rattle.lq_lex.proofs.cursor.Cursor.behind.Given as goal
-
-abbrev pub invariant-loop-count : goal.invariant-loop-count
-invariant-loop-count l = StandsAt l.text l.cursor × (l.cursor.at ≡ l.fn.self.at + l.count)

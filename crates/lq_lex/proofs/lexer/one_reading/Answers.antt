@@ -1,5 +1,0 @@
-use Rattle.lq_lex.proofs.Unique.{has_one_reading}
-use Rattle.lq_lex.proofs.lexer.one_reading.Goals as goal
-
-pub returns : goal.returns
-returns c = has_one_reading

@@ -1,5 +1,0 @@
-use Rattle.lq_linear.specs.Clash.{clash}
-use Rattle.lq_linear.proofs.engine.conflict_or_point.Goals as goal
-
-pub returns : goal.returns
-returns c v rows ms s k = clash v rows ms s k

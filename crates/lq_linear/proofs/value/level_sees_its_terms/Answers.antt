@@ -1,5 +1,0 @@
-use Rattle.lq_linear.specs.Seen.{level_seen}
-use Rattle.lq_linear.proofs.value.level_sees_its_terms.Goals as goal
-
-pub returns : goal.returns
-returns c v w row h = level_seen v w row h

@@ -1,8 +1,0 @@
-use Rattle.lq_literals.proofs.Waiting.{push_two_leaves, push_two_size}
-use Rattle.lq_literals.proofs.leaf.push_two.Goals as goal
-
-pub returns-clause-leaves : goal.returns-clause-leaves
-returns-clause-leaves c = push_two_leaves c.args.waiting.now.items _ _ _ _ c.in_ok-push.ensures.items c.in_ok-push-2.ensures.items
-
-pub returns-clause-size : goal.returns-clause-size
-returns-clause-size c = push_two_size c.args.waiting.now.items _ _ _ _ c.in_ok-push.ensures.items c.in_ok-push-2.ensures.items

@@ -1,7 +1,0 @@
-use Rattle.std.proofs.Common.{◌≡◌, [], take}
-use Rattle.lq_literals.specs.LeafView.{leaf_views}
-use Rattle.lq_literals.specs.Parts.{flags_after}
-use Rattle.lq_literals.proofs.parts.flags.Given as goal
-
-abbrev pub invariant-loop-leaf : goal.invariant-loop-leaf
-invariant-loop-leaf l = l.flags.keys ≡ flags_after [] (leaf_views (take l.leaf-index l.leaf-items))

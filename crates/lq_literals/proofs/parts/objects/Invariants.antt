@@ -1,8 +1,0 @@
-use Rattle.std.proofs.Common.{◌≡◌, [], map, take}
-use Rattle.lq_literals.specs.LeafView.{leaf_views}
-use Rattle.lq_literals.specs.Parts.{objects_after}
-use Rattle.lq_pred.specs.TermView.{sum_of}
-use Rattle.lq_literals.proofs.parts.objects.Given as goal
-
-abbrev pub invariant-loop-leaf : goal.invariant-loop-leaf
-invariant-loop-leaf l = map sum_of l.objects.keys ≡ objects_after [] (leaf_views (take l.leaf-index l.leaf-items))

@@ -1,8 +1,0 @@
-use Rattle.lq_made_names.proofs.Numbered.{alone, in-order}
-use Rattle.lq_made_names.proofs.laws.made_names_are_in_order.Goals as goal
-
-pub returns-clause-order : goal.returns-clause-order
-returns-clause-order c = in-order
-
-pub returns-clause-alone : goal.returns-clause-alone
-returns-clause-alone c = alone

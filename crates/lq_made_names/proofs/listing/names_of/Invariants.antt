@@ -1,9 +1,0 @@
-use Rattle.std.proofs.Common.{◌≡◌, ◌++◌, drop}
-use Rattle.lq_block.specs.BlockView.{definitions_view}
-use Rattle.lq_made_names.specs.Numbers.{binders_view}
-use Rattle.lq_made_names.specs.Order.{names_of_items}
-use Rattle.lq_made_names.proofs.listing.names_of.Given as goal
-
-abbrev pub invariant-loop-definition : goal.invariant-loop-definition
-invariant-loop-definition l =
-    binders_view l.names.items ++ names_of_items (definitions_view (drop l.definition-index l.definitions)) ≡ names_of_items (definitions_view l.definitions)

@@ -1,7 +1,0 @@
-use Rattle.std.proofs.Common.{◌≡◌, ◌++◌, take}
-use Rattle.lq_made_names.specs.Numbers.{binders_view}
-use Rattle.lq_made_names.proofs.PatternRows.{names_of, row_of}
-use Rattle.lq_made_names.proofs.patterns.+names.Given as goal
-
-abbrev pub invariant-push_row-loop-at : goal.invariant-push_row-loop-at
-invariant-push_row-loop-at l = binders_view l.names.items ≡ binders_view l.initial.names.items ++ names_of (take l.at (row_of l.row))

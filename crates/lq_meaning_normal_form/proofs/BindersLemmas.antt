@@ -1,0 +1,4 @@
+-- Lemmas.
+pub mod Apart
+pub mod Counting
+pub mod Times

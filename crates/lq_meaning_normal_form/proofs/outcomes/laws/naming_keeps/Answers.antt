@@ -1,0 +1,6 @@
+use Rattle.lq_meaning_normal_form.proofs.OutcomesLemmas.Calls.{naming_keeps}
+use Rattle.lq_meaning_normal_form.proofs.outcomes.laws.naming_keeps.Goals as goal
+
+pub returns : goal.returns
+returns c =
+    naming_keeps (record { closed = c.environments.ensures.closed; behind = c.closing.ensures.behind; binds = c.closing.ensures.binds; one = c.closing.ensures.one; together = c.closing.ensures.together })

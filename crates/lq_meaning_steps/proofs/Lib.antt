@@ -1,0 +1,3 @@
+-- The meaning of programs, step by step, and that a typed program never gets stuck.
+pub mod ModelLemmas
+pub mod ProgressLemmas

@@ -1,7 +1,0 @@
-//! The equations of measures at a value that is made by a constructor.
-#![tactic(auto)]
-
-mod facts;
-mod terms;
-
-pub use facts::measure_facts;

@@ -1,4 +1,0 @@
-mod Terms
-mod Equations
-mod Pairing
-mod Numbers

@@ -1,4 +1,0 @@
--- Lemmas.
-mod Putting
-mod Skipping
-mod Keeping

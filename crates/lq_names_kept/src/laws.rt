@@ -1,7 +1,0 @@
-// Laws of the definitions. Nothing is run.
-ghost use Rattle.lq_names_kept.specs.Laws.{NamesAreKept};
-
-/// Operations on types keep of which names types speak.
-pub fn names_are_kept()
-    ensures { NamesAreKept }
-{}

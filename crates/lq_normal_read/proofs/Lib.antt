@@ -1,3 +1,0 @@
-mod Lets
-mod Shapes
-mod Reading

@@ -1,5 +1,0 @@
-use Rattle.lq_normal_scope.proofs.Once.{bind-once}
-use Rattle.lq_normal_scope.proofs.laws.normal_forms_bind_once.Goals as goal
-
-pub returns : goal.returns
-returns c = bind-once c.scoped_bind_once.ensures c.made_names_run.ensures

@@ -1,6 +1,0 @@
-use Rattle.lq_normal_texts.proofs.laws.typed_texts_have_rules.Goals as goal
-
-pub returns : goal.returns
-returns c text names tokens is read known n obeys =
-    let types = c.annotated_programs_have_types.ensures known is n obeys in
-    (c.typed_programs_have_rules.ensures _ (c.parsed_programs_are_written.ensures text names tokens is read known) types, types)

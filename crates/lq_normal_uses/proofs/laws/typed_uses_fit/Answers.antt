@@ -1,5 +1,0 @@
-use Rattle.lq_normal_uses.proofs.Typed.{typed_fit}
-use Rattle.lq_normal_uses.proofs.laws.typed_uses_fit.Goals as goal
-
-pub returns : goal.returns
-returns c = typed_fit c.visits_are_rules.ensures c.scoped_visits_are_in.ensures

@@ -1,9 +1,0 @@
-// What an expression became.
-use lq_block::{Atom, Operation};
-
-/// What can stand as an operand, and whether the expression is pure as it is written; or another operation.
-#[derive(Drop)]
-pub enum Normal {
-    Atom(Atom, bool),
-    Operation(Operation),
-}

@@ -1,4 +1,0 @@
--- Lemmas.
-mod Fronts
-mod Noting
-mod Slots

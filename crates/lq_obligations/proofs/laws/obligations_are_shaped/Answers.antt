@@ -1,5 +1,0 @@
-use Rattle.lq_obligations.proofs.Shaping.{program_shaped}
-use Rattle.lq_obligations.proofs.laws.obligations_are_shaped.Goals as goal
-
-pub returns : goal.returns
-returns c = λ P Γ program r. program_shaped P Γ program r

@@ -1,6 +1,0 @@
-//! What a program is asked for, before subtypings are split into implications: definitions and laws.
-#![tactic(auto)]
-
-mod laws;
-
-pub use laws::{obligations_are_implications, obligations_are_shaped};

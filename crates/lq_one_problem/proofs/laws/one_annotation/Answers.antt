@@ -1,5 +1,0 @@
-use Rattle.lq_one_problem.proofs.One.{one_annotation}
-use Rattle.lq_one_problem.proofs.laws.one_annotation.Goals as goal
-
-pub returns : goal.returns
-returns c = one_annotation c.one_inference.ensures c.general_uses_are_defined.ensures

@@ -1,3 +1,0 @@
--- Lemmas.
-mod Entries
-mod Templates

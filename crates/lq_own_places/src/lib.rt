@@ -1,6 +1,0 @@
-//! That the templates of points are subtypes of themselves: laws.
-#![tactic(auto)]
-
-mod laws;
-
-pub use laws::{templates_are_subtypes_of_themselves, templates_have_own_places};

@@ -1,5 +1,0 @@
-pub mod Restricting
-pub mod Replacing
-pub mod Values
-pub mod Flows
-mod Refuting

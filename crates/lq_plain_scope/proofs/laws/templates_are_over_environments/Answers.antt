@@ -1,5 +1,0 @@
-use Rattle.lq_plain_scope.proofs.Environments.{template_over}
-use Rattle.lq_plain_scope.proofs.laws.templates_are_over_environments.Goals as goal
-
-pub returns : goal.returns
-returns c = template_over c.types_over_names_are_over_them.ensures c.names_are_kept.ensures

@@ -1,6 +1,0 @@
-//! That templates in scope are over the environments of soundness: laws.
-#![tactic(auto)]
-
-mod laws;
-
-pub use laws::{recursions_are_over_environments, templates_are_over_environments};

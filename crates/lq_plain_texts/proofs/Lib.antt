@@ -1,4 +1,0 @@
--- Lemmas.
-mod Formed
-pub mod Conditions
-mod Texts

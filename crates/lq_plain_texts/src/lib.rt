@@ -1,6 +1,0 @@
-//! Texts whose implications are valid are safe: laws.
-#![tactic(auto)]
-
-mod laws;
-
-pub use laws::{texts_are_plain, texts_are_safe};

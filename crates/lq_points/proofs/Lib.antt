@@ -1,3 +1,0 @@
-mod Erasing
-mod Cells
-mod Numbering

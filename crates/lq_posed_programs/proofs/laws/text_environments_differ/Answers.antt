@@ -1,5 +1,0 @@
-use Rattle.lq_posed_programs.proofs.Texts.{names_differ}
-use Rattle.lq_posed_programs.proofs.laws.text_environments_differ.Goals as goal
-
-pub returns : goal.returns
-returns c = names_differ c.noted_texts_are_ready.ensures c.short_texts_have_twins.ensures c.environments_differ.ensures

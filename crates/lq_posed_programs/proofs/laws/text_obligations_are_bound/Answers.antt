@@ -1,5 +1,0 @@
-use Rattle.lq_posed_programs.proofs.Texts.{obligations_bound}
-use Rattle.lq_posed_programs.proofs.laws.text_obligations_are_bound.Goals as goal
-
-pub returns : goal.returns
-returns c = obligations_bound c.texts_are_posed.ensures c.obligations_are_bound.ensures

@@ -1,5 +1,0 @@
-use Rattle.lq_posed_texts.proofs.Staged.{one_problem}
-use Rattle.lq_posed_texts.proofs.laws.one_posing.Goals as goal
-
-pub returns : goal.returns
-returns c = one_problem record { binding = c.one_binding.ensures; types = c.one_inference.ensures; annotation = c.one_annotation.ensures }

@@ -1,0 +1,3 @@
+-- What implications are made of, and the trees that prove them.
+pub mod Literals
+pub mod Trees

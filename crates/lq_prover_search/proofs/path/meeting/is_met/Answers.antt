@@ -1,0 +1,63 @@
+use Rattle.std.proofs.Common.{◌≡◌, Bool, true, false, not, MatchBool, refl, sym, subst}
+use Rattle.std.specs.Ordering.{MatchOrdering}
+use Rattle.std.specs.declared.cmp.Ordering.{Ordering}
+use Rattle.std.specs.declared.cmp.Ordering.TheVariants.{Less, Equal, Greater}
+use Rattle.lq_base_numbers.specs.Rationals.Rational.{ℚ}
+use Rattle.lq_base_numbers.specs.Rationals.RationalOrder.{◌≤ℚ◌, ◌<ℚ◌}
+use Rattle.lq_base_numbers.specs.Rationals.OrderLaws.{<ℚ_apart, ≤ℚ_from_below, ≤ℚ_from_same}
+use Rattle.lq_base_numbers.specs.Fractions.Value.{value_of}
+use Rattle.lq_prover_search.proofs.path.meeting.is_met.Goals as goal
+
+met_below : (o : Ordering) (x z : ℚ) (equal : Bool) → o ≡ Less → MatchOrdering o (x <ℚ z) (x ≡ z) (z <ℚ x) → not equal ≡ true → MatchBool equal (x ≡ z) (x ≤ℚ z)
+met_below Less x z true e h k = absurd (cc)
+met_below Less x z false e h k = ≤ℚ_from_below x z h
+met_below Equal x z equal e h k = absurd (cc)
+met_below Greater x z equal e h k = absurd (cc)
+
+met_at : (o : Ordering) (x z : ℚ) (equal : Bool) → o ≡ Equal → MatchOrdering o (x <ℚ z) (x ≡ z) (z <ℚ x) → MatchBool equal (x ≡ z) (x ≤ℚ z)
+met_at Equal x z true e h = h
+met_at Equal x z false e h = ≤ℚ_from_same x z h
+met_at Less x z equal e h = absurd (cc)
+met_at Greater x z equal e h = absurd (cc)
+
+not_below : (x z : ℚ) (equal : Bool) → x <ℚ z → MatchBool equal (x ≡ z) (x ≤ℚ z) → not equal ≡ true
+not_below x z true h m = absurd (<ℚ_apart x z h m)
+not_below x z false h m = refl
+
+not_above : (x z : ℚ) (equal : Bool) → z <ℚ x → MatchBool equal (x ≡ z) (x ≤ℚ z) → false ≡ true
+not_above x z true h m = absurd (h (≤ℚ_from_same x z m))
+not_above x z false h m = absurd (h m)
+
+less : (o : Ordering) (x z : ℚ) → o ≡ Less → MatchOrdering o (x <ℚ z) (x ≡ z) (z <ℚ x) → x <ℚ z
+less Less x z e h = h
+less Equal x z e h = absurd (cc)
+less Greater x z e h = absurd (cc)
+
+greater : (o : Ordering) (x z : ℚ) → o ≡ Greater → MatchOrdering o (x <ℚ z) (x ≡ z) (z <ℚ x) → z <ℚ x
+greater Greater x z e h = h
+greater Less x z e h = absurd (cc)
+greater Equal x z e h = absurd (cc)
+
+pub returns-in-Less : goal.returns-in-Less
+returns-in-Less c =
+    subst (λ z. (not c.args.equal ≡ true → MatchBool c.args.equal (value_of c.args.level.now ≡ z) (value_of c.args.level.now ≤ℚ z))
+    × (MatchBool c.args.equal (value_of c.args.level.now ≡ z) (value_of c.args.level.now ≤ℚ z) → not c.args.equal ≡ true)) c.whole.ensures.value (
+      λ k. met_below c.cmp.result (value_of c.args.level.now) (value_of c.whole.result) c.args.equal c.in-Less.is c.cmp.ensures.order k,
+      λ m. not_below (value_of c.args.level.now) (value_of c.whole.result) c.args.equal
+          (less c.cmp.result (value_of c.args.level.now) (value_of c.whole.result) c.in-Less.is c.cmp.ensures.order) m,
+    )
+
+pub returns-in-Equal : goal.returns-in-Equal
+returns-in-Equal c = (
+  λ k. subst (λ z. MatchBool c.args.equal (value_of c.args.level.now ≡ z) (value_of c.args.level.now ≤ℚ z)) c.whole.ensures.value
+      (met_at c.cmp.result (value_of c.args.level.now) (value_of c.whole.result) c.args.equal c.in-Equal.is c.cmp.ensures.order),
+  λ m. refl,
+)
+
+pub returns-in-Greater : goal.returns-in-Greater
+returns-in-Greater c = (
+  λ k. absurd (cc),
+  λ m. not_above (value_of c.args.level.now) (value_of c.whole.result) c.args.equal
+      (greater c.cmp.result (value_of c.args.level.now) (value_of c.whole.result) c.in-Greater.is c.cmp.ensures.order)
+      (subst (λ z. MatchBool c.args.equal (value_of c.args.level.now ≡ z) (value_of c.args.level.now ≤ℚ z)) (sym c.whole.ensures.value) m),
+)

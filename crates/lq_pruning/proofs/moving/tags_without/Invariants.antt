@@ -1,7 +1,0 @@
-use Rattle.std.proofs.Common.{◌≡◌, map, take}
-use Rattle.lq_combine.specs.TreeView.{tag_items}
-use Rattle.lq_pruning.specs.Span.{moved}
-use Rattle.lq_pruning.proofs.moving.tags_without.Given as goal
-
-abbrev pub invariant-loop-tag : goal.invariant-loop-tag
-invariant-loop-tag l = tag_items l.all ≡ map (moved l.facts) (take l.tag-index l.tag-items)

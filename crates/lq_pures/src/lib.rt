@@ -1,6 +1,0 @@
-//! What normal trees run as, and when pure expressions run to values of their types: definitions and laws.
-#![tactic(auto)]
-
-mod laws;
-
-pub use laws::pures_run;

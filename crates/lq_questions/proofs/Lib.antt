@@ -1,6 +1,0 @@
-mod Picking
-mod Joining
-mod Unknowns
-mod Adding
-mod Leaving
-mod Covering

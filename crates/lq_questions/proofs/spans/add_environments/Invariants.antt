@@ -1,8 +1,0 @@
--- What of the environments is still to be left.
-use Rattle.std.proofs.Common.{length}
-use Rattle.lq_implications.specs.Views.{environment_lists}
-use Rattle.lq_questions.proofs.Leaving.{AreLeft}
-use Rattle.lq_questions.proofs.spans.add_environments.Given as goal
-
-abbrev pub invariant-loop-env : goal.invariant-loop-env
-invariant-loop-env l = AreLeft (environment_lists l.implications) (length (environment_lists l.implications)) l.initial.ranges l.initial.spans l.env l.ranges l.spans

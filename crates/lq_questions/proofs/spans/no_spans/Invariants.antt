@@ -1,6 +1,0 @@
--- As many as were added.
-use Rattle.std.proofs.Common.{◌≡◌, length}
-use Rattle.lq_questions.proofs.spans.no_spans.Given as goal
-
-abbrev pub invariant-loop : goal.invariant-loop
-invariant-loop l = length l.spans.items ≡ l.counter

@@ -1,7 +1,0 @@
-use Rattle.lq_inhabits.specs.Shut.{Shuts, no_shuts}
-use Rattle.lq_inhabits.specs.Runs.{LandsIn}
-use Rattle.lq_quiet.proofs.Agreeing.{all_agree}
-use Rattle.lq_quiet.proofs.laws.runs_agree.Goals as goal
-
-pub returns : goal.returns
-returns c = λ S W T n e w h. all_agree Shuts no_shuts (λ by. LandsIn S (W by) (T by)) n e w h

@@ -1,6 +1,0 @@
-mod Pures
-mod Blocks
-pub mod Numbered
-pub mod Named
-pub mod Typing
-pub mod Typed

@@ -1,6 +1,0 @@
-//! What a normal program means when it is read as one of the typing rules.
-#![tactic(auto)]
-
-mod laws;
-
-pub use laws::{what_is_read_is_typed, what_is_read_means_the_same};

@@ -1,7 +1,0 @@
-use Rattle.std.proofs.Common.{◌≡◌, drop}
-use Rattle.lq_points.specs.Reading.{are_builds}
-use Rattle.lq_reading.specs.Blocks.{patterns_view}
-use Rattle.lq_reading.proofs.patterns.are_builds.Given as goal
-
-abbrev pub invariant-loop-arm : goal.invariant-loop-arm
-invariant-loop-arm l = are_builds (patterns_view l.arms) ≡ are_builds (patterns_view (drop l.arm-index l.arms))

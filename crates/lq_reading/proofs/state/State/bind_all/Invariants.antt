@@ -1,9 +1,0 @@
-use Rattle.std.proofs.Common.{take}
-use Rattle.lq_points.specs.Seen.{all_seen}
-use Rattle.lq_visible.specs.Stack.{names_view}
-use Rattle.lq_reading.specs.Names.{Sees}
-use Rattle.lq_reading.specs.State.{seen_of}
-use Rattle.lq_reading.proofs.state.State.bind_all.Given as goal
-
-abbrev pub invariant-loop-name : goal.invariant-loop-name
-invariant-loop-name l = Sees l.notes l.initial.self l.self (all_seen (names_view (take l.name-index l.names)) (seen_of l.initial.self))

@@ -1,6 +1,0 @@
-//! Refined types and their operations: definitions and laws.
-#![tactic(auto)]
-
-mod laws;
-
-pub use laws::{chains_of_substitutions, simple_types_are_kept};

@@ -1,0 +1,3 @@
+-- The equations of measures, and what lengths and measures are of the values of a program.
+pub mod EquationsLemmas
+mod ValuesLemmas

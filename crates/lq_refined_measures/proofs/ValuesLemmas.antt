@@ -1,0 +1,4 @@
+pub mod Terms
+pub mod Equations
+pub mod Pairing
+pub mod Numbers

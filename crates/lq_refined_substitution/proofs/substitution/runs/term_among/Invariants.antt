@@ -1,0 +1,8 @@
+use Rattle.std.proofs.Common.{◌≡◌, ◌++◌, drop}
+use Rattle.lq_refined_types.specs.Parts.Substitution.{Subst, sum_at}
+use Rattle.lq_refined_substitution.specs.Substitution.Views.{swaps_view}
+use Rattle.lq_refined_substitution.proofs.substitution.runs.term_among.Given as goal
+
+abbrev pub invariant-loop-swap : goal.invariant-loop-swap
+invariant-loop-swap l =
+    (θ : Subst) → sum_at (swaps_view l.swaps ++ θ) l.symbol ≡ sum_at (swaps_view (drop l.swap-index l.swaps) ++ θ) l.symbol

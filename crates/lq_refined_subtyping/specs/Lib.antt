@@ -1,0 +1,4 @@
+-- Refined types in memory, and the implications of subtypings between them.
+pub mod Contexts
+pub mod Split
+pub mod Table

@@ -1,0 +1,5 @@
+pub mod Restricting
+pub mod Replacing
+pub mod Values
+pub mod Flows
+pub mod Refuting

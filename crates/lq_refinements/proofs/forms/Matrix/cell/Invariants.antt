@@ -1,9 +1,0 @@
-use Rattle.std.proofs.Common.{◌≡◌, drop, map}
-use Rattle.lq_refined.specs.Unfolding.{cell}
-use Rattle.lq_refinements.specs.Forms.{cell_view, matrix_view}
-use Rattle.lq_refinements.proofs.forms.Matrix.cell.Given as goal
-
-abbrev pub invariant-loop-cell : goal.invariant-loop-cell
-invariant-loop-cell l =
-    cell (map cell_view (drop l.cell-index l.cell-items)) l.place.constructor.0 l.place.field l.place.parameter
-    ≡ cell (matrix_view l.self) l.place.constructor.0 l.place.field l.place.parameter

@@ -1,6 +1,0 @@
-use Rattle.std.proofs.Common.{◌≡◌, map, take}
-use Rattle.lq_refinements.specs.Forms.{cell_view}
-use Rattle.lq_refinements.proofs.forms.Matrix.copy.Given as goal
-
-abbrev pub invariant-loop-cell : goal.invariant-loop-cell
-invariant-loop-cell l = map cell_view l.items.items ≡ map cell_view (take l.cell-index l.cell-items)

@@ -1,3 +1,0 @@
--- Lemmas.
-mod Exclusive
-mod Reflexive

@@ -1,6 +1,0 @@
-mod Building
-mod Items
-mod PatternRows
-mod Running
-mod Stacks
-mod Tuples

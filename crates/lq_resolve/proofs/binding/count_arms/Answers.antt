@@ -1,6 +1,0 @@
-use Rattle.std.proofs.Common.{◌∙◌}
-use Rattle.lq_resolve.proofs.Building.{arms_count}
-use Rattle.lq_resolve.proofs.binding.count_arms.Goals as goal
-
-pub returns : goal.returns
-returns c = c.len.ensures ∙ arms_count c.args.arms.now

@@ -1,6 +1,0 @@
-use Rattle.std.proofs.Common.{◌∙◌}
-use Rattle.lq_resolve.proofs.Building.{parts_count}
-use Rattle.lq_resolve.proofs.pass.count_parts.Goals as goal
-
-pub returns : goal.returns
-returns c = c.len.ensures ∙ parts_count c.args.parts.now

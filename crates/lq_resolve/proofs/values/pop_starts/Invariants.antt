@@ -1,8 +1,0 @@
-use Rattle.std.proofs.Common.{◌≡◌, reverse}
-use Rattle.lq_resolve.specs.Machine.{last_starts, starts_below}
-use Rattle.lq_resolve.proofs.values.pop_starts.Given as goal
-
-abbrev pub invariant-loop : goal.invariant-loop
-invariant-loop l =
-    (reverse l.popped.items ≡ last_starts l.counter (reverse l.initial.starts.items))
-    × (reverse l.starts.items ≡ starts_below l.counter (reverse l.initial.starts.items))

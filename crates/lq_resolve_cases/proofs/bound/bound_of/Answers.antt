@@ -1,4 +1,0 @@
-use Rattle.lq_resolve_cases.proofs.bound.bound_of.Goals as goal
-
-pub resolved-requires : goal.resolved-requires
-resolved-requires c = c.parsed_programs_have_places.ensures _ _ _ _ c.in-Ok-parse_program.ensures.parsed.ok

@@ -1,9 +1,0 @@
-mod Determined
-mod Fitting
-mod Nodes
-mod Programs
-mod Resolutions
-mod Resolving
-mod Samples
-mod Spanning
-mod Taking

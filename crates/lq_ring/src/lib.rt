@@ -1,8 +1,0 @@
-//! Circular lists of indexes that are joined and split in constant time.
-#![tactic(auto)]
-
-mod rings;
-mod walk;
-
-pub use rings::Rings;
-pub use walk::RingWalk;

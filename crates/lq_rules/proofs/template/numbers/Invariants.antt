@@ -1,6 +1,0 @@
-use Rattle.std.proofs.Common.{◌≡◌}
-use Rattle.lq_rules.specs.Templates.{upto}
-use Rattle.lq_rules.proofs.template.numbers.Given as goal
-
-abbrev pub invariant-loop-at : goal.invariant-loop-at
-invariant-loop-at l = l.all.items ≡ upto l.first l.at

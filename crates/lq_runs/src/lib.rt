@@ -1,6 +1,0 @@
-//! When the forms of a normal program run well: definitions and laws.
-#![tactic(auto)]
-
-mod laws;
-
-pub use laws::forms_run;

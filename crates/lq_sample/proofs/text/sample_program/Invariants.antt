@@ -1,6 +1,0 @@
-use Rattle.std.proofs.Common.{◌≡◌}
-use Rattle.lq_sample.specs.Sample.{sample_program_text}
-use Rattle.lq_sample.proofs.text.sample_program.Given as goal
-
-abbrev pub invariant-loop-index : goal.invariant-loop-index
-invariant-loop-index l = l.text.items ≡ sample_program_text l.index

@@ -1,5 +1,0 @@
-use Rattle.lq_scalar.proofs.Reading.{definitions_nameless}
-use Rattle.lq_scalar.proofs.laws.definitions_are_nameless.Goals as goal
-
-pub returns : goal.returns
-returns c = definitions_nameless c.templates_are_of_their_types.ensures

@@ -1,5 +1,0 @@
-use Rattle.lq_scalar.proofs.Reading.{templates_written}
-use Rattle.lq_scalar.proofs.laws.templates_are_written.Goals as goal
-
-pub returns : goal.returns
-returns c = templates_written c.templates_are_of_their_types.ensures

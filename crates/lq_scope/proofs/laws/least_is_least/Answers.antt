@@ -1,5 +1,0 @@
-use Rattle.lq_scope.proofs.Ordering.{least_is_least}
-use Rattle.lq_scope.proofs.laws.least_is_least.Goals as goal
-
-pub returns : goal.returns
-returns c = least_is_least

@@ -1,6 +1,0 @@
-use Rattle.std.proofs.Common.{refl, sym, subst}
-use Rattle.lq_search.specs.Splits.{IsOpen}
-use Rattle.lq_search.proofs.choosing.better.Goals as goal
-
-pub returns : goal.returns
-returns c = subst (IsOpen c.args.choices.now) (sym c.rank_of-other.ensures) (c.if-not-is_open.ensures refl)

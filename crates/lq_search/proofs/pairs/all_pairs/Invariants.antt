@@ -1,7 +1,0 @@
-use Rattle.std.proofs.Common.{◌≡◌}
-use Rattle.lq_pred.specs.TableView.{terms_of}
-use Rattle.lq_search.specs.Pairs.{ArePairsUpTo}
-use Rattle.lq_search.proofs.pairs.all_pairs.Given as goal
-
-abbrev pub invariant-loop-right : goal.invariant-loop-right
-invariant-loop-right l = (terms_of l.table ≡ terms_of l.terms) × ArePairsUpTo (terms_of l.terms) l.right l.pairs.items

@@ -1,9 +1,0 @@
-use Rattle.std.proofs.Common.{◌≡◌, List, take}
-use Rattle.lq_instances.specs.Counting.{replaced_count}
-use Rattle.lq_instances.specs.Scopes.{scope_in, Scope}
-use Rattle.lq_sorts.specs.Shapes.{Shape}
-use Rattle.lq_shared_unknowns.specs.Counting.{AreColumns}
-use Rattle.lq_shared_unknowns.proofs.counting.replaced_count.Given as goal
-
-abbrev pub invariant-loop-index : goal.invariant-loop-index
-invariant-loop-index l = (ss : List Shape) (all : List Scope) → AreColumns ss all l.columns → l.count ≡ replaced_count (take l.index ss) (scope_in all l.scope)

@@ -1,5 +1,0 @@
-use Rattle.lq_simplex.specs.Bounds.{AreUncrossed}
-use Rattle.lq_simplex.proofs.limits.Limits.crossed.Given as goal
-
-abbrev pub invariant-loop-variable : goal.invariant-loop-variable
-invariant-loop-variable l = AreUncrossed l.self l.variable

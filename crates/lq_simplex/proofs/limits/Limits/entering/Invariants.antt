@@ -1,7 +1,0 @@
-use Rattle.std.proofs.Common.{take}
-use Rattle.lq_linear.specs.Steps.{valuation_of}
-use Rattle.lq_simplex.specs.Bounds.{AllBlocked}
-use Rattle.lq_simplex.proofs.limits.Limits.entering.Given as goal
-
-abbrev pub invariant-loop-at : goal.invariant-loop-at
-invariant-loop-at l = AllBlocked l.self l.side (valuation_of l.values) (take l.at l.line)

@@ -1,0 +1,3 @@
+-- The greatest selection of instances that makes all flows valid, whoever says which implications are valid, and what these ask under a selection.
+mod QuestionsLemmas
+mod WeakeningLemmas

@@ -1,0 +1,6 @@
+pub mod Picking
+pub mod Joining
+pub mod Unknowns
+pub mod Adding
+pub mod Leaving
+pub mod Covering

@@ -1,0 +1,15 @@
+pub mod Turning
+pub mod Terms
+pub mod Whole
+pub mod Weights
+pub mod Fewer
+pub mod Entries
+pub mod Matched
+pub mod Forming
+pub mod Existing
+pub mod Counting
+pub mod Sizes
+pub mod Standing
+pub mod Making
+pub mod Small
+pub mod Differences

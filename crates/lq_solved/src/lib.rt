@@ -1,8 +1,0 @@
-//! The types that solve a system, as a table.
-#![tactic(auto)]
-
-mod classes;
-mod heads;
-mod slots;
-
-pub use slots::{SlotTypes, table_of};

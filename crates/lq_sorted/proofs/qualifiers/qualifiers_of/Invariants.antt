@@ -1,9 +1,0 @@
-use Rattle.std.proofs.Common.{◌≡◌, map, take}
-use Rattle.lq_tree.specs.Qualifiers.{qualifiers_view}
-use Rattle.lq_sorted.specs.Making.{qualifier_made}
-use Rattle.lq_sorted.specs.Views.{measured_view, qualifier_view, seen}
-use Rattle.lq_sorted.proofs.qualifiers.qualifiers_of.Given as goal
-
-abbrev pub invariant-loop-qualifier : goal.invariant-loop-qualifier
-invariant-loop-qualifier l =
-    map qualifier_view l.made.items ≡ map (qualifier_made l.names (seen measured_view l.measures)) (qualifiers_view (take l.qualifier-index l.qualifiers))

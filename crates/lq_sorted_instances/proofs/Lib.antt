@@ -1,3 +1,0 @@
--- Lemmas.
-mod Qualifiers
-mod Instances

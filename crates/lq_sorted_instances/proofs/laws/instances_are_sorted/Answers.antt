@@ -1,5 +1,0 @@
-use Rattle.lq_sorted_instances.proofs.Instances.{instances_speak}
-use Rattle.lq_sorted_instances.proofs.laws.instances_are_sorted.Goals as goal
-
-pub returns : goal.returns
-returns c = instances_speak c.instances_speak_at_sorts.ensures

@@ -1,6 +1,0 @@
-//! Qualifiers of texts are sorted, and so are their instances: definitions and laws.
-#![tactic(auto)]
-
-mod laws;
-
-pub use laws::{instances_are_sorted, instances_are_well_sorted, qualifiers_are_sorted};

@@ -1,3 +1,0 @@
--- Lemmas.
-mod Matrices
-pub mod Variables

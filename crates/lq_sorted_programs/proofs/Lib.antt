@@ -1,6 +1,0 @@
--- Lemmas.
-mod Erasing
-mod Names
-mod Fixed
-mod Twins
-mod Programs

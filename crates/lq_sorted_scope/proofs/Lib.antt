@@ -1,8 +1,0 @@
--- Lemmas.
-pub mod Basics
-pub mod Parts
-pub mod Scopes
-pub mod Types
-pub mod Instances
-pub mod Fields
-mod Speaking

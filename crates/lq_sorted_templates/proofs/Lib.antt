@@ -1,4 +1,0 @@
--- Lemmas.
-mod Made
-mod Points
-pub mod Reading

@@ -1,6 +1,0 @@
-mod Defining
-mod Fields
-mod Looking
-mod Lookups
-mod Ordering
-mod Rows

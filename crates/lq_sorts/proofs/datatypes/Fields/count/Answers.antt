@@ -1,8 +1,0 @@
-use Rattle.std.proofs.Common.{sym, ap, ◌∙◌}
-use Rattle.lq_tree.specs.Types.{count_types}
-use Rattle.lq_sorts.specs.Views.{fields_view}
-use Rattle.lq_sorts.proofs.Fields.{types_count}
-use Rattle.lq_sorts.proofs.datatypes.Fields.count.Goals as goal
-
-pub returns-in-Written : goal.returns-in-Written
-returns-in-Written c = c.len.ensures ∙ types_count c.in-Written.types.now ∙ ap (λ f. count_types (fields_view f)) (sym c.in-Written.is)

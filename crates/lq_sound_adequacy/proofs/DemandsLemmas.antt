@@ -1,0 +1,3 @@
+-- Lemmas.
+pub mod Names
+pub mod Demands

@@ -1,0 +1,3 @@
+-- Lemmas.
+pub mod Entries
+pub mod Templates

@@ -1,0 +1,3 @@
+-- Lemmas.
+pub mod Exclusive
+pub mod Reflexive

@@ -1,0 +1,4 @@
+-- Lemmas.
+pub mod Made
+pub mod Points
+pub mod Reading

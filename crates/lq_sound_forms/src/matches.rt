@@ -1,0 +1,5 @@
+//! Matches on datatypes run well: definitions and laws.
+
+mod laws;
+
+pub use laws::matches_run;

@@ -1,0 +1,5 @@
+//! Tuples run well: definitions and laws.
+
+mod laws;
+
+pub use laws::tuples_run;

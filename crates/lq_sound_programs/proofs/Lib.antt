@@ -1,0 +1,4 @@
+-- What checks runs well, and is safe: definitions and laws.
+pub mod PlainLemmas
+pub mod SafetyLemmas
+mod ScenesLemmas

@@ -1,0 +1,3 @@
+pub mod Lets
+pub mod Shapes
+pub mod Reading

@@ -1,0 +1,5 @@
+-- Lemmas.
+pub mod Composing
+pub mod Given
+pub mod Once
+pub mod Seen

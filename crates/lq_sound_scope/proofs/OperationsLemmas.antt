@@ -1,0 +1,4 @@
+-- Lemmas.
+pub mod Putting
+pub mod Skipping
+pub mod Keeping

@@ -1,0 +1,39 @@
+-- The example is scalar.
+use Rattle.std.proofs.Common.{ℕ, ◌<◌, ◌^◌, arith}
+use Rattle.lq_sound_scope.specs.Scalars.Example.{ExampleIsScalar}
+
+below : (x : ℕ) → x < 11 → x < 2 ^ 31
+below x h = omega (arith, h)
+
+pub example_scalar : ExampleIsScalar
+example_scalar = (
+  (
+    ((tt, tt), ((tt, tt), tt, ((tt, tt), (tt, (tt, tt))))),
+    ((((tt, tt), ((tt, tt), ((tt, tt), ((tt, (tt, tt)), (tt, ((tt, tt), tt)))))), tt), tt),
+  ),
+  (
+    below 0 (omega arith),
+    (
+      below 1 (omega arith),
+      (
+        below 2 (omega arith),
+        (
+          below 3 (omega arith),
+          (
+            below 4 (omega arith),
+            (
+              below 5 (omega arith),
+              (
+                below 6 (omega arith),
+                (
+                  below 7 (omega arith),
+                  (below 8 (omega arith), (below 9 (omega arith), (below 10 (omega arith), tt))),
+                ),
+              ),
+            ),
+          ),
+        ),
+      ),
+    ),
+  ),
+)

@@ -1,0 +1,5 @@
+-- Lemmas.
+pub mod Forms
+pub mod Parts
+pub mod Matrices
+pub mod Splits

@@ -1,0 +1,5 @@
+use Rattle.lq_sound_scope.proofs.EnvironmentsLemmas.Environments.{template_over}
+use Rattle.lq_sound_scope.proofs.environments.laws.templates_are_over_environments.Goals as goal
+
+pub returns : goal.returns
+returns c = template_over c.types_over_names_are_over_them.ensures c.names_are_kept.ensures

@@ -1,0 +1,3 @@
+-- Lemmas.
+pub mod Qualifiers
+pub mod Instances

@@ -1,0 +1,4 @@
+-- Lemmas.
+pub mod Formed
+pub mod Conditions
+pub mod Texts

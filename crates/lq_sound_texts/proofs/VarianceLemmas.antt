@@ -1,0 +1,3 @@
+-- Lemmas.
+pub mod Datatypes
+pub mod Written

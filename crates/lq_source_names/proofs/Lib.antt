@@ -1,4 +1,0 @@
-mod Normal
-mod Pures
-mod Reading
-mod Resolving

@@ -1,7 +1,0 @@
-use Rattle.std.proofs.Common.{◌≡◌, ◌-◌, ◌^◌, map, min, take}
-use Rattle.lq_refinements.specs.Forms.{cell_view}
-use Rattle.lq_split.specs.Counting.{cells_asked}
-use Rattle.lq_split.proofs.counting.cells_asked.Given as goal
-
-abbrev pub invariant-loop-cell : goal.invariant-loop-cell
-invariant-loop-cell l = l.count ≡ min (cells_asked (map cell_view (take l.cell-index l.cell-items))) (2 ^ 64 - 1)

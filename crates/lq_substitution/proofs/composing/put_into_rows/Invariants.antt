@@ -1,8 +1,0 @@
-use Rattle.std.proofs.Common.{◌≡◌, ◌++◌, map, drop}
-use Rattle.lq_substitution.specs.Composing.{put_in}
-use Rattle.lq_substitution.specs.Views.{runs_view, subst_view}
-use Rattle.lq_substitution.proofs.composing.put_into_rows.Given as goal
-
-abbrev pub invariant-loop-run : goal.invariant-loop-run
-invariant-loop-run l =
-    runs_view l.made.items ++ map (put_in (subst_view l.by)) (runs_view (drop l.run-index l.runs)) ≡ map (put_in (subst_view l.by)) (runs_view l.runs)

@@ -1,8 +1,0 @@
-use Rattle.std.proofs.Common.{◌≡◌, ◌++◌, drop}
-use Rattle.lq_parts.specs.Substitution.{Subst, flag_at}
-use Rattle.lq_substitution.specs.Views.{swaps_view}
-use Rattle.lq_substitution.proofs.runs.pred_among.Given as goal
-
-abbrev pub invariant-loop-swap : goal.invariant-loop-swap
-invariant-loop-swap l =
-    (θ : Subst) → flag_at (swaps_view l.swaps ++ θ) l.symbol ≡ flag_at (swaps_view (drop l.swap-index l.swaps) ++ θ) l.symbol

@@ -1,8 +1,0 @@
-use Rattle.std.proofs.Common.{◌≡◌, ◌++◌, drop}
-use Rattle.lq_parts.specs.Substitution.{Subst, sum_at}
-use Rattle.lq_substitution.specs.Views.{swaps_view}
-use Rattle.lq_substitution.proofs.runs.term_among.Given as goal
-
-abbrev pub invariant-loop-swap : goal.invariant-loop-swap
-invariant-loop-swap l =
-    (θ : Subst) → sum_at (swaps_view l.swaps ++ θ) l.symbol ≡ sum_at (swaps_view (drop l.swap-index l.swaps) ++ θ) l.symbol

@@ -1,5 +1,0 @@
-use Rattle.lq_subtype.proofs.Splitting.{split_met, split_hold}
-use Rattle.lq_subtype.proofs.laws.split_is_subtype.Goals as goal
-
-pub returns : goal.returns
-returns c = λ P A o Γ l r same. (λ m. split_hold P A o Γ l r same m, λ h. split_met P A o Γ l r same h)

@@ -1,5 +1,0 @@
-mod Patterns
-mod Reading
-mod Binding
-mod Parsed
-mod Suiting

@@ -1,6 +1,0 @@
-//! That typed programs of texts suit the typing rules: laws.
-#![tactic(auto)]
-
-mod laws;
-
-pub use laws::{texts_have_flat_patterns, typed_programs_suit, typed_texts_suit};

@@ -1,6 +1,0 @@
-//! Which trees the tokens of a text stand for, by a case for each line of the grammar.
-#![tactic(auto)]
-
-mod laws;
-
-pub use laws::{examples, one_tree, same_trees};

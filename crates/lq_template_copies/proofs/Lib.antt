@@ -1,3 +1,0 @@
-mod Scopes
-mod Cells
-mod Copies

@@ -1,2 +1,0 @@
-mod Erasing
-mod Numbering

@@ -1,0 +1,3 @@
+-- Lemmas.
+pub mod Dues
+pub mod Staged

@@ -1,0 +1,4 @@
+-- Three texts, a program, measures and qualifiers, from their bytes to these with their names bound, or why they are refused.
+pub mod BytesLemmas
+mod TextsLemmas
+pub mod TreesLemmas

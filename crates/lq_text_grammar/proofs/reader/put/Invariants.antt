@@ -1,0 +1,8 @@
+use Rattle.std.proofs.Common.{◌≡◌, ◌++◌, ◌≤◌, reverse, length, drop}
+use Rattle.lq_text_grammar.proofs.reader.put.Given as goal
+
+abbrev pub invariant-loop-left : goal.invariant-loop-left
+invariant-loop-left l = (l.left ≤ length l.body) × (reverse l.stack.items ≡ drop l.left l.body ++ reverse l.initial.stack.items)
+
+abbrev pub decreases-loop-left : goal.decreases-loop-left
+decreases-loop-left l = l.left

@@ -1,6 +1,0 @@
-//! The measures of a text: that they are measures of values by their equations, which speak of fields at their sorts.
-#![tactic(auto)]
-
-mod laws;
-
-pub use laws::{text_measures_are_sorted, text_measures_fit};

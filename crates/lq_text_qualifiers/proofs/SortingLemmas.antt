@@ -1,0 +1,9 @@
+pub mod Fields
+pub mod Looking
+pub mod Lookups
+pub mod Rows
+pub mod Working
+pub mod Clean
+pub mod Becoming
+pub mod Qualified
+pub mod Measuring

@@ -1,5 +1,0 @@
--- Lemmas.
-mod Composing
-mod Given
-mod Once
-mod Seen

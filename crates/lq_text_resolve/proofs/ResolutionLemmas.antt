@@ -1,0 +1,9 @@
+pub mod Determined
+pub mod Fitting
+pub mod Nodes
+pub mod Programs
+pub mod Resolutions
+pub mod Resolving
+pub mod Samples
+pub mod Spanning
+pub mod Taking

@@ -1,0 +1,3 @@
+-- Programs with their names bound, or why they are refused.
+pub mod Binding
+pub mod Resolution

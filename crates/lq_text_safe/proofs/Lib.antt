@@ -1,5 +1,0 @@
--- Lemmas.
-pub mod Outcomes
-mod Texts
-mod Instances
-mod Predeclared

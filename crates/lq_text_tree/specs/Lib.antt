@@ -1,0 +1,23 @@
+-- The definitions of trees.
+pub mod Depth
+pub mod Finding
+pub mod FreeNames
+pub mod Items
+pub mod Levels
+pub mod MeasureTrees
+pub mod MlType
+pub mod Pattern
+pub mod PatternView
+pub mod PredTree
+pub mod PredView
+pub mod Qualifiers
+pub mod SimpleTypeView
+pub mod Texts
+pub mod Tree
+pub mod TreeView
+pub mod TypeTree
+pub mod TypeView
+pub mod Signatures
+pub mod Types
+pub mod TypingRules
+pub use Rattle.lq_base_names.specs.NameTable

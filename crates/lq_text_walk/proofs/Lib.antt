@@ -1,0 +1,2 @@
+-- Programs whose names are bound, and walks over trees.
+mod WalkLemmas

@@ -1,7 +1,0 @@
-// What holds of the definitions.
-ghost use Rattle.lq_texts.specs.Resolution.{OneResolution};
-
-/// The three texts have at most one resolution.
-pub fn one_resolution()
-    ensures { OneResolution }
-{}

@@ -1,0 +1,9 @@
+use Rattle.std.proofs.Common.{◌≡◌, map, take}
+use Rattle.lq_refined_instances.specs.Views.{list_view}
+use Rattle.lq_refined_types.specs.Parts.Flowing.{picked}
+use Rattle.lq_logic_predicates.specs.PredView.{formula_of, pred_items}
+use Rattle.lq_solve_fixpoint.specs.Weakening.Chosen.{chosen_in}
+use Rattle.lq_top_answers.proofs.inferred.assigning.chosen_of.Given as goal
+
+abbrev pub invariant-loop-at : goal.invariant-loop-at
+invariant-loop-at l = map formula_of (pred_items l.preds) ≡ picked (chosen_in l.chosen l.unknown) 0 (take l.at (list_view l.list))

@@ -1,0 +1,4 @@
+-- The proofs of this crate.
+pub mod Rows
+pub mod Walking
+pub mod Parsing

@@ -1,6 +1,0 @@
-//! Tuples run well: definitions and laws.
-#![tactic(auto)]
-
-mod laws;
-
-pub use laws::tuples_run;

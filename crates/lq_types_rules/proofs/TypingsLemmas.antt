@@ -1,0 +1,15 @@
+pub mod Lists
+pub mod Trees
+pub mod Numbers
+pub mod Values
+pub mod Items
+pub mod Programs
+pub mod Leaving
+pub mod Fronts
+pub mod Places
+pub mod Alike
+pub mod Roots
+pub mod OneAnswer
+pub mod Samples
+pub mod Turning
+pub mod Renaming

@@ -1,0 +1,7 @@
+//! The rules of types, node by node and visit by visit.
+#![tactic(auto)]
+
+pub mod constructors;
+pub mod equations;
+pub mod typings;
+pub mod visits;

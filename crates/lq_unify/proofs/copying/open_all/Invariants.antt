@@ -1,5 +1,0 @@
-use Rattle.lq_unify.specs.Copying.{AreOpened}
-use Rattle.lq_unify.proofs.copying.open_all.Given as goal
-
-abbrev pub invariant-loop : goal.invariant-loop
-invariant-loop l = AreOpened l.fn.arena l.arena l.counter

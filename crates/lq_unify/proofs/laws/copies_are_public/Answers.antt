@@ -1,5 +1,0 @@
-use Rattle.lq_unify.proofs.Copied.{public}
-use Rattle.lq_unify.proofs.laws.copies_are_public.Goals as goal
-
-pub returns : goal.returns
-returns c = public

@@ -1,5 +1,0 @@
-use Rattle.lq_unify.proofs.Longer.{known}
-use Rattle.lq_unify.proofs.laws.known_classes_grow.Goals as goal
-
-pub returns : goal.returns
-returns c = known

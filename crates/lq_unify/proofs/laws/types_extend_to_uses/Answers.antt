@@ -1,5 +1,0 @@
-use Rattle.lq_unify.proofs.Copied.{extend}
-use Rattle.lq_unify.proofs.laws.types_extend_to_uses.Goals as goal
-
-pub returns : goal.returns
-returns c = extend

@@ -1,5 +1,0 @@
-use Rattle.std.proofs.Common.{◌<◌, All}
-use Rattle.lq_unify_cases.proofs.system.parts_of.Given as goal
-
-abbrev pub invariant-loop-word : goal.invariant-loop-word
-invariant-loop-word l = All (λ p. p < l.count) l.parts.items

@@ -1,5 +1,0 @@
--- Lemmas.
-mod Posed
-mod Scoped
-mod Taken
-mod Totals

@@ -1,7 +1,0 @@
-use Rattle.std.proofs.Common.{◌≡◌, map, take}
-use Rattle.lq_pretty.specs.Views.{source_view}
-use Rattle.lq_scoped.specs.Whole.{scoped_view}
-use Rattle.lq_verdict.proofs.naming.binder_sources.Given as goal
-
-abbrev pub invariant-loop-at : goal.invariant-loop-at
-invariant-loop-at l = map source_view l.names.items ≡ take l.at (scoped_view l.program).sources

@@ -1,6 +1,0 @@
-mod FitsSteps
-mod LevelSteps
-mod Names
-mod NextScope
-mod OneHidden
-mod Walks

@@ -1,6 +1,0 @@
-mod Lets
-mod Listed
-mod Nexts
-mod PatternPlaces
-mod Rows
-mod Spreads

@@ -1,9 +1,0 @@
-use Rattle.std.proofs.Common.{◌≡◌, ◌++◌, map, take}
-use Rattle.lq_tree.specs.TreeView.{case_view, arms_items}
-use Rattle.lq_walk.specs.Parts.{arms_parts}
-use Rattle.lq_walk.specs.Pending.{seen}
-use Rattle.lq_walk.proofs.walk.push_arms.Given as goal
-
-abbrev pub invariant-loop-at : goal.invariant-loop-at
-invariant-loop-at g l =
-    seen _ g.B.Ident.number l.parts.items ≡ seen _ g.B.Ident.number l.initial.parts.items ++ arms_parts (map (case_view _ g.B.Ident.number) (take l.at (arms_items _ l.arms)))

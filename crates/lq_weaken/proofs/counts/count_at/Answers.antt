@@ -1,7 +1,0 @@
-use Rattle.std.proofs.Common.{length, sym, ap}
-use Rattle.lq_instances.specs.Views.{instances_view}
-use Rattle.lq_weaken.proofs.Counting.{none_is}
-use Rattle.lq_weaken.proofs.counts.count_at.Goals as goal
-
-pub returns-in-None : goal.returns-in-None
-returns-in-None c = sym (ap length (none_is (instances_view c.args.instances.now) c.args.unknown c.in-None.ensures))

@@ -1,7 +1,0 @@
--- Each implication so far can be gathered.
-use Rattle.lq_questions.specs.Assigned.{constraints_of, instances_in}
-use Rattle.lq_weaken.proofs.Stopping.{AreGatheredBefore}
-use Rattle.lq_weaken.proofs.gathering.first_ungathered.Given as goal
-
-abbrev pub invariant-loop-at : goal.invariant-loop-at
-invariant-loop-at l = AreGatheredBefore (instances_in l.instances) (constraints_of l.implications) l.at

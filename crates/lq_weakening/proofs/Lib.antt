@@ -1,7 +1,0 @@
-mod Setting
-mod Counting
-mod Rows
-mod Members
-mod Inserting
-mod Weakening
-mod Looping
