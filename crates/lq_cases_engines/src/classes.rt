@@ -1,8 +1,6 @@
 //! Answers a table of cases of classes, in the notation of README.md.
 
 mod commands;
-#[cfg(test)]
-mod taking_back;
 
 use commands::answer;
 use std::alloc::Global;

@@ -3,8 +3,6 @@
 #![tactic(auto)]
 
 mod front;
-#[cfg(test)]
-mod made;
 mod resolve;
 mod scope;
 mod sorts;

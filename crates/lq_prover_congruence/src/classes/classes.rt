@@ -208,17 +208,3 @@ impl Classes {
         Mark(self.state.steps)
     }
 }
-
-#[cfg(test)]
-mod tests {
-    use super::*;
-    use std::test::Fail;
-
-    #[test]
-    fn begins_with_nothing(rt: HostRuntime) -> Result<(), Fail> {
-        let classes = Classes::new(rt.alloc())?;
-        let Mark(steps) = classes.mark();
-        assert_eq!(rt; steps, 0);
-        Ok(())
-    }
-}

@@ -1,4 +1,4 @@
-// Two hundred merges, taken back one by one.
+// Classes that begin with nothing, and two hundred merges that are taken back one by one.
 use lq_logic_predicates::{Mark, Symbol};
 use lq_prover_congruence::classes::{Classes, Head, Ids};
 use std::alloc::{AllocError, Global};
@@ -74,5 +74,13 @@ fn two_hundred_merges_are_taken_back(rt: HostRuntime) -> Result<(), Fail> {
         assert!(rt; agrees(&classes, &labels));
         merges.pop();
     }
+    Ok(())
+}
+
+#[test]
+fn begins_with_nothing(rt: HostRuntime) -> Result<(), Fail> {
+    let classes = Classes::new(rt.alloc())?;
+    let Mark(steps) = classes.mark();
+    assert_eq!(rt; steps, 0);
     Ok(())
 }

@@ -1,5 +1,5 @@
 // The fakes and the adapters, each once at a concrete type.
-use crate::{
+use lq_base_io::{
     CalmFolder, CalmSink, FetchError, Folder, MemFolder, MemSink, RealFolder, RealSink, Sink,
     SinkFailed,
 };
