@@ -151,8 +151,16 @@ pull-above (n ∷ ns) m m' k (slot j (suc x) ∷ s) (slot i (suc y) ∷ s') r e 
     go true is w again = rw (← h.0, is) (again w)
     go false is w again = absurd cc
 
+put-above : (gs : List Sort) (e f k : ℕ) (s s' r : List Slot) → e + k ≤ f → Above k r s s' → Above k r (put gs e s) (put gs f s')
+put-above [] e f k s s' r small h = h
+put-above (g ∷ gs) e f k s s' r small h = (refl, small, put-above gs e f k s s' r small h)
+
 abbrev UsesAbove : ℕ → List Slot → List Slot → Option (List Slot) → Type 0
 UsesAbove k r t o = (u : List Slot) × (o ≡ Some u) × Above k r t u
+
+puts-above : (gs : List Sort) (e k f : ℕ) (s s' r : List Slot) (p : Pulled) → p ≡ pulled f s' → suc e + k ≤ f → Above k r s s' → UsesAbove k r (put gs (suc e) s) (put_pulled gs p)
+puts-above gs e k zero s s' r p is small h = absurd (omega arith)
+puts-above gs e k (suc f) s s' r p is small h = (put gs (suc f) s', ap (put_pulled gs) is, put-above gs (suc e) (suc f) k s s' r small h)
 
 use-above : (c : Step) (ns : List Need) (gs : List Sort) (d d' k : ℕ) (s s' r t : List Slot) → d + k ≤ d' → Above k r s s' → use_of c ns gs d s ≡ Some t → UsesAbove k r t (use_of c ns gs d' s')
 use-above c ns gs d d' k s s' r t small h q = go (pull ns (paid c d) s) refl q
