@@ -65,6 +65,9 @@ module _ (i : Instantiated) (types : TypeTable) (u : ℕ) (slots : List ℕ) (te
   pub slots_low : All (λ r. r < length all) slots
   slots_low = low slots slots_inside
 
+  pub binders_low : (n : ℕ) → All (λ r. r < length all) (drop n slots)
+  binders_low n = All-drop (λ r. r < length all) n slots slots_low
+
   pub rows_low : All (λ r. r < length all) i.rows.items
   rows_low = low i.rows.items rows_inside
 

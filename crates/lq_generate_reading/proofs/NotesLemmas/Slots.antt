@@ -17,6 +17,24 @@ use Rattle.lq_generate_reading.specs.Visibility.Notes.{between, text_if, type_if
 use Rattle.lq_generate_reading.specs.SourceNames.Texts.{text_in}
 use Rattle.lq_generate_reading.specs.Notes.Slots.{HasSlots}
 
+-- one slot more
+pub one_slot : (a : Annotated) (k : ℕ) (slots : List ℕ) (r : ℕ) → HasSlots a k slots → r < length (table_of a) → at (table_of a) r ≡ types_of a k
+    → HasSlots a (k + 1) (slots ++ r ∷ [])
+one_slot a k slots r h low is = record {
+  long = let l = h.long in let n = length-append slots (r ∷ []) in omega (arith, l, n);
+  inside = All-push (λ r. r < length (table_of a)) slots r h.inside low;
+  types = λ i less. at_either i less (cases_eq i k);
+}
+  where
+    at_either : (i : ℕ) → i < k + 1 → (i ≡ k) ⊎ (i ≡ k → ⊥) → at (table_of a) (slice_index_or (slots ++ r ∷ []) i 0) ≡ types_of a i
+    at_either i less (inl same) =
+        let l = h.long in
+        ap (at (table_of a)) (get_or_push slots r 0 i (omega (arith, same, l))) ∙ is ∙ ap (types_of a) (sym same)
+    at_either i less (inr other) =
+        let l = h.long in
+        let low : i < k = omega (arith, less, other) in
+        ap (at (table_of a)) (get_or_append_left slots (r ∷ []) 0 i (omega (arith, low, l))) ∙ h.types i low
+
 pub type_there : (all : List MlType) (slots : List ℕ) (k : ℕ) → k < length slots
     → type_if all (slice_get slots k) ≡ at all (slice_index_or slots k 0)
 type_there all slots k h = ap (type_if all) (slice_get-get_or slots k 0 h)

@@ -67,3 +67,16 @@ module _ (m : Notes) where
     scopes = t.scopes;
     stands = t.stands;
   }
+
+  -- with a last part
+  pub through_last : {B : Type 0} (old mid new : State) (f : B → B) (W : Read B) (y : B) (R : Read B) → Through m old mid f W R → Reads m mid new y R
+      → seen_of mid ≡ seen_of old → Reads m old new (f y) W
+  through_last old mid new f W y R t d s = record {
+    read = ap f d.read ∙ ap (λ r. r.read) (sym t.is);
+    points = d.points
+        ∙ (ap (λ l. l ++ R.points) t.points ∙ (append_assoc (points_in m old) t.between R.points
+        ∙ ap (λ l. points_in m old ++ l) (ap (λ r. r.points) (sym t.is))));
+    seen = d.seen ∙ s;
+    scopes = Longer-trans (scopes_of old) (scopes_of mid) (scopes_of new) t.scopes d.scopes;
+    stands = d.stands;
+  }

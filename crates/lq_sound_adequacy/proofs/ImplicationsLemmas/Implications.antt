@@ -49,6 +49,10 @@ guards_names : (qs : Parts) (Γ : Context) → names_in (with_guards qs Γ) ≡ 
 guards_names [] Γ = refl
 guards_names (q ∷ qs) Γ = guards_names qs (guard q ∷ Γ)
 
+guards_sorts : (qs : Parts) (Γ : Context) → sorts_of (with_guards qs Γ) ≡ sorts_of Γ
+guards_sorts [] Γ = refl
+guards_sorts (q ∷ qs) Γ = guards_sorts qs (guard q ∷ Γ)
+
 -- one more on both sides
 more_both : (a b c : Bool) → (a || c) ≡ true → (a ≡ true → b ≡ true) → (b || c) ≡ true
 more_both true b c h f = or_left b c (f refl)

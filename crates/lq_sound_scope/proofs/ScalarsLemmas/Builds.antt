@@ -80,6 +80,14 @@ built_erased : (es : List Pure) (ts : Refineds) → all_erased ts ≡ all_erased
 built_erased [] ts = all_empty_erased ts
 built_erased (e ∷ es) ts = refl
 
+count_empty : (ts : Refineds) → count ts ≡ count (empty_types ts)
+count_empty none = refl
+count_empty (more t ts) = ap suc (count_empty ts)
+
+count_built : (es : List Pure) (ts : Refineds) → count ts ≡ count (built_arguments es ts)
+count_built [] ts = count_empty ts
+count_built (e ∷ es) ts = refl
+
 module _ (P : Basis) (unknowns : ℕ → Unknown) where
   empty_over : (N : Names) (t : Refined) → TypeOver P.setting.constructors unknowns N t → TypeOver P.setting.constructors unknowns N (empty_type t)
   empty_over N (int_with p) h = (tt, (tt, tt))

@@ -81,6 +81,10 @@ strengthened_nameless q (map_with e p) h = h
 strengthened_nameless q (type_variable i) h = h
 
 module _ (scopes : Scopes) (θ : Subst) (m : Matrix) (c j : ℕ) where
+  count_pushed : (i : ℕ) (ts : Refineds) → count (pushed scopes θ m c j i ts) ≡ count ts
+  count_pushed i none = refl
+  count_pushed i (more t ts) = ap suc (count_pushed (suc i) ts)
+
   pushed_erased : (i : ℕ) (ts : Refineds) → all_erased ts ≡ all_erased (pushed scopes θ m c j i ts)
   pushed_erased i none = refl
   pushed_erased i (more t ts) =

@@ -267,6 +267,10 @@ module _ (scopes : Scopes) where
   twins_erased none = refl
   twins_erased (more t ts) = ap₂ ml.more_types (sym (twin-erased scopes t)) (twins_erased ts)
 
+  count_twin : (ts : Refineds) → count (twins scopes ts) ≡ count ts
+  count_twin none = refl
+  count_twin (more t ts) = ap suc (count_twin ts)
+
   mutual
     pub scalar_put : (θ : Subst) (t : Refined) → IsScalar t → IsScalar (type_by scopes θ t)
     scalar_put θ (int_with p) h = tt

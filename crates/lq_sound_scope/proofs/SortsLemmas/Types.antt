@@ -125,6 +125,9 @@ module _ (g : Signature) (unknowns : ℕ → Unknown) where
       components_within N M (with_kind U (kind t) (Position (suc k))) (with_kind V (kind t) (Position (suc k))) w (wider_kind U V v (kind t) (Position (suc k))) (suc k) ts h.2,
     )
 
+  pub type_within : (N M : Sorts) → IsWithin N M → (t : Refined) → TypeSorted g unknowns N t → TypeSorted g unknowns M t
+  type_within N M w t h = (inside_within N M w t h.0, top_within unknowns N M w t h.1)
+
   pub inside_with : (N : Sorts) (q : Parts) (t : Refined) → InsideSorted g unknowns N t → InsideSorted g unknowns N (with_top q t)
   inside_with N q (int_with p) h = h
   inside_with N q (bool_with p) h = h

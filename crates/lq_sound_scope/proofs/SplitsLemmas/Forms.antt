@@ -21,6 +21,10 @@ first_in : MlTypes → MlType
 first_in ml.no_types = ml.unit
 first_in (ml.more_types t ts) = t
 
+rest_in : MlTypes → MlTypes
+rest_in ml.no_types = ml.no_types
+rest_in (ml.more_types t ts) = ts
+
 pub same_kinds : (ls rs : Refineds) → all_erased ls ≡ all_erased rs → (i : ℕ) → kind (type_at ls i) ≡ kind (type_at rs i)
 same_kinds none none e i = refl
 same_kinds none (more r rs) e i = cc

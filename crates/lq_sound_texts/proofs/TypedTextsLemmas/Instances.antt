@@ -36,6 +36,10 @@ or_left : (a b : Bool) → a ≡ true → (a || b) ≡ true
 or_left true b h = refl
 or_left false b h = cc
 
+append_in : (names xs ys : List Symbol) → AreIn names xs → AreIn names ys → AreIn names (xs ++ ys)
+append_in names [] ys a b = b
+append_in names (x ∷ xs) ys a b = (a.0, append_in names xs ys a.1 b)
+
 -- the symbols of a scope are among those of which its instances may speak
 shown_in : (names : List Symbol) (Γ : Scope) → ((x : Symbol) → is_in (map (λ e. e.0) Γ) x ≡ true → is_in names x ≡ true) → (s : Shape)
     → AreIn names (symbols_of Γ s)

@@ -26,6 +26,32 @@ use Rattle.lq_text_front.specs.Bytes.Views.{IsBy, IsOf, IsRefusalOf}
 use Rattle.lq_text_front.specs.declared.bytes.error.Refusing.{Refusing}
 use Rattle.lq_text_front.specs.declared.bytes.error.Refusing.TheVariants as refusing
 
+-- a text with a first fault is refused for it
+pub fault_due : (kind : TextKind) (text : List ℕ) (e : LexError) (n : Refusing) → (e ≡ lexing.Memory) ⊎ HasFault kind text e
+    → IsOf (fault_refusal e) n → IsBy (IsLexed kind text) n
+fault_due kind text e refusing.Memory why is = tt
+fault_due kind text e (refusing.Refused r) (inr fault) is = (e, fault, is)
+fault_due kind text e (refusing.Refused r) (inl memory) is = absurd (let wrong : None ≡ Some r = ap fault_refusal (sym memory) ∙ is in cc)
+
+-- why an error of parsing comes
+pub record WhyStop (kind : TextKind) (text : List ℕ) (tokens : List Token) (end_ : Place) (e : ParseError) : Type 0 where
+  pub are_tokens : IsTokens kind text tokens
+  pub last : end_ ≡ place_at kind text (length text)
+  pub syntax : (p : Place) → e ≡ parsing.Syntax p → IsSyntax kind text tokens end_ p
+  pub deep : (p : Place) → e ≡ parsing.TooDeep p → IsTooDeep kind text tokens end_ p
+
+-- tokens that are no text are refused where they stop
+pub stop_due : {T : Type 0} (value_of : T → Value) (known : List (List ℕ)) (kind : TextKind) (text : List ℕ) (tokens : List Token) (end_ : Place)
+    (e : ParseError) (n : Refusing) → WhyStop kind text tokens end_ e → IsOf (stop_refusal e) n → IsBy (ReadsTo kind value_of known text) n
+stop_due {T} value_of known kind text tokens end_ e refusing.Memory why is = tt
+stop_due {T} value_of known kind text tokens end_ (parsing.Syntax p) (refusing.Refused r) why is =
+    let stop = subst (λ (q : Place). IsSyntax kind text tokens q p) why.last (why.syntax p refl) in
+    inr (tokens, why.are_tokens, (parsing.Syntax p, stop, is))
+stop_due {T} value_of known kind text tokens end_ (parsing.TooDeep p) (refusing.Refused r) why is =
+    let deep = subst (λ (q : Place). IsTooDeep kind text tokens q p) why.last (why.deep p refl) in
+    inr (tokens, why.are_tokens, (parsing.TooDeep p, deep, is))
+stop_due {T} value_of known kind text tokens end_ parsing.Memory (refusing.Refused r) why is = absurd (let wrong : None ≡ Some r = is in cc)
+
 -- what an earlier stage refuses is refused
 pub still_by : {A B C : Type 0} (R : A → Result B Refused → Type 0) (S : B → Result C Refused → Type 0) (a : A) (n : Refusing) → IsBy (R a) n
     → IsBy (Then R S a) n

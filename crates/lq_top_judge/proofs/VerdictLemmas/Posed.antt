@@ -198,6 +198,20 @@ within is at k here =
     let same = length-map (implications_of is) constraint_of in
     omega (arith, inside, same)
 
+pub failing_within : (is : Implications) (A : Assignment) (at : ℕ) → IsFirstFailing A (constraints_of is) at → at < length (implications_of is)
+failing_within is A at first = within is at first.constraint first.is
+
+pub stop_within : (is : Implications) (I : Instances) (limit at : ℕ) (stop : Stop) → StopsSolving limit I (constraints_of is) (At at stop)
+    → at < length (implications_of is)
+stop_within is I limit at (Number e) stops = within is at stops.1.constraint stops.1.here
+stop_within is I limit at (Pivots n) stops = within is at stops.1.constraint stops.1.here
+stop_within is I limit at (Gather p) stops = within is at stops.constraint stops.here
+stop_within is I limit at MemoryStop stops = absurd stops
+
+pub stop_has_cause : (is : Implications) (I : Instances) (limit at : ℕ) (stop : Stop) → StopsSolving limit I (constraints_of is) (At at stop)
+    → stop ≡ MemoryStop → ⊥
+stop_has_cause is I limit at stop stops e = subst (λ (s : Stop). StopsSolving limit I (constraints_of is) (At at s)) e stops
+
 -- ---- what solving gives
 
 pub if_ok : {X E : Type 0} (P Q : X → Type 0) (r : Result X E) → ((x : X) → P x → Q x) → IfOk r P → IfOk r Q
@@ -208,3 +222,9 @@ pub solution_is : (limit : ℕ) (I : Instances) (cs : List Constraint) (r : Resu
     → IfErr r (StopsSolving limit I cs) → IsSolution limit I cs r
 solution_is limit I cs (Ok s) solved gathered stop = (gathered, solved)
 solution_is limit I cs (Err e) solved gathered stop = stop
+
+-- the binders are few
+pub few_sources : (m : PosedTexts) → IsPosed m → length (program_of m.texts.noted.program.annotated).sources ≤ 2 ^ 31
+few_sources m is =
+    let scoped = scoped_text is.bytes is.typed is.poses in
+    subst (λ (s : Scoping). length s.sources ≤ 2 ^ 31) (sym is.view.program) scoped.few_binders

@@ -27,6 +27,9 @@ use Rattle.lq_types_infer.proofs.AnnotationLemmas.Renamed.{renamed_table}
 
 module _ (s : Scoping) (all : List MlType) (rows : List ℕ) where
   module _ (slots : ℕ) (types : ℕ → MlType) (count : slots ≡ slot_count s) (h : AreTypesOf all rows slots types) where
+    pub rows_of_table : AreRows all rows (slot_count s)
+    rows_of_table = record { long = h.long ∙ count; inside = h.inside }
+
     pub seen_in_table : (equations : System) → IsSolved s equations types → IsSeen s (slot_types all rows)
     seen_in_table equations solved = record {
       equations = equations;

@@ -75,6 +75,13 @@ module _ (f : ℕ → ℕ) where
   regroup : (b x rest : ℕ) → max (max b x) rest ≡ max b (max x rest)
   regroup b x rest = omega arith
 
+  pub largest_next : (xs : List ℕ) (i bound new goal : ℕ) → i < length xs → max bound (largest f (drop i xs)) ≡ goal
+      → new ≡ max bound (f (get_or xs i 0)) → max new (largest f (drop (suc i) xs)) ≡ goal
+  largest_next xs i bound new goal low h is =
+      let e : largest f (drop i xs) ≡ max (f (get_or xs i 0)) (largest f (drop (suc i) xs)) = ap (largest f) (drop-cons xs i 0 low) in
+      let rest = largest f (drop (suc i) xs) in
+      ap (λ (n : ℕ). max n rest) is ∙ regroup bound (f (get_or xs i 0)) rest ∙ ap (λ (n : ℕ). max bound n) (sym e) ∙ h
+
   largest_same : (h : ℕ → ℕ) (P : ℕ → Type 0) → ((p : ℕ) → P p → f p ≡ h p) → (ps : List ℕ) → AllOf P ps → largest f ps ≡ largest h ps
   largest_same h P same [] all = refl
   largest_same h P same (p ∷ ps) all = ap₂ (λ (m : ℕ) (n : ℕ). max m n) (same p all.0) (largest_same h P same ps all.1)
@@ -92,3 +99,6 @@ bounds_next all i bounds parts bound low are over_it earlier is =
     let own : bound ≡ bound_of (at all i) =
     is ∙ ap (λ (n : ℕ). max (own_bound (at all i)) n) same ∙ sym (bound_over all i parts over_it) in
     ap₂ (λ (xs : List ℕ) (n : ℕ). xs ++ n ∷ []) are own ∙ taken_more bound_of 0 all i low ∙ ap (λ (j : ℕ). map bound_of (take j all)) (one_more i)
+
+pub bounds_end : (bound rest whole : ℕ) → rest ≡ 0 → max bound rest ≡ whole → bound ≡ whole
+bounds_end bound rest whole none h = omega (arith, none, h)

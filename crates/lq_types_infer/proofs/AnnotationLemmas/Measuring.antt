@@ -93,11 +93,29 @@ stopped f k limit (p ∷ ps) =
 -- ---- loops over parts
 
 module _ (f : ℕ → ℕ) where
+  both_stop : (k a rest limit : ℕ) → min (min (k + a) limit + rest) limit ≡ min (k + (a + rest)) limit
+  both_stop k a rest limit = omega arith
+
+  pub total_next : (xs : List ℕ) (i size new goal limit : ℕ) → i < length xs → min (size + total f (drop i xs)) limit ≡ goal
+      → new ≡ min (size + f (get_or xs i 0)) limit → min (new + total f (drop (suc i) xs)) limit ≡ goal
+  total_next xs i size new goal limit low h is =
+      let e : total f (drop i xs) ≡ f (get_or xs i 0) + total f (drop (suc i) xs) = ap (total f) (drop-cons xs i 0 low) in
+      let rest = total f (drop (suc i) xs) in
+      let x = f (get_or xs i 0) in
+      ap (λ (n : ℕ). min (n + rest) limit) is ∙ both_stop size x rest limit ∙ ap (λ (n : ℕ). min (size + n) limit) (sym e) ∙ h
+
   total_same : (h : ℕ → ℕ) (P : ℕ → Type 0) → ((p : ℕ) → P p → f p ≡ h p) → (ps : List ℕ) → AllOf P ps → total f ps ≡ total h ps
   total_same h P same [] all = refl
   total_same h P same (p ∷ ps) all = ap₂ (λ (m : ℕ) (n : ℕ). m + n) (same p all.0) (total_same h P same ps all.1)
 
 module _ (f : ℕ → Bool) where
+  pub any_next : (xs : List ℕ) (i : ℕ) (goal : Bool) → i < length xs → list_any f (drop i xs) ≡ goal → f (get_or xs i 0) ≡ false
+      → list_any f (drop (suc i) xs) ≡ goal
+  any_next xs i goal low h is = ap (λ (b : Bool). b || list_any f (drop (suc i) xs)) (sym is) ∙ ap (list_any f) (sym (drop-cons xs i 0 low)) ∙ h
+
+  pub any_here : (xs : List ℕ) (i : ℕ) (goal : Bool) → i < length xs → list_any f (drop i xs) ≡ goal → f (get_or xs i 0) ≡ true → true ≡ goal
+  any_here xs i goal low h is = ap (λ (b : Bool). b || list_any f (drop (suc i) xs)) (sym is) ∙ ap (list_any f) (sym (drop-cons xs i 0 low)) ∙ h
+
   any_same : (h : ℕ → Bool) (P : ℕ → Type 0) → ((p : ℕ) → P p → f p ≡ h p) → (ps : List ℕ) → AllOf P ps → list_any f ps ≡ list_any h ps
   any_same h P same [] all = refl
   any_same h P same (p ∷ ps) all = ap₂ (λ (m : Bool) (n : Bool). m || n) (same p all.0) (any_same h P same ps all.1)

@@ -71,6 +71,16 @@ module _ (types : ℕ → MlType) where
       one_part head.Map (λ p. record { variables = sym (append-nil (variables_of (types p))); all_of = λ P e. e.0 }) parts (right 1 refl)
   made_over (head.Named d) parts right = record { variables = refl; all_of = λ P e. e }
 
+  not_variable : (h : TypeHead) (ts : MlTypes) → variable_in (made h ts) ≡ None
+  not_variable head.Int ts = refl
+  not_variable head.Bool ts = refl
+  not_variable head.Unit ts = refl
+  not_variable head.Arrow ts = refl
+  not_variable head.Tuple ts = refl
+  not_variable head.Array ts = refl
+  not_variable head.Map ts = refl
+  not_variable (head.Named d) ts = refl
+
   each_part : (P : ℕ → Type 0) (parts : List ℕ) → AllOf (λ p. Each P (types p)) parts → EachIn P (each types parts)
   each_part P [] h = tt
   each_part P (p ∷ ps) h = (h.0, each_part P ps h.1)
@@ -159,6 +169,10 @@ mutual
       both_empty (variables_of t) (variables_in ts) (closed_none t both.0) (closed_nones ts both.1)
 
 -- ---- numbers
+
+pub with_append : (n : Numbers) (xs ys : List ℕ) → with_numbers n (xs ++ ys) ≡ with_numbers (with_numbers n xs) ys
+with_append n [] ys = refl
+with_append n (x ∷ xs) ys = with_append (with_number n x) xs ys
 
 pub variables_append : (types : ℕ → MlType) (xs ys : List ℕ) → variables_at types (xs ++ ys) ≡ variables_at types xs ++ variables_at types ys
 variables_append types [] ys = refl

@@ -82,6 +82,12 @@ module _ (nodes n : ℕ) where
 
 -- ---- sizes
 
+pub map_at : {A : Type 0} (h : MlType → A) (d : A) (all : List MlType) (r : ℕ) → r < length (map h all)
+    → slice_index_or (map h all) r d ≡ h (at all r)
+map_at h d [] r low = absurd (omega (arith, low))
+map_at h d (a ∷ as_) zero low = refl
+map_at h d (a ∷ as_) (suc r) low = map_at h d as_ r (omega (arith, low))
+
 past_one : (types : ℕ → MlType) (ns ms : List (ℕ × Place)) (x : Place × ℕ) (b : Bool)
     → (first_past types ns ≡ None → first_past types (ns ++ ms) ≡ first_past types ms)
     → (if b then Some x else first_past types ns) ≡ None → (if b then Some x else first_past types (ns ++ ms)) ≡ first_past types ms
@@ -91,6 +97,29 @@ past_one types ns ms x false rest h = rest h
 pub past_none : (types : ℕ → MlType) (ns ms : List (ℕ × Place)) → first_past types ns ≡ None → first_past types (ns ++ ms) ≡ first_past types ms
 past_none types [] ms h = refl
 past_none types (n ∷ ns) ms h = past_one types ns ms (n.1, counted (types n.0)) (nat_lt 2000 (size_of (types n.0))) (past_none types ns ms) h
+
+past_first : (types : ℕ → MlType) (ns ms : List (ℕ × Place)) (x y : Place × ℕ) (b : Bool)
+    → (first_past types ns ≡ Some y → first_past types (ns ++ ms) ≡ Some y)
+    → (if b then Some x else first_past types ns) ≡ Some y → (if b then Some x else first_past types (ns ++ ms)) ≡ Some y
+past_first types ns ms x y true rest h = h
+past_first types ns ms x y false rest h = rest h
+
+pub past_some : (types : ℕ → MlType) (ns ms : List (ℕ × Place)) (y : Place × ℕ) → first_past types ns ≡ Some y → first_past types (ns ++ ms) ≡ Some y
+past_some types [] ms y h = absurd (none-some y h)
+past_some types (n ∷ ns) ms y h = past_first types ns ms (n.1, counted (types n.0)) y (nat_lt 2000 (size_of (types n.0))) (past_some types ns ms y) h
+
+module _ (all : List MlType) (rows : List ℕ) (slot : ℕ) (place : Place) (size : ℕ) (is : size ≡ counted (slot_types all rows slot)) where
+  pub large_is : 2000 < size → Some (place, size) ≡ first_past (slot_types all rows) ((slot, place) ∷ [])
+  large_is big =
+      let a = slot_types all rows slot in
+      let more_of : 2000 < size_of a = omega (arith, is, big) in
+      ap (λ (m : ℕ). Some (place, m)) is ∙ sym (ap (λ (b : Bool). if b then Some (place, counted a) else None) (lt-ltb 2000 (size_of a) more_of))
+
+  pub small_is : size ≤ 2000 → None ≡ first_past (slot_types all rows) ((slot, place) ∷ [])
+  small_is small =
+      let a = slot_types all rows slot in
+      let fewer : size_of a ≤ 2000 = omega (arith, is, small) in
+      sym (ap (λ (b : Bool). if b then Some (place, counted a) else None) (le-ltb 2000 (size_of a) fewer))
 
 -- what is left of a walk has what is looked for, and is in range
 pub record LargeLeft (nodes n : ℕ) (types : ℕ → MlType) (all rest : List Visit) : Type 0 where
@@ -111,6 +140,10 @@ module _ (nodes n : ℕ) (types : ℕ → MlType) (all rest : List Visit) (v : V
     same = sym (past_none types (placed_at v) (placed_in vs) none) ∙ sym (ap (λ (us : List Visit). first_past types (placed_in us)) e) ∙ h.same;
     ranges = in_left.1;
   }
+
+  pub large_here : (y : Place × ℕ) → first_past types (placed_at v) ≡ Some y → Some y ≡ first_past types (placed_in all)
+  large_here y is = sym (past_some types (placed_at v) (placed_in vs) y is) ∙ sym
+      (ap (λ (us : List Visit). first_past types (placed_in us)) e) ∙ h.same
 
 pub large_start : (nodes n : ℕ) (types : ℕ → MlType) (all rest : List Visit) → rest ≡ all → All (VisitIn nodes n) all → LargeLeft nodes n types all rest
 large_start nodes n types all rest e ranges = record {

@@ -234,6 +234,9 @@ module _ (old new : System) (fixed : List ℕ) (definition node : ℕ) (sound : 
   -- ---- the type of the use is one that the definition could have
 
   module _ (types : ℕ → MlType) (h : Solves new new.equations.items types) where
+    abbrev old_solves : Solves old old.equations.items types
+    old_solves = keeps types h
+
     -- the types of the classes before the copy
     abbrev st : ℕ → Simple
     st = now types (keeps types h)

@@ -63,6 +63,15 @@ module _ (p : Program) (n : ℕ) (left : List Visit) (s : Equations) (ready : Is
       subst (λ vs. IsComplete g p.nodes p.slots vs s.system × IsSound g p.nodes vs s.system) (sym done_is)
       (say g p.nodes p.slots i.done i.first s.system i.fresh (ready.apart.0, owned_front p.nodes p.slots ready.apart.0 0 none_known i.done left owned) (i.steps g h))
 
+  -- a visit is left where fewer came than there are
+  pub front_left : n < length (visits_in p) → left ≡ [] → ⊥
+  front_left l e =
+      let x = i.count in
+      let y = ap length i.all_is in
+      let z = length-append i.done left in
+      let w : length left ≡ 0 = ap length e in
+      omega arith
+
   pub front_solved : (limit : ℕ) → n ≡ limit → (d : Inferred) → d.system ≡ s.system → IsPrincipal d.system (types_in d.system d.solution) → HasOrder d.system.arena d.solution → IsFrontSolved p limit d
   front_solved limit e d same principal ordered = record {
     system = subst IsSystem (sym same) i.kept.system;

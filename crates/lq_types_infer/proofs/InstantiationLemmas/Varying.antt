@@ -36,3 +36,12 @@ open_by_parts all i opens parts less are over_it earlier none =
     any_same (λ p. slice_index_or opens p false) (λ p. is_open (at all p)) i
     (λ p low. ap (λ (bs : List Bool). slice_index_or bs p false) are ∙ read_before all i p low less) parts earlier
     ∙ sym (any_map (at all) parts) ∙ sym (ap (list_any is_open) (parts_are all i parts over_it)) ∙ sym (open_parts (at all i) none)
+
+pub open_variable : (a : MlType) (v : ℕ) → variable_in a ≡ Some v → is_open a ≡ true
+open_variable a v h = ap is_open (variable_is a v h)
+
+pub opens_more : (all : List MlType) (i : ℕ) (opens : List Bool) (b : Bool) → i < length all → opens ≡ map is_open (take i all)
+    → b ≡ is_open (at all i) → opens ++ b ∷ [] ≡ map is_open (take (i + 1) all)
+opens_more all i opens b less are is =
+    ap₂ (λ (bs : List Bool) (c : Bool). bs ++ c ∷ []) are is ∙ sym (map-append is_open (take i all) (at all i ∷ []))
+    ∙ ap (map is_open) (sym (take_more all i ml.unit less))

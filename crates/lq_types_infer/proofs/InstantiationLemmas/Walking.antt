@@ -116,11 +116,22 @@ met_more all by stamps found others turn goes met d low is =
 module _ (all : List MlType) (by : ℕ → MlType) (stamps found : List ℕ) (turn d : ℕ)
     (met : (e : ℕ) → e < length stamps → slice_index_or stamps e 0 ≡ turn → Each (IsNoted all by found) (at all e))
     (done : Each (IsNoted all by found) (at all d)) where
+  stamped_by : (e : ℕ) → (e ≡ d) ⊎ (e ≡ d → ⊥) → e < length stamps → slice_index_or (set stamps d turn) e 0 ≡ turn
+      → Each (IsNoted all by found) (at all e)
+  stamped_by e (inl same) low is = subst (λ (k : ℕ). Each (IsNoted all by found) (at all k)) (sym same) done
+  stamped_by e (inr other) low is = met e low (sym (get_or-set_other stamps d e turn 0 other) ∙ is)
+
+  pub met_stamped : (e : ℕ) → e < length (set stamps d turn) → slice_index_or (set stamps d turn) e 0 ≡ turn
+      → Each (IsNoted all by found) (at all e)
+  met_stamped e low is = stamped_by e (cases_eq e d) (omega (arith, low, length-set stamps d turn)) is
 
 -- in a new turn nothing is met
 pub none_met : (all : List MlType) (by : ℕ → MlType) (stamps found : List ℕ) (old turn : ℕ) → All (λ s. s ≤ old) stamps → turn ≡ old + 1
     → (d : ℕ) → d < length stamps → slice_index_or stamps d 0 ≡ turn → Each (IsNoted all by found) (at all d)
 none_met all by stamps found old turn past is d low e = absurd (let p : get_or stamps d 0 ≤ old = past d 0 low in omega (arith, p, is, e))
+
+pub past_more : (stamps : List ℕ) (old turn : ℕ) → All (λ s. s ≤ old) stamps → turn ≡ old + 1 → All (λ s. s ≤ turn) stamps
+past_more stamps old turn past is k d low = let p : get_or stamps k d ≤ old = past k d low in omega (arith, p, is)
 
 pub closed_at : (all : List MlType) (opens : List Bool) (d : ℕ) → opens ≡ map is_open all → d < length all
     → slice_index_or opens d false ≡ false → is_open (at all d) ≡ false
@@ -154,6 +165,9 @@ module _ (all : List MlType) (by : ℕ → MlType) (old mid new : Matching) (d :
     walked.stays,
     each_from_parts (IsNoted all by new.found.items) all d ps over_d none (λ k low. walked.noted k (omega (arith, low, far))),
   )
+
+pub parts_begun : (all : List MlType) (by : ℕ → MlType) (m : Matching) (ps : List ℕ) → AreMet all by m → PartsWalked all by m m ps 0
+parts_begun all by m ps met = record { stays = record { met = met; kept = λ v h. h }; noted = λ k low. absurd (omega (arith, low)) }
 
 -- ---- what is found
 

@@ -41,6 +41,19 @@ pub type_root : (s : System) (found : Solution) (x y : ℕ) → root found.paren
     → types_in s found x ≡ types_in s found y
 type_root s found x y e = ap read (value_root (length found.order.items + 1) (form_at s.arena) found.parents.items found.shapes.items x y e)
 
+value_open : (n : ℕ) (forms : ℕ → Option Form) (ps shapes : List ℕ) (c : ℕ) → root ps c ≡ c → forms (up shapes c) ≡ None
+    → value (suc n) forms ps shapes c ≡ simple.variable c
+value_open n forms ps shapes c e none =
+    ap (λ r. built (value n forms ps shapes) r (forms (up shapes r))) e ∙ ap (built (value n forms ps shapes) c) none
+
+-- a class without a form is a variable
+open_type : (s : System) (found : Solution) (c : ℕ) → up found.parents.items c ≡ c → form_at s.arena (up found.shapes.items c) ≡ None
+    → types_in s found c ≡ ml.var c
+open_type s found c r none =
+    ap (λ n. read (value n (form_at s.arena) found.parents.items found.shapes.items c)) (add-one (length found.order.items))
+    ∙ ap read (value_open (length found.order.items) (form_at s.arena) found.parents.items found.shapes.items c
+    (root_self found.parents.items c r) none)
+
 -- a class with a form has a type of this form
 made_type : (s : System) (found : Solution) (c : ℕ) (f : Form) → IsSettled s found → up found.parents.items c ≡ c
     → form_at s.arena (up found.shapes.items c) ≡ Some f
@@ -88,6 +101,15 @@ made_read s found class i x h first count whole t l r se xe xm we =
     (made_at s found class h first count (take count (drop first s.arena.parts.items)) t r
     (fits_read s.arena t.system.arena i x h first count n xe xm)
     (ap (form_at s.arena) (sym kept) ∙ form_read s.arena i x h first count n xe xm))
+
+pub open_read : (s : System) (found : Solution) (class i : ℕ) (x : Node) → IsSettled s found → class < count_of s
+    → up found.parents.items class ≡ class
+    → i ≡ get_or found.shapes.items class i → x ≡ get_or s.arena.nodes.items i x → x ≡ Open → types_in s found class ≡ ml.var class
+open_read s found class i x t l r se xe xm =
+    let n = shape_in s found class i t l se in
+    open_type s found class r
+    (ap (form_at s.arena) (sym (shape_read s found class i t l se))
+    ∙ ap (form_of s.arena.parts.items) (sym (get_or_read s.arena.nodes.items i x n xe Open) ∙ xm))
 
 -- ---- the numbers of the parts
 

@@ -16,4 +16,5 @@ use_view plain u = record { node = u.node; binder = u.binder; before = first_of 
 -- the tables have what is known
 pub record HasKnown (d : Definitions) (k : Known) : Type 0 where
   pub plain_is : k.plain ≡ reverse d.plain.items
+  pub general_is : (x : ℕ) → before_in k.general x ≡ option_map (first_of d.plain.items) (slice_index_or d.general.items x None)
   pub low : (x n : ℕ) → slice_index_or d.general.items x None ≡ Some n → n ≤ length d.plain.items

@@ -14,3 +14,4 @@ place_in u = (u.node, u.binder)
 
 -- the table has what is known
 pub record HasGeneral (d : Generalised) (k : Known) : Type 0 where
+  pub general_is : (x : ℕ) → slice_index_or d.binders.items x false ≡ is_some (before_in k.general x)
