@@ -1,5 +1,5 @@
 // Deciding a case.
-ghost use Rattle.std.specs.Prelude.{◌≡◌, All, IfErr, IfOk, IsTrue, length};
+ghost use Rattle.std.specs.Prelude.{◌≡◌, [], All, IfErr, IfOk, IsTrue, length};
 ghost use Rattle.lq_prover_case.specs.State.RowState.{terms_of as row_terms};
 ghost use Rattle.lq_prover_proof_tree.specs.Trees.Proves.{Proves};
 ghost use Rattle.lq_prover_proof_tree.specs.Trees.TreeView.{tree_view};
@@ -7,7 +7,8 @@ ghost use Rattle.lq_prover_decide.specs.Answer.{HasNoPoint, IfHas, IfNoPoint};
 ghost use Rattle.lq_prover_decide.specs.Case.{numbering_of, path_of};
 ghost use Rattle.lq_prover_decide.specs.CaseView.{case_of};
 ghost use Rattle.lq_prover_decide.specs.Deciding.{Fits, HoldsCase, IsChainOfEquals, PairsAreDecided};
-ghost use Rattle.lq_prover_case.specs.Equations.Naming.{HasAllArguments, objects_of};
+ghost use Rattle.lq_prover_case.specs.Equations.Naming.{AllBelow, HasAllArguments, HasAllSides, name_in, objects_of};
+ghost use Rattle.lq_prover_case.specs.State.PathState.{HasHanded, facts_in};
 ghost use Rattle.lq_prover_decide.specs.Settled.{IsSettled};
 ghost use Rattle.lq_prover_decide.specs.Small.{IsNoNumber, IsSmallCase};
 ghost use Rattle.lq_prover_decide.specs.Stopping.{HandsItsRows, IsStopOf, StopsDeciding};
@@ -78,6 +79,43 @@ fn case_point(
     }
 }
 
+/// What a case comes to by a state that has taken nothing yet.
+fn decide_by(
+    alloc: Global,
+    literals: &Literals,
+    objects: &ObjectTable,
+    state: &mut PathState,
+    limit: u64,
+) -> Result<CaseAnswer, Stop>
+    requires gathers { All CanGather (implication_literals (case_of literals.now).implication) }
+    requires fits { Fits (case_of literals.now) }
+    requires pairs { PairsAreDecided (case_of literals.now) }
+    requires empty { facts_in (name_in (objects_of objects.now)) state.old ≡ [] }
+    requires handed { HasHanded state.old [] }
+    requires sides { HasAllSides (objects_of objects.now) (case_of literals.now).facts }
+    requires arguments { HasAllArguments (objects_of objects.now) (case_of literals.now).terms }
+    requires below { AllBelow (row_terms state.old.rows) (case_of literals.now).facts }
+    requires count { state.old.objects.count ≡ length (objects_of objects.now) }
+    requires terms { row_terms state.old.rows ≡ length (case_of literals.now).terms }
+    requires limit { state.old.rows.pivots ≡ limit }
+    ensures point { IfOk result (λ answer. IfHas answer (λ p. IsPoint (case_of literals.now).implication
+        (as_point p))) }
+    ensures case { IfOk result (λ answer. IfHas answer (HoldsCase (case_of literals.now))) }
+    ensures tree { IfOk result (λ answer. IfNoPoint answer (λ t. Proves (numbering_of (case_of literals.now))
+        (path_of (case_of literals.now)) (tree_view t))) }
+    ensures form { IfOk result (λ answer. IfNoPoint answer (λ t. IsChainOfEquals (tree_view t))) }
+    ensures none { IfOk result (λ answer. IfNoPoint answer (λ _. HasNoPoint (case_of literals.now))) }
+    ensures stop { IfErr result (StopsDeciding limit (case_of literals.now)) }
+{
+    proved_cases_have_no_point();
+    let _terms = literals.table().len();
+    match refute(alloc, literals, objects, state) {
+        Ok(Some(tree)) => Ok(CaseAnswer::NoPoint(tree)),
+        Ok(None) => Ok(CaseAnswer::Has(case_point(alloc, literals, objects, state, limit)?)),
+        Err(stop) => Err(stop_of(stop)),
+    }
+}
+
 /// The same as `decide`, of any sizes.
 fn decide_case(alloc: Global, literals: &Literals, limit: u64) -> Result<CaseAnswer, Stop>
     requires gathers { All CanGather (implication_literals (case_of literals.now).implication) }
@@ -92,7 +130,6 @@ fn decide_case(alloc: Global, literals: &Literals, limit: u64) -> Result<CaseAns
     ensures none { IfOk result (λ answer. IfNoPoint answer (λ _. HasNoPoint (case_of literals.now))) }
     ensures stop { IfErr result (StopsDeciding limit (case_of literals.now)) }
 {
-    proved_cases_have_no_point();
     let table = literals.table();
     let Ok(objects) = case_objects(alloc, literals.facts().as_slice(), table) else {
         return Err(Stop::Memory);
@@ -103,14 +140,7 @@ fn decide_case(alloc: Global, literals: &Literals, limit: u64) -> Result<CaseAns
     let Ok(mut state) = PathState::new(alloc, table.len(), limit, count) else {
         return Err(Stop::Memory);
     };
-    match refute(alloc, literals, &objects, &mut state) {
-        Ok(Some(tree)) => Ok(CaseAnswer::NoPoint(tree)),
-        Ok(None) => match case_point(alloc, literals, &objects, &state, limit) {
-            Ok(point) => Ok(CaseAnswer::Has(point)),
-            Err(stop) => Err(stop),
-        },
-        Err(stop) => Err(stop_of(stop)),
-    }
+    decide_by(alloc, literals, &objects, &mut state, limit)
 }
 
 /// Whether a case has a point: with one at which each literal holds, or with a tree that proves the path of the literals. Lengths and

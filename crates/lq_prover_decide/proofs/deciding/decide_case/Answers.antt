@@ -16,47 +16,23 @@ use Rattle.lq_prover_proof_tree.specs.Literals.Parts.{is_application}
 use Rattle.lq_logic_predicates.specs.Table.{all_differ}
 use Rattle.lq_prover_decide.proofs.deciding.decide_case.Goals as goal
 
-numbering_is : (c : Case) → Fits c → numbering_by c.terms ≡ numbering_of c
-numbering_is c f = ap (λ ts. record { terms = c.terms; applications = filter is_application ts }) f.complete
+pub decide_by-requires-clause-empty : goal.decide_by-requires-clause-empty
+decide_by-requires-clause-empty c = c.in-Ok-new.ensures.facts (name_in (objects_of c.in-Ok.objects))
 
-pub refute-requires-clause-empty : goal.refute-requires-clause-empty
-refute-requires-clause-empty c = c.in-Ok-new.ensures.facts (name_in (objects_of c.in-Ok.objects))
+pub decide_by-requires-clause-sides : goal.decide_by-requires-clause-sides
+decide_by-requires-clause-sides c = subst (HasAllSides (objects_of c.in-Ok.objects)) (ap (map fact_of) c.as_slice.ensures ∙ c.facts.ensures) c.in-Ok.ensures.sides
 
-pub refute-requires-clause-sides : goal.refute-requires-clause-sides
-refute-requires-clause-sides c = subst (HasAllSides (objects_of c.in-Ok.objects)) (ap (map fact_of) c.as_slice.ensures ∙ c.facts.ensures) c.in-Ok.ensures.sides
+pub decide_by-requires-clause-arguments : goal.decide_by-requires-clause-arguments
+decide_by-requires-clause-arguments c = subst (HasAllArguments (objects_of c.in-Ok.objects)) c.table-table.ensures c.in-Ok.ensures.arguments
 
-pub refute-requires-clause-arguments : goal.refute-requires-clause-arguments
-refute-requires-clause-arguments c = subst (HasAllArguments (objects_of c.in-Ok.objects)) c.table-table.ensures c.in-Ok.ensures.arguments
-
-pub refute-requires-clause-below : goal.refute-requires-clause-below
-refute-requires-clause-below c =
+pub decide_by-requires-clause-below : goal.decide_by-requires-clause-below
+decide_by-requires-clause-below c =
     let case = case_of c.args.literals.now in
     let n = c.in-Ok-new.ensures.limits.0 ∙ c.len-2.ensures.count ∙ ap length c.table-table.ensures in
     subst (λ k. AllBelow k case.facts) (sym n) (all_below (length case.terms) case.facts c.requires.fits.below)
 
-pub returns-in-Ok-Some-clause-tree : goal.returns-in-Ok-Some-clause-tree
-returns-in-Ok-Some-clause-tree c =
-    let case = case_of c.args.literals.now in
-    let tree = rw c.in-Ok-Some.field-0-is at c.in-Ok-Some.ensures.tree in
-    subst (λ n. Proves n (path_of case) (tree_view c.in-Ok-Some.tree)) (numbering_is case c.requires.fits) tree
+pub decide_by-requires-clause-terms : goal.decide_by-requires-clause-terms
+decide_by-requires-clause-terms c = c.in-Ok-new.ensures.limits.0 ∙ c.len-2.ensures.count ∙ ap length c.table-table.ensures
 
-pub returns-in-Ok-Some-clause-none : goal.returns-in-Ok-Some-clause-none
-returns-in-Ok-Some-clause-none c = λ v p agrees point hold.
-    let case = case_of c.args.literals.now in
-    let distinct = ap all_differ (sym c.table-table.ensures) ∙ c.len-2.ensures.distinct in
-    let tree = rw c.in-Ok-Some.field-0-is at c.in-Ok-Some.ensures.tree in
-    c.proved_cases_have_no_point.ensures case (tree_view c.in-Ok-Some.tree) v p distinct agrees point hold
-    (subst (λ n. Proves n (path_of case) (tree_view c.in-Ok-Some.tree)) (numbering_is case c.requires.fits) tree)
-
-pub returns-clause-stop : goal.returns-clause-stop
-returns-clause-stop c =
-    let case = case_of c.args.literals.now in
-    let pivots = second c.in-Ok-new.ensures.limits in
-    let items = c.args.literals.now.facts.items in
-    let few : length case.facts < 2 ^ 63 =
-    (let n = length-map items.items fact_of in let v = items.ok in let w = items.small in omega (arith, n, v, w)) in
-    stops c.args.limit case c.in-Err.stop c.stop_of.result few (subst (λ n. StopsOnRows n case c.in-Err.stop) pivots c.in-Err.ensures.stop) c.stop_of.ensures
-
-pub case_point-requires-clause-terms : goal.case_point-requires-clause-terms
-case_point-requires-clause-terms c =
-    c.in-Ok-None.ensures.terms ∙ c.in-Ok-new.ensures.limits.0 ∙ c.len-2.ensures.count ∙ ap length c.table-table.ensures
+pub decide_by-requires-clause-limit : goal.decide_by-requires-clause-limit
+decide_by-requires-clause-limit c = second c.in-Ok-new.ensures.limits
