@@ -1,6 +1,8 @@
 // Goals are asked one after another of hypotheses that stand.
 ghost use Rattle.std.specs.Prelude.{◌≡◌, IfOk, OnOk};
+ghost use Rattle.lq_prover_case.specs.Equations.Naming.{HasAllArguments, Keeps, objects_of};
 ghost use Rattle.lq_prover_proof_tree.specs.Literals.Gathered.{CanBeGathered};
+ghost use Rattle.lq_prover_proof_tree.specs.Literals.Parts.{objects_in};
 ghost use Rattle.lq_logic_predicates.specs.ClosedImplication.{terms_in};
 ghost use Rattle.lq_logic_predicates.specs.NnfView.{nnf_view};
 ghost use Rattle.lq_logic_predicates.specs.PredView.{implication_of};
@@ -12,6 +14,7 @@ ghost use Rattle.lq_prover_search.specs.Search.SearchPath.{AreGiven, scope_of};
 
 use lq_logic_predicates::{Closed, Nnf, TermTable, rows_say_what_comparisons_say};
 use lq_logic_rows::LinearStop;
+use lq_prover_case::equations::ObjectTable;
 use lq_prover_proof_tree::literals::{flags, objects};
 use lq_prover_proof_tree::trees::ProofTree;
 use lq_prover_search::search::{Givens, all_pairs};
@@ -118,6 +121,27 @@ fn ask_each<'a>(
     Ok(Answers { trees, stop: None })
 }
 
+/// Lets hypotheses stand, or tells what comes of them alone.
+fn stand<'a>(
+    alloc: Global,
+    mut standing: Standing<'a>,
+    hypotheses: &'a [Nnf],
+) -> Result<Standing<'a>, Outcome>
+    requires standing { IsStanding standing }
+    requires within { AllWithin (scope_of standing.givens) hypotheses.now }
+    ensures standing { IfOk result IsStanding }
+    ensures givens { IfOk result (λ s. s.givens ≡ standing.entry.givens) }
+{
+    match assume_each(alloc, &mut standing, hypotheses) {
+        Ok(None) => Ok(standing),
+        Ok(Some(clash)) => Err(Outcome::Clash(clash)),
+        Err(stop) => Err(Outcome::Answers(Answers {
+            trees: Vec::new(alloc),
+            stop: Some(stop),
+        })),
+    }
+}
+
 /// What comes of hypotheses and goals by their readings, where it is given what these speak of. A check makes at most `limit` pivots.
 fn outcome_given<'a>(
     alloc: Global,
@@ -130,15 +154,41 @@ fn outcome_given<'a>(
     requires hypotheses { AllWithin (scope_of givens) hypotheses.now }
     requires goals { AllWithin (scope_of givens) goals.now }
 {
-    let mut standing = Standing::new(alloc, givens, limit)?;
-    match assume_each(alloc, &mut standing, hypotheses) {
-        Ok(None) => Ok(Outcome::Answers(ask_each(alloc, standing, goals)?)),
-        Ok(Some(clash)) => Ok(Outcome::Clash(clash)),
-        Err(stop) => Ok(Outcome::Answers(Answers {
-            trees: Vec::new(alloc),
-            stop: Some(stop),
-        })),
+    let standing = Standing::new(alloc, givens, limit)?;
+    match stand(alloc, standing, hypotheses) {
+        Ok(standing) => Ok(Outcome::Answers(ask_each(alloc, standing, goals)?)),
+        Err(outcome) => Ok(outcome),
     }
+}
+
+/// The same, where it is given which objects the readings speak of.
+fn outcome_with(
+    alloc: Global,
+    implication: &Closed,
+    terms: &TermTable,
+    objects: &ObjectTable,
+    hypotheses: &[Nnf],
+    goals: &[Nnf],
+    limit: u64,
+) -> Result<Outcome, AllocError>
+    requires gathers { CanBeGathered (implication_of implication.now) }
+    requires terms { terms_of terms.now ≡ terms_in (implication_of implication.now) }
+    requires arguments { HasAllArguments (objects_of objects.now) (terms_of terms.now) }
+    requires named { Keeps (objects_in (implication_of implication.now)) (objects_of objects.now) }
+    requires hypotheses { SpeakOf (implication_of implication.now) hypotheses.now }
+    requires goals { SpeakOf (implication_of implication.now) goals.now }
+{
+    rows_say_what_comparisons_say();
+    let copied = implication.terms(alloc)?;
+    let pairs = all_pairs(alloc, terms, copied)?;
+    let flags = flags(alloc, implication)?;
+    let givens = Givens {
+        terms,
+        objects,
+        flags: &flags,
+        pairs: &pairs,
+    };
+    outcome_given(alloc, givens, hypotheses, goals, limit)
 }
 
 /// What comes of hypotheses and goals by their readings, which speak of the terms, objects and flags of an implication.
@@ -155,17 +205,15 @@ pub(crate) fn outcome_of(
     requires hypotheses { SpeakOf (implication_of implication.now) hypotheses.now }
     requires goals { SpeakOf (implication_of implication.now) goals.now }
 {
-    rows_say_what_comparisons_say();
-    let copied = implication.terms(alloc)?;
     let named = objects(alloc, implication)?;
     let objects = object_table(alloc, &named, terms)?;
-    let flags = flags(alloc, implication)?;
-    let pairs = all_pairs(alloc, terms, copied)?;
-    let givens = Givens {
+    outcome_with(
+        alloc,
+        implication,
         terms,
-        objects: &objects,
-        flags: &flags,
-        pairs: &pairs,
-    };
-    outcome_given(alloc, givens, hypotheses, goals, limit)
+        &objects,
+        hypotheses,
+        goals,
+        limit,
+    )
 }
